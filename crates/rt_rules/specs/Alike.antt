@@ -1,0 +1,39 @@
+-- Lists of lines that tell the outside the same.
+use Rattle.std.specs.Prelude.{◌≡◌, ℕ, List, ◌++◌, All, Bool, true, false, not, nat_eq}
+use Rattle.rt_terms.specs.declared.variable.Base.{Base}
+use Rattle.rt_terms.specs.declared.variable.Base.TheVariants.{Proc, Global, Exist, Outer}
+use Rattle.rt_terms.specs.declared.variable.Dtv.{Dtv}
+use Rattle.rt_terms.specs.declared.line.Line.{Line}
+use Rattle.rt_terms.specs.declared.line.Line.TheVariants.{Var, Same, Sub, Low, Up}
+use Rattle.rt_terms.specs.declared.line.Judge.{Judge}
+use Rattle.rt_terms.specs.Orders.{Below}
+use Rattle.rt_rules.specs.Rules.{HasSide, Derivable, line_of}
+
+-- no side of the line has an inside base
+abbrev pub IsOutside : (Base → Bool) → Line → Type 0
+IsOutside inside l = (x : Dtv) → HasSide l x → inside x.base ≡ false
+
+-- what the outside can derive from the first list, it can derive from the second
+abbrev pub Covers : Below → (Base → Bool) → List Line → List Line → Type 0
+Covers order inside first second =
+    (added : List Line) (j : Judge) → All (IsOutside inside) added → IsOutside inside (line_of j) →
+    Derivable order (first ++ added) (line_of j) → Derivable order (second ++ added) (line_of j)
+
+-- whatever lines the outside adds, it can derive the same from both lists
+abbrev pub Alike : Below → (Base → Bool) → List Line → List Line → Type 0
+Alike order inside first second = Covers order inside first second × Covers order inside second first
+
+-- inside for procedure p: the existentials, and the procedures other than p
+abbrev pub is_inside_for : ℕ → Base → Bool
+is_inside_for p (Proc n) = not (nat_eq n p)
+is_inside_for p (Global n) = false
+is_inside_for p (Exist n) = true
+is_inside_for p (Outer n) = false
+
+-- a line with each variable replaced
+abbrev pub map_line : (Dtv → Dtv) → Line → Line
+map_line f (Var x) = Var (f x)
+map_line f (Same x y) = Same (f x) (f y)
+map_line f (Sub x y) = Sub (f x) (f y)
+map_line f (Low k x) = Low k (f x)
+map_line f (Up x k) = Up (f x) k

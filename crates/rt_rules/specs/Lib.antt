@@ -1,0 +1,6 @@
+pub mod Rules
+pub mod Alike
+pub mod Put
+pub mod Laws
+pub mod Paper
+pub mod Reduced

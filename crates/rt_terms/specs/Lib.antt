@@ -1,0 +1,4 @@
+pub mod Words
+pub mod Orders
+pub mod Names
+pub mod Lines
