@@ -6,7 +6,7 @@ use rt_base::{Copied, Sequence};
 use std::alloc::AllocError;
 
 /// A line of constraints. A constant is a number, its place in the list of names.
-#[derive(Drop)]
+#[derive(PartialEq, Eq, Hash, Drop)]
 pub enum Line {
     /// The variable exists.
     Var(Dtv),

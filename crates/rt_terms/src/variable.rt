@@ -6,7 +6,7 @@ use rt_base::Copied;
 use std::alloc::AllocError;
 
 /// What a derived variable belongs to.
-#[derive(Clone, Copy, Debug, PartialEq, Eq)]
+#[derive(Clone, Copy, Debug, PartialEq, Eq, Hash)]
 pub enum Base {
     /// A procedure, by its number.
     Proc(u32),
@@ -19,7 +19,7 @@ pub enum Base {
 }
 
 /// A derived variable (PLDI 2016, section 3): a base and a word of labels.
-#[derive(Drop)]
+#[derive(PartialEq, Eq, Hash, Drop)]
 pub struct Dtv {
     /// What the variable belongs to.
     pub base: Base,

@@ -5,6 +5,7 @@ ghost use Rattle.rt_terms.specs.Words.{IsLabel, variance_of_word};
 use crate::label::{Label, Variance};
 use smallvec::SmallVec;
 use std::alloc::{AllocError, Global};
+use std::hash::{Hash, Hasher};
 use std::marker::Model;
 
 /// A word of labels, which contracts see as the list of its letters. Each letter is a label of the
@@ -70,6 +71,44 @@ impl Word {
         ensures err { OnErr result (self.new ≡ self.old) }
     {
         self.letters.extend_from_slice(other.letters.as_slice())
+    }
+}
+
+impl PartialEq for Word {
+    ghost use Rattle.std.specs.Cmp.Lexicographic.{pointwise, lists_per};
+    ghost use Rattle.rt_terms.specs.declared.label.Label.{Label as Letter};
+    ghost use Rattle.rt_terms.specs.contracts.label.LabelPartialEq.TheImpl as label;
+    ghost use Rattle.rt_terms.specs.contracts.label.LabelPartialEq.TheImpl.Laws as label_laws;
+
+    ghost eq = { pointwise {A = Letter} {B = Letter} (label.ghosts).eq };
+
+    ghost laws = { lists_per label_laws.laws-law };
+
+    fn eq(&self, other: &Self) -> bool {
+        self.items() == other.items()
+    }
+}
+
+impl Eq for Word {
+    ghost use Rattle.std.specs.Cmp.Lexicographic.{lists_equiv};
+    ghost use Rattle.rt_terms.specs.contracts.label.LabelEq.TheImpl.Laws as label_laws;
+
+    ghost laws = { lists_equiv label_laws.laws-law };
+}
+
+impl Hash for Word {
+    ghost use Rattle.std.specs.Hash as fed;
+    ghost use Rattle.std.specs.Hash.{items_Alike};
+    ghost use Rattle.rt_terms.specs.declared.label.Label.{Label as Letter};
+    ghost use Rattle.rt_terms.specs.contracts.label.LabelHash.TheImpl as label;
+    ghost use Rattle.rt_terms.specs.contracts.label.LabelHash.TheImpl.Laws as label_laws;
+
+    ghost hash_input = { fed.slice {T = Letter} (label.ghosts).hash_input };
+
+    ghost respects_eq = { (items_Alike (record { fed = label_laws.respects_eq-law })).fed };
+
+    fn hash<H: Hasher>(&self, state: &mut H) {
+        self.items().hash(state);
     }
 }
 
