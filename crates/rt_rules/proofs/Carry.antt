@@ -1,5 +1,5 @@
 -- Derivations carried from one list of lines to another.
-use Rattle.std.proofs.Common.{◌≡◌, ℕ, ◌⊎◌, inl, inr, List, [], ◌∷◌, Contains, refl, ap, sym, subst}
+use Rattle.std.proofs.Common.{◌≡◌, ◌⊎◌, inl, inr, List, Contains, refl, ap, subst}
 use Rattle.rt_terms.specs.declared.label.Label.{Label}
 use Rattle.rt_terms.specs.declared.label.Label.TheVariants.{Load, Store}
 use Rattle.rt_terms.specs.declared.variable.Dtv.{Dtv}

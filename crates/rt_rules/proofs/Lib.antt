@@ -1,3 +1,6 @@
 pub mod Lists
 pub mod Carry
 pub mod Covering
+pub mod Turned
+pub mod Putting
+pub mod Substitution
