@@ -4,3 +4,5 @@ pub mod Covering
 pub mod Turned
 pub mod Putting
 pub mod Substitution
+pub mod Renaming
+pub mod Joining
