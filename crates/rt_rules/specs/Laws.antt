@@ -1,5 +1,5 @@
 -- The laws that the functions of `laws` state.
-use Rattle.std.specs.Prelude.{◌≡◌, ℕ, List, ◌∷◌, ◌++◌, map, All, Contains, Bool, true, false}
+use Rattle.std.specs.Prelude.{◌≡◌, ℕ, List, ◌∷◌, ◌++◌, map, All, Contains, Option, Some, Bool, true, false}
 use Rattle.rt_terms.specs.declared.variable.Base.{Base}
 use Rattle.rt_terms.specs.declared.variable.Base.TheVariants.{Exist}
 use Rattle.rt_terms.specs.declared.label.Variance.{Variance}
@@ -8,13 +8,20 @@ use Rattle.rt_terms.specs.declared.line.Line.{Line}
 use Rattle.rt_terms.specs.Orders.{Below}
 use Rattle.rt_rules.specs.Rules.{HasSide, Derivable}
 use Rattle.rt_rules.specs.Alike.{Alike, IsOutside, map_line}
-use Rattle.rt_rules.specs.Put.{put_lines, IsOnlyUse}
+use Rattle.rt_rules.specs.Put.{put_lines, put_each, IsOnlyUse, IsPutting}
 
 -- the only definition, or the only consumer, may take an inside existential's place
 abbrev pub SubstitutionLaw : Type 0
 SubstitutionLaw =
     (order : Below) (inside : Base → Bool) (lines : List Line) (sign : Variance) (n : ℕ) (z : Dtv) →
     inside (Exist n) ≡ true → IsOnlyUse sign n z lines → Alike order inside lines (put_lines n z lines)
+
+-- each of many inside existentials may give its place to its only definition, all at once
+abbrev pub PuttingLaw : Type 0
+PuttingLaw =
+    (order : Below) (inside : Base → Bool) (lines : List Line) (place : ℕ → Option Dtv) →
+    IsPutting place lines → ((n : ℕ) (z : Dtv) → place n ≡ Some z → inside (Exist n) ≡ true) →
+    Alike order inside lines (map (map_line (put_each place)) lines)
 
 -- lists alike stay alike under more lines of the outside
 abbrev pub UnionLaw : Type 0

@@ -1,5 +1,5 @@
--- A variable in the place of an existential.
-use Rattle.std.specs.Prelude.{◌≡◌, ◌≢◌, ℕ, ◌⊎◌, List, [], map, All, Contains, cond, nat_eq}
+-- Variables in the place of existentials.
+use Rattle.std.specs.Prelude.{◌≡◌, ◌≢◌, ℕ, ◌⊎◌, List, [], map, All, Contains, Option, Some, None, cond, nat_eq}
 use Rattle.rt_terms.specs.declared.label.Label.{Label}
 use Rattle.rt_terms.specs.declared.variable.Base.{Base}
 use Rattle.rt_terms.specs.declared.variable.Base.TheVariants.{Proc, Global, Exist, Outer}
@@ -49,3 +49,24 @@ pub record IsOnlyUse (sign : Variance) (n : ℕ) (z : Dtv) (lines : List Line) :
   pub other_base : z.base ≢ Exist n
   pub stands : Contains lines (use_of sign n z)
   pub only : All (λ l. (l ≡ use_of sign n z) ⊎ (HasUse sign n l → ⊥)) lines
+
+-- the variable of the base and the word, with what is in the base's place, if anything is
+abbrev pub put_found : Option Dtv → Base → List Label → Dtv
+put_found (Some z) b w = extended z w
+put_found None b w = record { base = b; word = w }
+
+-- the variable of the base and the word, with what is in its place where the base is an existential that has one
+abbrev pub put_each_at : (ℕ → Option Dtv) → Base → List Label → Dtv
+put_each_at place (Exist n) w = put_found (place n) (Exist n) w
+put_each_at place (Proc n) w = record { base = Proc n; word = w }
+put_each_at place (Global n) w = record { base = Global n; word = w }
+put_each_at place (Outer n) w = record { base = Outer n; word = w }
+
+-- the variable with what is in its existential's place
+abbrev pub put_each : (ℕ → Option Dtv) → Dtv → Dtv
+put_each place x = put_each_at place x.base x.word
+
+-- what is in the place of an existential is all that defines it, and has no base that is put away itself
+pub record IsPutting (place : ℕ → Option Dtv) (lines : List Line) : Type 0 where
+  pub only : (n : ℕ) (z : Dtv) → place n ≡ Some z → IsOnlyUse Co n z lines
+  pub apart : (n : ℕ) (z : Dtv) (m : ℕ) → place n ≡ Some z → z.base ≡ Exist m → place m ≡ None

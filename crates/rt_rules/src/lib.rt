@@ -2,4 +2,6 @@
 //! derivable from a list of lines, when two lists tell the outside the same, when a scheme has nothing to spare.
 #![tactic(auto)]
 
+pub mod laws;
+
 pub use rt_terms::{Base, Dtv, Judge, Label, Line, Lines, Loc, Names, Variance, Word, variance_of};

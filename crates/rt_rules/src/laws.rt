@@ -1,0 +1,30 @@
+// The laws of derivations: functions that do nothing, each for the law that it ensures.
+ghost use Rattle.rt_rules.specs.Laws.{DropLaw, PuttingLaw, RenamingLaw, SubstitutionLaw, UnionLaw};
+
+/// Each of many inside existentials may give its place to its only definition, all at once: the outside can derive the
+/// same from the lines before and after.
+pub fn putting()
+    ensures { PuttingLaw }
+{}
+
+/// The only definition of an inside existential, or its only consumer, may take its place: the outside can derive the
+/// same from the lines before and after.
+pub fn substitution()
+    ensures { SubstitutionLaw }
+{}
+
+/// The names of inside bases do not matter: whoever renames them, so that no two that the lines name fall together and
+/// none becomes one of the outside, changes nothing of what the outside can derive.
+pub fn renaming()
+    ensures { RenamingLaw }
+{}
+
+/// Lists of lines that tell the outside the same still do when both get the same more lines of the outside.
+pub fn union()
+    ensures { UnionLaw }
+{}
+
+/// A line that the others derive may be dropped: the outside can derive the same without it.
+pub fn dropping()
+    ensures { DropLaw }
+{}
