@@ -1,6 +1,7 @@
 -- The one text of a line.
 use Rattle.std.specs.Prelude.{ℕ, List, [], ◌∷◌, ◌++◌, codes, decimal, slice_index_or}
 use Rattle.std.specs.Fmt.{signed_decimal}
+use Rattle.std.specs.List.{flat_map}
 use Rattle.rt_terms.specs.declared.label.Loc.TheVariants.{Arg, Stack}
 use Rattle.rt_terms.specs.declared.label.Label.{Label}
 use Rattle.rt_terms.specs.declared.label.Label.TheVariants.{In, Out, Load, Store, Field}
@@ -50,3 +51,7 @@ line_text names (Same x y) = codes "same " ++ dtv_text x ++ codes " " ++ dtv_tex
 line_text names (Sub x y) = dtv_text x ++ codes " <= " ++ dtv_text y
 line_text names (Low k x) = constant_text names k ++ codes " <= " ++ dtv_text x
 line_text names (Up x k) = dtv_text x ++ codes " <= " ++ constant_text names k
+
+-- a text of lines: each line's text and a line end
+abbrev pub lines_text : List (List ℕ) → List Line → List ℕ
+lines_text names lines = flat_map (λ l. line_text names l ++ 10 ∷ []) lines

@@ -1,8 +1,8 @@
 // Printing of labels, variables and lines.
-ghost use Rattle.std.specs.Prelude.{◌≡◌, ◌++◌, OnOk, OnErr, IfOk, length, decimal};
+ghost use Rattle.std.specs.Prelude.{◌≡◌, ◌++◌, OnOk, OnErr, All, length, decimal};
 ghost use Rattle.std.specs.Prelude.{◌<◌};
 ghost use Rattle.rt_terms.specs.Lines.{HasConstantsBelow};
-ghost use Rattle.rt_texts.specs.Texts.{label_text, base_text, word_text, dtv_text, constant_text, line_text};
+ghost use Rattle.rt_texts.specs.Texts.{label_text, base_text, word_text, dtv_text, constant_text, line_text, lines_text};
 
 use itoa::Buffer;
 use rt_base::Memory;
@@ -147,5 +147,29 @@ pub fn print_line(line: &Line, names: &Names, out: &mut Vec<u8>) -> Result<(), M
 {
     let mut text = Vec::new(*out.allocator());
     push_line(line, names, &mut text)?;
+    out.extend_from_slice(&text)
+}
+
+// Adds the texts of lines, each with a line end.
+fn push_lines(lines: &[Line], names: &Names, out: &mut Vec<u8>) -> Result<(), Memory>
+    requires { All (HasConstantsBelow (length names.now)) lines.now }
+    ensures { OnOk result (out.new.items ≡ out.old.items ++ lines_text names.now lines.now) }
+{
+    for line in lines {
+        push_line(line, names, out)?;
+        out.push(b'\n')?;
+    }
+    Ok(())
+}
+
+/// Adds the text of a list of lines at the end: each line's text and a line end (byte 10). Every constant
+/// of the lines has a name. After want of memory the bytes are as they were.
+pub fn print_lines(lines: &[Line], names: &Names, out: &mut Vec<u8>) -> Result<(), Memory>
+    requires { All (HasConstantsBelow (length names.now)) lines.now }
+    ensures ok { OnOk result (out.new.items ≡ out.old.items ++ lines_text names.now lines.now) }
+    ensures err { OnErr result (out.new.items ≡ out.old.items) }
+{
+    let mut text = Vec::new(*out.allocator());
+    push_lines(lines, names, &mut text)?;
     out.extend_from_slice(&text)
 }
