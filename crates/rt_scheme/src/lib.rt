@@ -1,13 +1,9 @@
-// A library with one function.
+//! Reports: what was found of each procedure of an object, and their one text. The text of a name, which
+//! other outputs write too, stands alone.
 #![tactic(auto)]
 
-ghost use Rattle.std.specs.Prelude.{◌≡◌};
-ghost use Rattle.rt_scheme.specs.Echo.{echo_of};
+mod name;
+mod report;
 
-// The `ensures` clause is the contract: what `echo` returns is `echo_of` of its argument, a definition
-// in `specs/Echo.antt`, which a caller's clause can cite too.
-pub fn echo(x: usize) -> usize
-    ensures { result ≡ echo_of x }
-{
-    x
-}
+pub use name::print_name;
+pub use report::{Entries, Entry, Globals, Place2, Report, print_heading, print_report};

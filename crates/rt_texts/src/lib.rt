@@ -3,4 +3,4 @@
 
 mod print;
 
-pub use print::{print_line, print_lines, print_variable};
+pub use print::{print_line, print_lines, print_number, print_variable};

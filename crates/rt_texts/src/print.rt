@@ -9,9 +9,10 @@ use rt_base::Memory;
 use rt_terms::{Base, Dtv, Label, Line, Loc, Names, Word};
 use std::alloc::Global;
 
-// Adds a number in decimal.
-fn push_number(n: u32, out: &mut Vec<u8>) -> Result<(), Memory>
-    ensures { OnOk result (out.new.items ≡ out.old.items ++ decimal n) }
+/// Adds a number in decimal at the end. After want of memory the bytes are as they were.
+pub fn print_number(n: u32, out: &mut Vec<u8>) -> Result<(), Memory>
+    ensures ok { OnOk result (out.new.items ≡ out.old.items ++ decimal n) }
+    ensures err { OnErr result (out.new.items ≡ out.old.items) }
 {
     let mut buffer = Buffer::new();
     out.extend_from_slice(buffer.format(n).as_bytes())
@@ -22,7 +23,7 @@ fn push_numbered(front: &[u8], n: u32, out: &mut Vec<u8>) -> Result<(), Memory>
     ensures { OnOk result (out.new.items ≡ out.old.items ++ (front.now ++ decimal n)) }
 {
     out.extend_from_slice(front)?;
-    push_number(n, out)
+    print_number(n, out)
 }
 
 // Adds a field's text.
