@@ -1,0 +1,4 @@
+pub mod Reading
+pub mod Decoding
+pub mod Words
+pub mod Ranges

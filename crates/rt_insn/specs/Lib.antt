@@ -1,0 +1,5 @@
+pub mod Word
+pub mod Format
+pub mod Table
+pub mod Range
+pub mod Reading

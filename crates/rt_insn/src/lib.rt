@@ -1,0 +1,19 @@
+//! The instructions of RV32IM: what a 32-bit word says, and which word says it.
+//!
+//! [`decode`] and [`encode`] are the two directions of one code table, which `specs/Table.antt` states as a
+//! relation between words and instructions. [`laws`] has what follows from the table alone.
+#![tactic(auto)]
+
+mod decoder;
+mod encoder;
+mod fields;
+mod immediates;
+mod insn;
+pub mod laws;
+mod opcodes;
+#[cfg(test)]
+mod tests;
+
+pub use decoder::decode;
+pub use encoder::encode;
+pub use insn::Insn;
