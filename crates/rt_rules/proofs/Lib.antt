@@ -6,3 +6,4 @@ pub mod Putting
 pub mod Substitution
 pub mod Renaming
 pub mod Joining
+pub mod WithoutSame

@@ -1,5 +1,6 @@
 // The laws of derivations: functions that do nothing, each for the law that it ensures.
 ghost use Rattle.rt_rules.specs.Laws.{DropLaw, PuttingLaw, RenamingLaw, SubstitutionLaw, UnionLaw};
+ghost use Rattle.rt_rules.specs.Paper.{WithoutSameLow, WithoutSameSub, WithoutSameUp, WithoutSameVar};
 
 /// Each of many inside existentials may give its place to its only definition, all at once: the outside can derive the
 /// same from the lines before and after.
@@ -27,4 +28,14 @@ pub fn union()
 /// A line that the others derive may be dropped: the outside can derive the same without it.
 pub fn dropping()
     ensures { DropLaw }
+{}
+
+/// Where no line is a `same`, the rules derive what the rules of PLDI 2016 (figure 3) derive, with two rules more (of two
+/// variables of which one lies below the other, each has the letters of the other): the same variables, the same
+/// subtypings, and the same bounds by constants over these.
+pub fn without_same()
+    ensures var { WithoutSameVar }
+    ensures sub { WithoutSameSub }
+    ensures low { WithoutSameLow }
+    ensures up { WithoutSameUp }
 {}
