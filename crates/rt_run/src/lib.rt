@@ -1,0 +1,9 @@
+//! The program's work behind its words: what it reads, what it writes, and with which status it ends.
+#![tactic(auto)]
+
+mod put;
+mod refusal;
+mod words;
+
+pub use refusal::Refusal;
+pub use rt_outside::{BytesSink, FileFault, Files, FilesOf, Sink, SinkFault};
