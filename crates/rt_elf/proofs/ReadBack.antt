@@ -26,9 +26,6 @@ length-zero_entry : length (symbol_entry 0 zero_symbol) ≡ 16
 unfolding symbol_entry
 length-zero_entry = simp (length-append, length-half_bytes, length-word_bytes)
 
-length-section_header : (ns : List ℕ) → length ns ≡ 10 → length (words ns) ≡ 40
-length-section_header ns e = length-words ns ∙ ap (λ n. 4 * n) e
-
 length-section_headers : (words relocs symbols strings : ℕ) → length (section_headers words relocs symbols strings) ≡ 200
 unfolding section_headers section_header
 length-section_headers words relocs symbols strings = simp (length-append, length-word_bytes)

@@ -1,2 +1,4 @@
 pub mod Words
 pub mod Errors
+pub mod Schemes
+pub mod Status

@@ -11,6 +11,8 @@ use Rattle.rt_insn.specs.declared.insn.Insn.{Insn}
 use Rattle.rt_table.specs.Straight.{IsStraight, straight_lines}
 use Rattle.rt_scheme.specs.declared.report.Entry.{Entry}
 use Rattle.rt_scheme.specs.declared.report.Report.{Report}
+use Rattle.rt_run.specs.declared.no_text.NoText.{NoText}
+use Rattle.rt_run.specs.declared.no_text.NoText.TheVariants.{Refused, Memory}
 use Rattle.rt_run.specs.declared.refusal.Refusal.{Refusal}
 use Rattle.rt_run.specs.declared.refusal.Refusal.TheVariants.{Object, NotYet}
 
@@ -43,3 +45,8 @@ pub record IsRight (bytes : List ℕ) (report : Report) : Type 0 where
   pub entry : Entry
   pub one_entry : report.entries ≡ entry ∷ []
   pub right_entry : IsRightEntry bytes readable entry
+
+-- there is no text where the object is refused; memory may always run out
+abbrev pub IsNoText : List ℕ → NoText → Type 0
+IsNoText bytes (Refused refusal) = IsRefused bytes refusal
+IsNoText bytes Memory = Unit {0}
