@@ -1,6 +1,7 @@
 -- What `schemes` writes for an object, and when it refuses one.
 use Rattle.std.specs.Prelude.{◌≡◌, ℕ, Option, Some, None, List, [], ◌∷◌}
 use Rattle.rt_terms.specs.declared.variable.Base.TheVariants.{Global}
+use Rattle.rt_terms.specs.declared.line.Line.{Line}
 use Rattle.rt_terms.specs.Orders.{Below}
 use Rattle.rt_rules.specs.Alike.{Alike, is_inside_for}
 use Rattle.rt_rules.specs.Laws.{NamesBase}
@@ -50,3 +51,10 @@ pub record IsRight (bytes : List ℕ) (report : Report) : Type 0 where
 abbrev pub IsNoText : List ℕ → NoText → Type 0
 IsNoText bytes (Refused refusal) = IsRefused bytes refusal
 IsNoText bytes Memory = Unit {0}
+
+-- the report of one function at the start of section 1
+abbrev pub function_report : List ℕ → List Line → Report
+function_report name lines = record {
+  globals = [];
+  entries = record { number = 0; place = record { section = 1; offset = 0 }; name = name; lines = lines } ∷ [];
+}
