@@ -1,12 +1,10 @@
 // The files of the system.
 ghost use Rattle.std.specs.Prelude.{◌≤◌, ◌+◌, IfOk, None, vec_len};
 
+use rt_outside::{FileFault, Files};
 use std::alloc::{AllocError, Global};
-use std::fs;
 use std::io::{self, ErrorKind, Read};
-use std::rt;
-
-use rt_run::{FileFault, Files};
+use std::{fs, rt};
 
 // How many bytes one read asks for at most.
 const PIECE: usize = 65_536;
@@ -31,7 +29,12 @@ fn new_piece(alloc: Global) -> Result<Vec<u8>, AllocError> {
 }
 
 // Adds what a reader gives, until it gives nothing or `limit` bytes are there.
-fn read_up_to<F: Read>(file: &mut F, piece: &mut [u8], bytes: &mut Vec<u8>, limit: usize) -> io::Result<()>
+fn read_up_to<F: Read>(
+    file: &mut F,
+    piece: &mut [u8],
+    bytes: &mut Vec<u8>,
+    limit: usize,
+) -> io::Result<()>
     requires { vec_len bytes.old ≤ limit }
     ensures { vec_len bytes.new ≤ limit }
 {
@@ -54,7 +57,12 @@ fn read_up_to<F: Read>(file: &mut F, piece: &mut [u8], bytes: &mut Vec<u8>, limi
 }
 
 // The content of a file, as far as `limit` bytes.
-fn read_front<R: rt::Files>(system: &R, alloc: Global, name: &str, limit: usize) -> io::Result<Vec<u8>>
+fn read_front<R: rt::Files>(
+    system: &R,
+    alloc: Global,
+    name: &str,
+    limit: usize,
+) -> io::Result<Vec<u8>>
     ensures { IfOk result (λ bytes. vec_len bytes ≤ limit) }
 {
     let mut file = fs::open(system, name)?;

@@ -1,9 +1,8 @@
 // A stream of the system that takes a text.
 ghost use Rattle.std.specs.Prelude.{None};
 
+use rt_outside::{Sink, SinkFault};
 use std::io::Write;
-
-use rt_run::{Sink, SinkFault};
 
 /// A stream of the system that takes a text in pieces. What was written is not told; each put that fails is counted.
 #[derive(Drop)]

@@ -109,7 +109,12 @@ fn code_count(bytes: &[u8]) -> Option<usize>
 }
 
 // The words at a place, in order.
-pub(crate) fn read_words(alloc: Global, bytes: &[u8], at: usize, count: usize) -> Result<Vec<u32>, AllocError>
+pub(crate) fn read_words(
+    alloc: Global,
+    bytes: &[u8],
+    at: usize,
+    count: usize,
+) -> Result<Vec<u32>, AllocError>
     requires { at + 4 * count ≤ length bytes.now }
     ensures words { IfOk result (λ v. v.items ≡ words_at bytes.now at count) }
     ensures len { IfOk result (λ v. length v.items ≡ count) }

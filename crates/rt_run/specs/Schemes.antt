@@ -8,6 +8,8 @@ use Rattle.rt_rules.specs.Laws.{NamesBase}
 use Rattle.rt_elf.specs.declared.fault.ElfFault.TheVariants.{Bad}
 use Rattle.rt_elf.specs.Checks.{check_fault}
 use Rattle.rt_elf.specs.Form.{IsFirstForm}
+use Rattle.rt_elf.specs.declared.object.Object.{Object}
+use Rattle.rt_elf.specs.Object.{section_words}
 use Rattle.rt_insn.specs.declared.insn.Insn.{Insn}
 use Rattle.rt_table.specs.Straight.{IsStraight, straight_lines}
 use Rattle.rt_scheme.specs.declared.report.Entry.{Entry}
@@ -15,7 +17,7 @@ use Rattle.rt_scheme.specs.declared.report.Report.{Report}
 use Rattle.rt_run.specs.declared.no_text.NoText.{NoText}
 use Rattle.rt_run.specs.declared.no_text.NoText.TheVariants.{Refused, Memory}
 use Rattle.rt_run.specs.declared.refusal.Refusal.{Refusal}
-use Rattle.rt_run.specs.declared.refusal.Refusal.TheVariants.{Object, NotYet}
+use Rattle.rt_run.specs.declared.refusal.Refusal.TheVariants.{Object as BadObject, NotYet}
 
 -- an object of the form that this build reads: one function, whose code is straight up to its first return
 pub record IsReadable (bytes : List ℕ) : Type 0 where
@@ -25,7 +27,7 @@ pub record IsReadable (bytes : List ℕ) : Type 0 where
 
 -- why an object is refused: the first check that fails, and else that it is not of that form
 abbrev pub IsRefused : List ℕ → Refusal → Type 0
-IsRefused bytes (Object number offset) = check_fault bytes ≡ Some (Bad number offset)
+IsRefused bytes (BadObject number offset) = check_fault bytes ≡ Some (Bad number offset)
 IsRefused bytes NotYet = (check_fault bytes ≡ None) × (IsReadable bytes → ⊥)
 
 -- an entry for the function: its number, its place and its name, and lines that tell whoever calls it the same as
@@ -58,3 +60,7 @@ function_report name lines = record {
   globals = [];
   entries = record { number = 0; place = record { section = 1; offset = 0 }; name = name; lines = lines } ∷ [];
 }
+
+-- the lines of the object's code, which is straight
+abbrev pub IsStraightOf : Object → List Line → Type 0
+IsStraightOf object lines = (insns : List Insn) × IsStraight (section_words object 1) insns × (lines ≡ straight_lines 0 insns)

@@ -5,9 +5,10 @@ mod no_text;
 mod put;
 mod refusal;
 mod schemes;
+#[cfg(test)]
+mod tests;
 mod top;
 mod words;
 
 pub use refusal::Refusal;
-pub use rt_outside::{BytesSink, FileFault, Files, FilesOf, Sink, SinkFault};
 pub use top::run;

@@ -2,9 +2,8 @@
 ghost use Rattle.std.specs.Prelude.{◌≡◌};
 ghost use Rattle.rt_run.specs.declared.no_text.NoText.TheVariants.{Memory as NoMemory};
 
-use std::alloc::AllocError;
-
 use crate::refusal::Refusal;
+use std::alloc::AllocError;
 
 /// Why there is no text to write.
 #[derive(Clone, Copy, Debug, PartialEq, Eq)]

@@ -2,11 +2,10 @@
 ghost use Rattle.std.specs.Prelude.{◌≡◌, IfOk};
 ghost use Rattle.rt_run.specs.Errors.{check_name, refusal_line, read_line};
 
-use std::alloc::Global;
-
 use rt_base::Memory;
 use rt_scheme::print_name;
 use rt_texts::print_number;
+use std::alloc::Global;
 
 /// Why an input is refused.
 #[derive(Clone, Copy, Debug, PartialEq, Eq)]

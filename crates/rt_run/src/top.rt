@@ -10,15 +10,13 @@ ghost use Rattle.rt_run.specs.Status.{status_of, Ends, Writes};
 ghost use Rattle.rt_scheme.specs.declared.report.Report.{Report};
 ghost use Rattle.rt_scheme.specs.Reports.{report_text};
 
-use std::alloc::{AllocError, Global};
-
-use rt_outside::{FileFault, Files, Sink};
-
 use crate::no_text::NoText;
 use crate::put::{put_all, tell};
 use crate::refusal::{Refusal, read_line, refusal_line};
 use crate::schemes::schemes_text;
 use crate::words::object_name;
+use rt_outside::{FileFault, Files, Sink};
+use std::alloc::{AllocError, Global};
 
 /// The greatest length of an object, in bytes.
 const OBJECT_LIMIT: u64 = 16_777_216;
@@ -106,7 +104,10 @@ pub fn run<F: Files, O: Sink, E: Sink>(
     ensures untouched { result ≢ 0 → result ≢ 4 → O.written out.new ≡ O.written out.old }
 {
     let Some(name) = object_name(words) else {
-        tell(err, b"usage: retypd COMMAND [--lattice FILE] [--signatures FILE] ARGUMENTS\n");
+        tell(
+            err,
+            b"usage: retypd COMMAND [--lattice FILE] [--signatures FILE] ARGUMENTS\n",
+        );
         return 2;
     };
     let line = match schemes(alloc, name, files, out) {

@@ -1,5 +1,5 @@
 -- Bytes that do not stand in texts: dots in labels and bases, spaces in variables and constants.
-use Rattle.std.proofs.Common.{◌≡◌, ◌≢◌, ℕ, suc, ◌+◌, ◌<◌, ◌≤◌, ◌^◌, ◌%◌, ◌⊎◌, List, [], ◌∷◌, ◌++◌, Bool, true, false, ◌&&◌, nat_lt, refl, inl, inr, arith, codes, decimal, ℤ, pos, negsuc, FitsSigned, w32, All, length, get_or, slice_index_or}
+use Rattle.std.proofs.Common.{◌≡◌, ◌≢◌, ℕ, suc, ◌+◌, ◌<◌, ◌^◌, ◌%◌, ◌⊎◌, List, [], ◌∷◌, ◌++◌, Bool, true, false, ◌&&◌, nat_lt, refl, inl, inr, arith, codes, decimal, ℤ, pos, negsuc, FitsSigned, w32, All, length, slice_index_or}
 use Rattle.std.specs.Fmt.{signed_decimal}
 use Rattle.std.proofs.lemmas.Bool.{false≢true, ltb-true}
 use Rattle.std.proofs.lemmas.Fmt.{decimal_by_steps}
@@ -57,8 +57,8 @@ HasNo-label byte Store mark good = HasNo-front byte (codes "store") mark refl
 HasNo-label byte (Field w k) mark (width, fits) =
     let small : w < 2 ^ 64 = elim width [ inl e ↦ omega arith | inr r ↦ elim r [ inl e ↦ omega arith | inr e ↦ omega arith ] ] in
     let front : HasNo byte (field_front w) =
-      HasNo-append byte (codes "s") (decimal w ++ codes "@") (HasNo-front byte (codes "s") mark refl)
-      (HasNo-append byte (decimal w) (codes "@") (HasNo-decimal byte w mark small) (HasNo-front byte (codes "@") mark refl)) in
+    HasNo-append byte (codes "s") (decimal w ++ codes "@") (HasNo-front byte (codes "s") mark refl)
+    (HasNo-append byte (decimal w) (codes "@") (HasNo-decimal byte w mark small) (HasNo-front byte (codes "@") mark refl)) in
     HasNo-append byte (field_front w) (signed_decimal k) front (HasNo-signed byte k mark fits)
 
 HasNo-numbered : (byte : ℕ) (front : List ℕ) (n : ℕ) → IsMark byte → are_above front ≡ true → IsNumber n → HasNo byte (front ++ decimal n)

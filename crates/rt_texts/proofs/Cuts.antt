@@ -1,8 +1,8 @@
 -- Texts cut at a byte.
-use Rattle.std.proofs.Common.{◌≡◌, ◌≢◌, ℕ, ◌+◌, ◌<◌, List, [], ◌∷◌, ◌++◌, Option, MatchOption, Some, None, length, take, drop, get_or, refl, ap, sym, add-one, arith, drop-cons}
+use Rattle.std.proofs.Common.{◌≡◌, ◌≢◌, ℕ, ◌+◌, ◌<◌, List, [], ◌∷◌, ◌++◌, Option, Some, None, length, take, drop, get_or, refl, add-one, drop-cons}
 use Rattle.std.proofs.Math.Seq.{take-suc}
 use Rattle.std.proofs.lemmas.List.{append_cancel_left}
-use Rattle.rt_texts.specs.Readings.{HasNo, StopsAt, IsCut, IsNoText, Reads}
+use Rattle.rt_texts.specs.Readings.{HasNo, StopsAt, Reads}
 
 pub HasNo-append : (byte : ℕ) (a b : List ℕ) → HasNo byte a → HasNo byte b → HasNo byte (a ++ b)
 HasNo-append byte [] b h k = k

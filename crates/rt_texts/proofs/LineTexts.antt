@@ -1,5 +1,5 @@
 -- Texts of lines, read.
-use Rattle.std.proofs.Common.{◌≡◌, ◌≢◌, ℕ, ◌<◌, ◌⊎◌, inl, inr, List, [], ◌∷◌, ◌++◌, length, refl, ap, sym, ◌∙◌, arith, codes, append_assoc, append-nil}
+use Rattle.std.proofs.Common.{◌≡◌, ◌≢◌, ℕ, ◌⊎◌, inl, inr, List, [], ◌∷◌, ◌++◌, length, refl, ap, sym, ◌∙◌, arith, codes, append_assoc, append-nil}
 use Rattle.std.proofs.lemmas.List.{append_cancel_left}
 use Rattle.rt_terms.specs.Names.{AreNames}
 use Rattle.rt_terms.specs.declared.variable.Base.{Base}
@@ -7,14 +7,12 @@ use Rattle.rt_terms.specs.declared.variable.Base.TheVariants.{Proc, Global, Exis
 use Rattle.rt_terms.specs.declared.variable.Dtv.{Dtv}
 use Rattle.rt_terms.specs.declared.line.Line.{Line}
 use Rattle.rt_terms.specs.declared.line.Line.TheVariants.{Var, Same, Sub, Low, Up}
-use Rattle.rt_terms.specs.declared.line.Judge.{Judge}
 use Rattle.rt_terms.specs.declared.line.Judge.TheVariants.{Var as JudgeVar, Sub as JudgeSub, Low as JudgeLow, Up as JudgeUp}
 use Rattle.rt_texts.specs.declared.fault.TextFault.{TextFault}
 use Rattle.rt_texts.specs.declared.fault.TextFault.TheVariants.{BadText, Memory}
-use Rattle.rt_texts.specs.declared.line.Pair.{Pair}
-use Rattle.rt_texts.specs.Goods.{IsDtv, IsLine, IsJudge}
+use Rattle.rt_texts.specs.Goods.{IsLine, IsJudge}
 use Rattle.rt_texts.specs.Texts.{base_text, word_text, dtv_text, constant_text, line_text, judge_text}
-use Rattle.rt_texts.specs.Readings.{HasNo, StopsAt, IsCut, IsNoText}
+use Rattle.rt_texts.specs.Readings.{HasNo, IsCut, IsNoText}
 use Rattle.rt_texts.specs.Sides.{IsPair, IsBound, IsRelation, pair_texts, bound_texts, side_texts}
 use Rattle.rt_texts.proofs.Clear.{HasNo-dtv, HasNo-constant}
 use Rattle.rt_texts.proofs.Cuts.{one_cut}

@@ -1,8 +1,7 @@
 -- Numbers in decimal, read.
-use Rattle.std.proofs.Common.{◌≡◌, ℕ, ◌<◌, ◌^◌, List, Result, Ok, subst, sym, arith, decimal, ℤ, pos, negsuc, FitsSigned, w32, to_z, of_z, Bool, false, Err, ◌≢◌}
+use Rattle.std.proofs.Common.{◌≡◌, ℕ, ◌<◌, ◌^◌, List, Result, Ok, subst, arith, decimal, ℤ, pos, negsuc, FitsSigned, w32, to_z, of_z, false, Err}
 use Rattle.std.specs.Fmt.{signed_decimal}
 use Rattle.std.specs.Str.{IsUtf8, bytes_eq}
-
 use Rattle.std.proofs.lemmas.Int.{to_z-of_z}
 use Rattle.std.proofs.lemmas.Slice.Eq.{bytes_eq-Decides}
 use Rattle.std.specs.Str.Parse.{ParsesUnsigned, ParsesSigned}

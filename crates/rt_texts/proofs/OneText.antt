@@ -1,5 +1,5 @@
 -- No text is that of two values.
-use Rattle.std.proofs.Common.{◌≡◌, ◌≢◌, ℕ, ◌<◌, ◌≤◌, ◌^◌, ◌⊎◌, inl, inr, Bool, List, [], ◌∷◌, ◌++◌, All, length, get_or, slice_index_or, if◌then◌else◌, ◌==◌, refl, ap, sym, subst, ◌∙◌, arith, codes, decimal, append_assoc, ℤ, FitsSigned, w32}
+use Rattle.std.proofs.Common.{◌≡◌, ℕ, ◌<◌, ◌⊎◌, inl, inr, List, [], ◌∷◌, ◌++◌, length, get_or, slice_index_or, if◌then◌else◌, ◌==◌, refl, ap, sym, ◌∙◌, arith, codes, append_assoc, ℤ}
 use Rattle.std.specs.Fmt.{signed_decimal}
 use Rattle.std.proofs.lemmas.Bool.{cases_order}
 use Rattle.std.proofs.lemmas.Fmt.{signed_decimal_injective}
@@ -7,7 +7,6 @@ use Rattle.std.proofs.lemmas.List.{append_cancel_left}
 use Rattle.std.proofs.lemmas.List.Elements.{All-head, All-tail}
 use Rattle.rt_terms.specs.Names.{AreNames}
 use Rattle.rt_terms.specs.Words.{IsLabel}
-use Rattle.rt_terms.specs.declared.label.Loc.{Loc}
 use Rattle.rt_terms.specs.declared.label.Loc.TheVariants.{Arg, Stack}
 use Rattle.rt_terms.specs.declared.label.Label.{Label}
 use Rattle.rt_terms.specs.declared.label.Label.TheVariants.{In, Out, Load, Store, Field}
@@ -16,7 +15,7 @@ use Rattle.rt_terms.specs.declared.variable.Base.TheVariants.{Proc, Global, Exis
 use Rattle.rt_terms.specs.declared.variable.Dtv.{Dtv}
 use Rattle.rt_terms.specs.declared.line.Line.{Line}
 use Rattle.rt_terms.specs.declared.line.Line.TheVariants.{Var, Same, Sub, Low, Up}
-use Rattle.rt_texts.specs.Goods.{IsNumber, IsBase, IsWord, IsDtv, IsLine}
+use Rattle.rt_texts.specs.Goods.{IsBase, IsWord, IsDtv}
 use Rattle.rt_texts.specs.Laws.{OneLine}
 use Rattle.rt_texts.specs.Readings.{HasNo, IsCut}
 use Rattle.rt_texts.specs.Texts.{field_front, label_text, base_text, word_text, dtv_text, constant_text, line_text}
@@ -137,7 +136,7 @@ one_constant : (names : List (List ℕ)) (j k : ℕ) → AreNames names → j < 
 one_constant names j k fine hj hk same =
     let name : slice_index_or names j [] ≡ slice_index_or names k [] = cc in
     elim (cases_order j k) [
-      inl e ↦ e
+      | inl e ↦ e
       | inr r ↦ elim r [ inl less ↦ absurd (fine.distinct j k [] less hk name) | inr more ↦ absurd (fine.distinct k j [] more hj (sym name)) ]
     ]
 

@@ -1,17 +1,14 @@
 -- Texts of words and variables, read.
-use Rattle.std.proofs.Common.{◌≡◌, ◌≢◌, ℕ, ◌+◌, ◌<◌, ◌≤◌, ◌^◌, ◌⊎◌, List, [], ◌∷◌, ◌++◌, All, Result, Ok, Err, MatchResult, refl, inl, inr, sym, ap, arith, codes, decimal, append_assoc, append-nil, length, false, ◌==◌}
-use Rattle.std.proofs.lemmas.Fmt.{decimal_by_steps}
+use Rattle.std.proofs.Common.{◌≡◌, ◌≢◌, ℕ, ◌⊎◌, List, [], ◌∷◌, ◌++◌, refl, inl, inr, sym, append_assoc, append-nil, length, false, ◌==◌}
 use Rattle.std.proofs.lemmas.List.Elements.{All-nil, All-head, All-tail, All-push}
 use Rattle.rt_terms.specs.declared.label.Label.{Label}
-use Rattle.rt_terms.specs.declared.variable.Base.{Base}
-use Rattle.rt_terms.specs.declared.variable.Base.TheVariants.{Proc, Global, Exist, Outer}
 use Rattle.rt_terms.specs.declared.variable.Dtv.{Dtv}
 use Rattle.rt_terms.specs.Words.{IsLabel}
 use Rattle.rt_texts.specs.declared.fault.TextFault.{TextFault}
 use Rattle.rt_texts.specs.declared.fault.TextFault.TheVariants.{BadText, Memory}
-use Rattle.rt_texts.specs.Goods.{IsNumber, IsBase, IsWord, IsDtv}
+use Rattle.rt_texts.specs.Goods.{IsBase, IsWord, IsDtv}
 use Rattle.rt_texts.specs.Texts.{label_text, base_text, word_text, dtv_text}
-use Rattle.rt_texts.specs.Readings.{HasNo, StopsAt, IsCut, IsNoText, ReadsOrFails}
+use Rattle.rt_texts.specs.Readings.{IsCut, IsNoText}
 use Rattle.rt_texts.proofs.Clear.{HasNo-label, HasNo-base, StopsAt-word}
 use Rattle.rt_texts.proofs.Cuts.{one_cut}
 use Rattle.rt_texts.proofs.WordTexts.{word_text-append}
@@ -40,8 +37,8 @@ IsPartRead-goes_on text after front back word label read cut good same =
       joined = rw (word_text-append word (label ∷ []), append-nil, same, append_assoc) (cc (read.joined, cut.joined));
       good = All-push IsLabel word label read.good good;
       goes_on = λ v fine is.
-        let u = read.goes_on v fine is in
-        let first = first_label after front back u.0 cut u.1 u.2 in (first.1, first.3, first.5);
+          let u = read.goes_on v fine is in
+          let first = first_label after front back u.0 cut u.1 u.2 in (first.1, first.3, first.5);
     }
 
 -- a label that was not read

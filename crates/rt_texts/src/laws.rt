@@ -4,5 +4,4 @@ ghost use Rattle.rt_texts.specs.Laws.{OneLine};
 /// No text is that of two lines.
 pub fn one_line()
     ensures { OneLine }
-{
-}
+{}

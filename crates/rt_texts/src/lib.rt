@@ -13,3 +13,6 @@ mod variable;
 pub use fault::TextFault;
 pub use line::{read_judge, read_line};
 pub use print::{print_line, print_lines, print_number, print_variable};
+
+#[cfg(test)]
+mod tests;

@@ -50,7 +50,12 @@ fn read_constant(text: &[u8], names: &Names) -> Option<u16>
 }
 
 // Reads a constant and a variable.
-fn read_bound(alloc: Global, constant: &[u8], variable: &[u8], names: &Names) -> Result<Bound, TextFault>
+fn read_bound(
+    alloc: Global,
+    constant: &[u8],
+    variable: &[u8],
+    names: &Names,
+) -> Result<Bound, TextFault>
     ensures { ReadsOrFails (IsBound (length names.now)) (bound_texts names.now) (constant.now, variable.now) result }
 {
     let Some(constant) = read_constant(constant, names) else {
