@@ -1,2 +1,6 @@
-pub mod Told
+pub mod Tidy
 pub mod Sorted
+pub mod Uses
+pub mod Choice
+pub mod Sides
+pub mod Told
