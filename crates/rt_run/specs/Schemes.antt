@@ -14,10 +14,11 @@ use Rattle.rt_insn.specs.declared.insn.Insn.{Insn}
 use Rattle.rt_table.specs.Straight.{IsStraight, straight_lines}
 use Rattle.rt_scheme.specs.declared.report.Entry.{Entry}
 use Rattle.rt_scheme.specs.declared.report.Report.{Report}
+use Rattle.rt_scheme.specs.Reports.{report_text}
 use Rattle.rt_run.specs.declared.no_text.NoText.{NoText}
 use Rattle.rt_run.specs.declared.no_text.NoText.TheVariants.{Refused, Memory}
 use Rattle.rt_run.specs.declared.refusal.Refusal.{Refusal}
-use Rattle.rt_run.specs.declared.refusal.Refusal.TheVariants.{Object as BadObject, NotYet}
+use Rattle.rt_run.specs.declared.refusal.Refusal.TheVariants.{Object as BadObject, NotYet, TextTooLarge, BadLine, BadJudgement}
 
 -- an object of the form that this build reads: one function, whose code is straight up to its first return
 pub record IsReadable (bytes : List ℕ) : Type 0 where
@@ -29,6 +30,9 @@ pub record IsReadable (bytes : List ℕ) : Type 0 where
 abbrev pub IsRefused : List ℕ → Refusal → Type 0
 IsRefused bytes (BadObject number offset) = check_fault bytes ≡ Some (Bad number offset)
 IsRefused bytes NotYet = (check_fault bytes ≡ None) × (IsReadable bytes → ⊥)
+IsRefused bytes TextTooLarge = ⊥
+IsRefused bytes (BadLine place) = ⊥
+IsRefused bytes BadJudgement = ⊥
 
 -- an entry for the function: its number, its place and its name, and lines that tell whoever calls it the same as
 -- the lines of its instructions
@@ -48,6 +52,10 @@ pub record IsRight (bytes : List ℕ) (report : Report) : Type 0 where
   pub entry : Entry
   pub one_entry : report.entries ≡ entry ∷ []
   pub right_entry : IsRightEntry bytes readable entry
+
+-- the text of a right report of the object
+abbrev pub IsSchemesText : List ℕ → List ℕ → Type 0
+IsSchemesText bytes text = (report : Report) × IsRight bytes report × (text ≡ report_text [] report)
 
 -- there is no text where the object is refused; memory may always run out
 abbrev pub IsNoText : List ℕ → NoText → Type 0

@@ -12,8 +12,14 @@ use std::alloc::Global;
 pub enum Refusal {
     /// A check of the object fails: its number, and the byte of the file.
     Object(u8, u32),
-    /// The object is not of the form that this build reads.
+    /// The object is not of the form that this build reads, or the text has what it doesn't.
     NotYet,
+    /// The text of `entail` is too long.
+    TextTooLarge,
+    /// A line of the text of `entail` is bad: the byte at which the first bad one begins.
+    BadLine(u32),
+    /// The judgement of `entail` is bad.
+    BadJudgement,
 }
 
 // The name of a check of the object, by its number.
@@ -45,6 +51,13 @@ pub fn refusal_line(alloc: Global, refusal: Refusal) -> Result<Vec<u8>, Memory>
             line.extend_from_slice(b"\n")?;
         }
         Refusal::NotYet => line.extend_from_slice(b"error 90 NotYet\n")?,
+        Refusal::TextTooLarge => line.extend_from_slice(b"error 63 TextTooLarge\n")?,
+        Refusal::BadLine(place) => {
+            line.extend_from_slice(b"error 61 BadText at ")?;
+            print_number(place, &mut line)?;
+            line.extend_from_slice(b"\n")?;
+        }
+        Refusal::BadJudgement => line.extend_from_slice(b"error 62 BadText\n")?,
     }
     Ok(line)
 }

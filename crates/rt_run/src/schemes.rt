@@ -7,9 +7,7 @@ ghost use Rattle.rt_rules.specs.Laws.{NamesBase};
 ghost use Rattle.rt_elf.specs.Checks.{check_fault};
 ghost use Rattle.rt_elf.specs.Object.{IsFirstObject, IsInFile};
 ghost use Rattle.rt_table.specs.Straight.{straight_lines};
-ghost use Rattle.rt_scheme.specs.declared.report.Report.{Report};
-ghost use Rattle.rt_scheme.specs.Reports.{report_text};
-ghost use Rattle.rt_run.specs.Schemes.{IsNoText, IsReadable, IsRight, IsStraightOf, function_report};
+ghost use Rattle.rt_run.specs.Schemes.{IsNoText, IsSchemesText, IsStraightOf, function_report};
 
 use crate::no_text::NoText;
 use crate::refusal::Refusal;
@@ -91,7 +89,7 @@ fn report_of(alloc: Global, name: Bytes, lines: Lines) -> Result<Report, Memory>
 /// The text that `schemes` writes for the object of the bytes, or why there is none.
 pub fn schemes_text(alloc: Global, bytes: &[u8]) -> Result<Vec<u8>, NoText>
     ensures refused { IfErr result (IsNoText bytes.now) }
-    ensures written { IfOk result (λ text. (report : Report) × IsRight bytes.now report × (text.items ≡ report_text [] report)) }
+    ensures written { IfOk result (λ text. IsSchemesText bytes.now text.items) }
 {
     let object = read_object(alloc, bytes)?;
     let lines = function_lines(alloc, &object)?;

@@ -154,3 +154,49 @@ fn faults(rt: HostRuntime) -> Result<(), Fail> {
     }
     Ok(())
 }
+
+#[test]
+fn entails(rt: HostRuntime) -> Result<(), Fail> {
+    let yes = Case {
+        words: &["entail", "object.o", "var x0.load.s32@0.load.s32@0"],
+        object: b"x0.load.s32@0 <= x0\n",
+        failing_puts: &[],
+        status: 0,
+        out: "yes\n",
+        err: "",
+    };
+    let cases = [
+        yes,
+        Case {
+            words: &["entail", "object.o", "var x0.store"],
+            out: "no\n",
+            ..yes
+        },
+        Case {
+            object: b"var x0\nx0 <= x01\n",
+            status: 1,
+            out: "",
+            err: "error 61 BadText at 7\n",
+            ..yes
+        },
+        Case {
+            words: &["entail", "object.o", "same x0 x0"],
+            object: b"",
+            status: 1,
+            out: "",
+            err: "error 62 BadText\n",
+            ..yes
+        },
+        Case {
+            object: b"#int32 <= x0\n",
+            status: 1,
+            out: "",
+            err: "error 90 NotYet\n",
+            ..yes
+        },
+    ];
+    for case in &cases {
+        check(&rt, rt.alloc(), case)?;
+    }
+    Ok(())
+}
