@@ -32,15 +32,12 @@ const LOAD: [u8; 296] = [
 // `sw a1,0(a0)`
 const STORE_WORD: [u8; 4] = [0x23, 0x20, 0xB5, 0x00];
 
-// What a run is given, and what must come of it.
+// What must come of a run.
 #[derive(Clone, Copy)]
-struct Case<'a> {
-    words: &'a [&'a str],
-    object: &'a [u8],
-    failing_puts: &'a [u32],
+struct Outcome {
     status: u8,
-    out: &'a str,
-    err: &'a str,
+    out: &'static str,
+    err: &'static str,
 }
 
 fn words_of(alloc: Global, words: &[&str]) -> Result<Vec<String>, AllocError> {
@@ -51,152 +48,147 @@ fn words_of(alloc: Global, words: &[&str]) -> Result<Vec<String>, AllocError> {
     Ok(owned)
 }
 
-fn files_with(alloc: Global, object: &[u8]) -> Result<FilesOf, AllocError> {
-    let name = Bytes::from_vec(b"object.o".to_vec(alloc)?);
-    let content = Bytes::from_vec(object.to_vec(alloc)?);
+fn files_with(alloc: Global, content: &[u8]) -> Result<FilesOf, AllocError> {
+    let name = Bytes::from_vec(b"file".to_vec(alloc)?);
+    let content = Bytes::from_vec(content.to_vec(alloc)?);
     let contents = vec![in alloc; (name, content)]?;
     Ok(FilesOf::new(contents, Vec::new(alloc)))
 }
 
-// Runs the case, with an out of which a failing put keeps 10 bytes.
-fn check(rt: &impl Abort, alloc: Global, case: &Case) -> Result<(), AllocError> {
-    let words = words_of(alloc, case.words)?;
-    let mut files = files_with(alloc, case.object)?;
-    let mut out = BytesSink::new(alloc, 1000, case.failing_puts.to_vec(alloc)?, 10)?;
+// Runs the words on a file of this content, with an out whose puts of these numbers fail and keep 10 bytes.
+fn check_failing(
+    rt: &impl Abort,
+    alloc: Global,
+    words: &[&str],
+    content: &[u8],
+    failing_puts: &[u32],
+    outcome: Outcome,
+) -> Result<(), AllocError> {
+    let words = words_of(alloc, words)?;
+    let mut files = files_with(alloc, content)?;
+    let mut out = BytesSink::new(alloc, 1000, failing_puts.to_vec(alloc)?, 10)?;
     let mut err = BytesSink::new(alloc, 1000, Vec::new(alloc), 0)?;
     let status = run(alloc, &words, &mut files, &mut out, &mut err);
-    assert_eq!(rt; status, case.status);
-    assert!(rt; out.written() == case.out.as_bytes());
-    assert!(rt; err.written() == case.err.as_bytes());
+    assert_eq!(rt; status, outcome.status);
+    assert!(rt; out.written() == outcome.out.as_bytes());
+    assert!(rt; err.written() == outcome.err.as_bytes());
     Ok(())
+}
+
+// The same where no put fails, and the text of status 0 is wanted.
+fn check_written(
+    rt: &impl Abort,
+    alloc: Global,
+    words: &[&str],
+    content: &[u8],
+    out: &'static str,
+) -> Result<(), AllocError> {
+    let outcome = Outcome {
+        status: 0,
+        out,
+        err: "",
+    };
+    check_failing(rt, alloc, words, content, &[], outcome)
+}
+
+// The same where a status and its line are wanted, and no text.
+fn check_told(
+    rt: &impl Abort,
+    alloc: Global,
+    words: &[&str],
+    content: &[u8],
+    status: u8,
+    err: &'static str,
+) -> Result<(), AllocError> {
+    let outcome = Outcome {
+        status,
+        out: "",
+        err,
+    };
+    check_failing(rt, alloc, words, content, &[], outcome)
 }
 
 #[test]
 fn loads_and_stores(rt: HostRuntime) -> Result<(), Fail> {
-    let mut store = LOAD;
-    store[52..56].copy_from_slice(&STORE_WORD);
-    let load = Case {
-        words: &["schemes", "object.o"],
-        object: &LOAD,
-        failing_puts: &[],
-        status: 0,
-        out: "proc f0 section 1 offset 0 name f\nf0.in_a0.load.s32@0 <= f0.out_a0\nend\n",
-        err: "",
-    };
-    check(&rt, rt.alloc(), &load)?;
-    let store = Case {
-        object: &store,
-        out: "proc f0 section 1 offset 0 name f\nf0.in_a1 <= f0.in_a0.store.s32@0\nend\n",
-        ..load
-    };
-    check(&rt, rt.alloc(), &store)?;
+    let alloc = rt.alloc();
+    let load = "proc f0 section 1 offset 0 name f\nf0.in_a0.load.s32@0 <= f0.out_a0\nend\n";
+    check_written(&rt, alloc, &["schemes", "file"], &LOAD, load)?;
+    let mut object = LOAD;
+    object[52..56].copy_from_slice(&STORE_WORD);
+    let store = "proc f0 section 1 offset 0 name f\nf0.in_a1 <= f0.in_a0.store.s32@0\nend\n";
+    check_written(&rt, alloc, &["schemes", "file"], &object, store)?;
     Ok(())
 }
 
 #[test]
-fn faults(rt: HostRuntime) -> Result<(), Fail> {
-    let mut no_magic = LOAD;
-    no_magic[0] = 0;
-    let mut flagged = LOAD;
-    flagged[36] = 1;
-    let cases = [
-        Case {
-            words: &["schemes", "object.o"],
-            object: &LOAD[..51],
-            failing_puts: &[],
-            status: 1,
-            out: "",
-            err: "error 1 Short at 51\n",
-        },
-        Case {
-            words: &["schemes", "object.o"],
-            object: &no_magic,
-            failing_puts: &[],
-            status: 1,
-            out: "",
-            err: "error 2 Magic at 0\n",
-        },
-        Case {
-            words: &["schemes", "object.o"],
-            object: &flagged,
-            failing_puts: &[],
-            status: 1,
-            out: "",
-            err: "error 90 NotYet\n",
-        },
-        Case {
-            words: &["schemes"],
-            object: &LOAD,
-            failing_puts: &[],
-            status: 2,
-            out: "",
-            err: "usage: retypd COMMAND [--lattice FILE] [--signatures FILE] ARGUMENTS\n",
-        },
-        Case {
-            words: &["schemes", "no file"],
-            object: &LOAD,
-            failing_puts: &[],
-            status: 3,
-            out: "",
-            err: "error read no\\20file\n",
-        },
-        Case {
-            words: &["schemes", "object.o"],
-            object: &LOAD,
-            failing_puts: &[0],
-            status: 4,
-            out: "proc f0 se",
-            err: "error write\n",
-        },
-    ];
-    for case in &cases {
-        check(&rt, rt.alloc(), case)?;
-    }
+fn refuses_objects(rt: HostRuntime) -> Result<(), Fail> {
+    let alloc = rt.alloc();
+    let short = "error 1 Short at 51\n";
+    check_told(&rt, alloc, &["schemes", "file"], &LOAD[..51], 1, short)?;
+    let mut object = LOAD;
+    object[0] = 0;
+    check_told(
+        &rt,
+        alloc,
+        &["schemes", "file"],
+        &object,
+        1,
+        "error 2 Magic at 0\n",
+    )?;
+    let mut object = LOAD;
+    object[36] = 1;
+    check_told(
+        &rt,
+        alloc,
+        &["schemes", "file"],
+        &object,
+        1,
+        "error 90 NotYet\n",
+    )?;
+    Ok(())
+}
+
+#[test]
+fn tells_what_failed(rt: HostRuntime) -> Result<(), Fail> {
+    let alloc = rt.alloc();
+    let usage = "usage: retypd COMMAND [--lattice FILE] [--signatures FILE] ARGUMENTS\n";
+    check_told(&rt, alloc, &["schemes"], &LOAD, 2, usage)?;
+    let unread = "error read no\\20file\n";
+    check_told(&rt, alloc, &["schemes", "no file"], &LOAD, 3, unread)?;
+    let outcome = Outcome {
+        status: 4,
+        out: "proc f0 se",
+        err: "error write\n",
+    };
+    check_failing(&rt, alloc, &["schemes", "file"], &LOAD, &[0], outcome)?;
     Ok(())
 }
 
 #[test]
 fn entails(rt: HostRuntime) -> Result<(), Fail> {
-    let yes = Case {
-        words: &["entail", "object.o", "var x0.load.s32@0.load.s32@0"],
-        object: b"x0.load.s32@0 <= x0\n",
-        failing_puts: &[],
-        status: 0,
-        out: "yes\n",
-        err: "",
-    };
-    let cases = [
-        yes,
-        Case {
-            words: &["entail", "object.o", "var x0.store"],
-            out: "no\n",
-            ..yes
-        },
-        Case {
-            object: b"var x0\nx0 <= x01\n",
-            status: 1,
-            out: "",
-            err: "error 61 BadText at 7\n",
-            ..yes
-        },
-        Case {
-            words: &["entail", "object.o", "same x0 x0"],
-            object: b"",
-            status: 1,
-            out: "",
-            err: "error 62 BadText\n",
-            ..yes
-        },
-        Case {
-            object: b"#int32 <= x0\n",
-            status: 1,
-            out: "",
-            err: "error 90 NotYet\n",
-            ..yes
-        },
-    ];
-    for case in &cases {
-        check(&rt, rt.alloc(), case)?;
-    }
+    let alloc = rt.alloc();
+    let list = b"x0.load.s32@0 <= x0\n".as_slice();
+    let twice = "var x0.load.s32@0.load.s32@0";
+    check_written(&rt, alloc, &["entail", "file", twice], list, "yes\n")?;
+    check_written(
+        &rt,
+        alloc,
+        &["entail", "file", "var x0.store"],
+        list,
+        "no\n",
+    )?;
+    Ok(())
+}
+
+#[test]
+fn refuses_texts(rt: HostRuntime) -> Result<(), Fail> {
+    let alloc = rt.alloc();
+    let words = ["entail", "file", "var x0"];
+    let late = b"var x0\nx0 <= x01\n".as_slice();
+    check_told(&rt, alloc, &words, late, 1, "error 61 BadText at 7\n")?;
+    let constant = b"#int32 <= x0\n".as_slice();
+    check_told(&rt, alloc, &words, constant, 1, "error 90 NotYet\n")?;
+    let words = ["entail", "file", "same x0 x0"];
+    check_told(&rt, alloc, &words, b"".as_slice(), 1, "error 62 BadText\n")?;
     Ok(())
 }
