@@ -26,7 +26,8 @@ reads_line names text lines rest front (b ∷ back) line read cut there good is 
     let parts : (front ++ 10 ∷ []) ++ back ≡ rest = append_assoc front (10 ∷ []) back ∙ (ap (λ c. front ++ c ∷ back) (sym cut.stops) ∙ sym cut.joined) in
     record {
       good = All-push (IsLine (length names)) lines line read.good good;
-      joined = rw (whole, both, is, append_assoc (lines_text names lines) (front ++ 10 ∷ []) back, parts) read.joined }
+      joined = rw (whole, both, is, append_assoc (lines_text names lines) (front ++ 10 ∷ []) back, parts) read.joined;
+    }
 
 -- a list of a length other than 0
 pub some_left : (n : ℕ) → n ≡ 0 → false ≡ (n == 0) → ⊥

@@ -4,14 +4,12 @@ ghost use Rattle.rt_texts.specs.Goods.{IsDtv};
 ghost use Rattle.rt_texts.specs.Readings.{IsNoText};
 ghost use Rattle.rt_entail.specs.Entailment.{IsRefusal, IsAnswer, var_text};
 
-use std::alloc::Global;
-
+use crate::fault::EntailFault;
+use crate::file::read_file;
 use rt_shape::of;
 use rt_terms::{Dtv, Judge, Names};
 use rt_texts::{TextFault, read_judge};
-
-use crate::fault::EntailFault;
-use crate::file::read_file;
+use std::alloc::Global;
 
 // The variable of a judgement that it exists.
 fn read_var(alloc: Global, judgement: &[u8], names: &Names) -> Result<Dtv, EntailFault>

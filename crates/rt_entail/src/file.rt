@@ -3,10 +3,9 @@ ghost use Rattle.std.specs.Prelude.{◌≡◌, ◌<◌, ◌^◌, length};
 ghost use Rattle.rt_texts.specs.Readings.{IsCut};
 ghost use Rattle.rt_entail.specs.Files.{ReadsFile};
 
-use std::alloc::Global;
-
 use rt_terms::{Lines, Names};
 use rt_texts::{TextFault, read_line};
+use std::alloc::Global;
 
 // The bytes before the first line end, and those from it on.
 fn first_line(text: &[u8]) -> (&[u8], &[u8])

@@ -57,7 +57,7 @@ total-renamed class i j less_i less_j apart = by (cases_eq (get_or class i 0) (m
 module _ (graph : Graph) (pairs : List (ℕ × ℕ)) (class : List ℕ) (are : AreClasses graph pairs class) where
   -- nodes of one class have to be one
   pub joined_in_class : (i j : ℕ) → i < graph.count → j < graph.count → slice_index class i ≡ slice_index class j → Joined graph pairs i j
-  joined_in_class i j less_i less_j e = joined_chain (are.within i less_i) (are.sound i less_i) (joined_back (subst (Joined graph pairs j) (sym e) (are.sound j less_j)))
+  joined_in_class i j less_i less_j e = joined_chain (are.sound i less_i) (joined_back (subst (Joined graph pairs j) (sym e) (are.sound j less_j)))
 
   pub violated_by_pair : (i j : ℕ) → (i < graph.count) × (j < graph.count) → Contains pairs (i, j) → (slice_index class i ≡ slice_index class j → ⊥) → IsViolated graph pairs class i j
   violated_by_pair i j within c ne = record { first_in = within.0; second_in = within.1; joined = joined_pair c; apart = ne }
@@ -81,8 +81,8 @@ module _ (graph : Graph) (pairs : List (ℕ × ℕ)) (class : List ℕ) (are : A
 
     classes_joined : Joined graph pairs first second
     classes_joined =
-        joined_chain violated.first_in (joined_back (are.sound i violated.first_in))
-        (joined_chain violated.second_in violated.joined (are.sound j violated.second_in))
+        joined_chain (joined_back (are.sound i violated.first_in))
+        (joined_chain violated.joined (are.sound j violated.second_in))
 
     greater_joined : Joined graph pairs (max first second) (min first second)
     greater_joined = by (cases_eq first (max first second))
@@ -106,9 +106,10 @@ module _ (graph : Graph) (pairs : List (ℕ × ℕ)) (class : List ℕ) (are : A
         by (inl e) =
             let r : renamed_class first second (slice_index class k) ≡ min first second = is_renamed first second (slice_index class k) e in
             let below : slice_index class k < graph.count = are.within k less in
-            let fits : min first second < graph.count = omega arith in
-            (subst (λ n. n < graph.count) (sym r) fits,
-            subst (Joined graph pairs k) (sym r) (joined_chain below (are.sound k less) (subst (λ m. Joined graph pairs m (min first second)) (sym e) greater_joined)))
+            let fits : min first second < graph.count = omega arith in (
+              subst (λ n. n < graph.count) (sym r) fits,
+              subst (Joined graph pairs k) (sym r) (joined_chain (are.sound k less) (subst (λ m. Joined graph pairs m (min first second)) (sym e) greater_joined)),
+            )
         by (inr ne) =
             let r : renamed_class first second (slice_index class k) ≡ slice_index class k = is_kept first second (slice_index class k) ne in
             (subst (λ n. n < graph.count) (sym r) (are.within k less), subst (Joined graph pairs k) (sym r) (are.sound k less))

@@ -1,5 +1,5 @@
 -- What has to be one in the tree of what the lines name has one shape.
-use Rattle.std.proofs.Common.{◌≡◌, ℕ, ◌⊎◌, inl, inr, Some, List, Contains, refl, sym, ap, subst, ◌∙◌}
+use Rattle.std.proofs.Common.{◌≡◌, ℕ, ◌<◌, ◌⊎◌, inl, inr, Some, List, Contains, refl, sym, ap, subst, ◌∙◌}
 use Rattle.rt_terms.specs.declared.label.Label.{Label}
 use Rattle.rt_terms.specs.declared.label.Label.TheVariants.{In, Out, Load, Store, Field}
 use Rattle.rt_terms.specs.declared.variable.Dtv.{Dtv}
@@ -13,6 +13,7 @@ use Rattle.rt_shape.specs.Graphs.{Graph, node_of, Has, IsTree}
 use Rattle.rt_shape.specs.Shapes.{IsNamed, IsNaming, Equates, ArePairs}
 use Rattle.rt_shape.specs.Classes.{pointed, Joined}
 use Rattle.rt_shape.specs.Classes.Joined.{joined_pair, joined_self, joined_back, joined_chain, joined_letter}
+use Rattle.rt_shape.proofs.Within.{pairs_within, joined_within}
 use Rattle.rt_shape.proofs.Walks.{node_of-longer}
 
 -- labels that are one but for stores: they are one, or a load and a store, in some order
@@ -82,6 +83,10 @@ module _ (order : Below) (lines : List Line) (tree : Graph) (pairs : List (ℕ �
       by (inl f) = subst (λ m. Derivable order lines (Same (longer x l) (longer y m))) f (same_longer l d v)
       by (inr h) = pointers x y l k h d v w
 
+  by_chain : (i j : ℕ) (x y : Dtv) → node_of tree x ≡ Some i → (i ≡ j) ⊎ ((i < tree.count) × (j < tree.count)) → ((z : Dtv) → node_of tree z ≡ Some j → Derivable order lines (Same x z)) → ((z : Dtv) → node_of tree z ≡ Some j → Derivable order lines (Same z y)) → Derivable order lines (Same x y)
+  by_chain i j x y e (inl same) first second = second x (e ∙ ap Some same)
+  by_chain i j x y e (inr within) first second = let z = is_tree.whole.reached j within.1 in same_chain (first z.0 z.1) (second z.0 z.1)
+
   pub same_from_joined : {i j : ℕ} → Joined tree pairs i j → (x y : Dtv) → node_of tree x ≡ Some i → node_of tree y ≡ Some j → Derivable order lines (Same x y)
   same_from_joined (joined_pair {i = i} {j = j} c) x y e f = by (are.only i j c)
     where
@@ -89,7 +94,8 @@ module _ (order : Below) (lines : List Line) (tree : Graph) (pairs : List (ℕ �
       by (l, in_lines, (u, v, q, g, h)) = same_chain (self x u i e g) (same_chain (equated l u v in_lines q) (self v y j h f))
   same_from_joined (joined_self {i = i}) x y e f = self x y i e f
   same_from_joined (joined_back d) x y e f = same_back (same_from_joined d y x f e)
-  same_from_joined (joined_chain {j = j} less d g) x y e f = let z = is_tree.whole.reached j less in same_chain (same_from_joined d x z.0 e z.1) (same_from_joined g z.0 y z.1 f)
+  same_from_joined (joined_chain {i = i} {j = j} d g) x y e f =
+      by_chain i j x y e (joined_within tree pairs is_tree (pairs_within lines tree pairs is_tree are) d) (λ z h. same_from_joined d x z e h) (λ z h. same_from_joined g z y h f)
   same_from_joined (joined_letter {i = i} {j = j} {m = m} {n = n} l k same d g h) x y e f =
       let u = is_tree.whole.reached i (is_tree.whole.edges_in i l m g).0 in
       let v = is_tree.whole.reached j (is_tree.whole.edges_in j k n h).0 in

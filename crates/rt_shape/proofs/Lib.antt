@@ -11,6 +11,9 @@ pub mod Mapped
 pub mod Numbers
 pub mod Firsts
 pub mod Classed
+pub mod Within
 pub mod JoinedSame
 pub mod Quotients
 pub mod ShapeOf
+pub mod Sound
+pub mod Begun

@@ -114,7 +114,7 @@ module _ (class : List ℕ) (i : ℕ) (known : List (Option ℕ)) (numbers : Lis
     within = λ k less. are.below (slice_index class k) (slice_index numbers k) (at k less);
     same = λ k j less_k less_j. (
       (λ e. are.single (slice_index class k) (slice_index class j) (slice_index numbers k) (at k less_k) (at j less_j ∙ ap Some (sym e))),
-      (λ e. some_same (slice_index numbers k) (slice_index numbers j) (sym (at k less_k) ∙ ap (number_of known) e ∙ at j less_j))
+      (λ e. some_same (slice_index numbers k) (slice_index numbers j) (sym (at k less_k) ∙ ap (number_of known) e ∙ at j less_j)),
     );
     all = λ n less. let a = are.all n less in (a.0, subst (λ m. a.0 < m) (sym whole) a.1, a.2);
   }

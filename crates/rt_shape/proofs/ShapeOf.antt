@@ -14,6 +14,7 @@ use Rattle.rt_shape.specs.Classes.{Joined, AreClasses, IsClosed, IsNumbering, Is
 use Rattle.rt_shape.specs.Classes.Joined.{joined_back, joined_chain}
 use Rattle.rt_shape.proofs.Walks.{Walks, walks, has_walked, one_node, node_of-longer}
 use Rattle.rt_shape.proofs.Walks.Walks.{at_base, at_letter}
+use Rattle.rt_shape.proofs.Within.{walked_within}
 use Rattle.rt_shape.proofs.Models.{HaveOne, IsModel, holds}
 use Rattle.rt_shape.proofs.JoinedSame.{there, same_from_joined}
 use Rattle.rt_shape.proofs.Quotients.{node_on, same_class, same_number, pointers_one}
@@ -35,10 +36,6 @@ is_some_of None n e = absurd (none_some e)
     none_some : None ≡ Some n → ⊥
     none_some f = cc
 is_some_of (Some m) n e = refl
-
-walked_within : (tree : Graph) → IsTree tree → (x : Dtv) (n : ℕ) → Walks tree x n → n < tree.count
-walked_within tree is_tree x n (at_base b e) = is_tree.whole.bases_in b n e
-walked_within tree is_tree x n (at_letter {x = y} {m = m} l w e) = (is_tree.whole.edges_in m l n e).1
 
 module _ (lines : List Line) (tree : Graph) (pairs : List (ℕ × ℕ)) (class number : List ℕ) (shape : Graph)
     (is_tree : IsTree tree) (naming : IsNaming lines tree) (are : ArePairs lines tree pairs)
@@ -79,7 +76,7 @@ module _ (lines : List Line) (tree : Graph) (pairs : List (ℕ × ℕ)) (class n
     joined : (m n : ℕ) → m < tree.count → n < tree.count → slice_index number m ≡ slice_index number n → Joined tree pairs m n
     joined m n less_m less_n e =
         let one = in_class m n less_m less_n e in
-        joined_chain (classes.within m less_m) (classes.sound m less_m) (joined_back (subst (Joined tree pairs n) (sym one) (classes.sound n less_n)))
+        joined_chain (classes.sound m less_m) (joined_back (subst (Joined tree pairs n) (sym one) (classes.sound n less_n)))
 
     -- a node of the shape is the number of a node of the tree whose variable has the shape
     back : (x : Dtv) (k : ℕ) → Walks shape x k → (n : ℕ) × (z : Dtv) × (slice_index number n ≡ k) × (node_of tree z ≡ Some n) × Derivable order lines (Same x z)
@@ -121,10 +118,3 @@ module _ (lines : List Line) (tree : Graph) (pairs : List (ℕ × ℕ)) (class n
     there = λ order x. (there_of_node order x, node_of_there order x);
     one = λ order x y m n e f. (same_of_one order x y m n e f, one_of_same order x y m n e f);
   }
-
--- both nodes of a pair are nodes
-pub pairs_within : (lines : List Line) (tree : Graph) (pairs : List (ℕ × ℕ)) → IsTree tree → ArePairs lines tree pairs → (i j : ℕ) → Contains pairs (i, j) → (i < tree.count) × (j < tree.count)
-pairs_within lines tree pairs is_tree are i j c = by (are.only i j c)
-  where
-    by : (l : Line) × Contains lines l × ((x : Dtv) × (y : Dtv) × Equates l x y × (node_of tree x ≡ Some i) × (node_of tree y ≡ Some j)) → (i < tree.count) × (j < tree.count)
-    by (l, in_lines, (x, y, q, e, f)) = (walked_within tree is_tree x i (walks tree x i e), walked_within tree is_tree y j (walks tree y j f))

@@ -20,7 +20,7 @@ pub data Joined (graph : Graph) (pairs : List (ℕ × ℕ)) : ℕ → ℕ → Ty
   joined_pair : {i j : ℕ} → Contains pairs (i, j) → Joined graph pairs i j
   joined_self : {i : ℕ} → Joined graph pairs i i
   joined_back : {i j : ℕ} → Joined graph pairs i j → Joined graph pairs j i
-  joined_chain : {i j k : ℕ} → j < graph.count → Joined graph pairs i j → Joined graph pairs j k → Joined graph pairs i k
+  joined_chain : {i j k : ℕ} → Joined graph pairs i j → Joined graph pairs j k → Joined graph pairs i k
   joined_letter : {i j m n : ℕ} (l k : Label) → pointed l ≡ pointed k → Joined graph pairs i j → step_of graph i l ≡ Some m → step_of graph j k ≡ Some n → Joined graph pairs m n
 
 -- a class for each node, named by a node that has to be one with it

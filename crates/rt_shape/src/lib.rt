@@ -2,7 +2,11 @@
 //! there are, and which have one shape.
 #![tactic(auto)]
 
+ghost use Rattle.std.specs.Prelude.{IfOk};
+ghost use Rattle.rt_shape.specs.Shapes.{IsShapeOf};
+
 mod closing;
+mod joining;
 pub mod laws;
 mod naming;
 pub mod plain;
@@ -13,5 +17,19 @@ mod tests;
 mod tree;
 mod walking;
 
-pub use plain::of;
+use rt_base::Memory;
+use rt_terms::Line;
 pub use shape::Shape;
+use std::alloc::Global;
+
+/// The graph of what the variables of the lines can do: a variable has a node exactly if the lines derive that it exists,
+/// and two have one node exactly if they derive that the two have one shape. It takes memory linear in the letters of
+/// the lines, and time linear in them but for a logarithm. The error is want of memory.
+pub fn of(alloc: Global, lines: &[Line]) -> Result<Shape, Memory>
+    ensures { IfOk result (IsShapeOf lines.now) }
+{
+    let tree = naming::named(alloc, lines)?;
+    let pairs = naming::pairs(alloc, lines, &tree)?;
+    let class = joining::joined(alloc, &tree, &pairs)?;
+    quotient::shape_of(alloc, &tree, &pairs, class)
+}

@@ -22,16 +22,16 @@ pub loop-class-preserved : goal.loop-class-preserved
 loop-class-preserved c =
     let found = c.in_ok-i.ensures in
     let violated : IsViolated c.args.tree.now c.args.pairs.now c.loop-class.class.items c.in-Some.i c.in-Some.j =
-      subst (λ xs. IsViolated c.args.tree.now c.args.pairs.now xs c.in-Some.i c.in-Some.j) c.deref.ensures.value (rw c.in-Some.is at found) in
+    subst (λ xs. IsViolated c.args.tree.now c.args.pairs.now xs c.in-Some.i c.in-Some.j) c.deref.ensures.value (rw c.in-Some.is at found) in
     let renamed : c.rename.new.class ≡ map (renamed_class (get_or c.loop-class.class.items c.in-Some.i 0) (get_or c.loop-class.class.items c.in-Some.j 0)) c.loop-class.class.items =
-      subst (λ xs. c.rename.new.class ≡ map (renamed_class (get_or xs c.in-Some.i 0) (get_or xs c.in-Some.j 0)) xs) c.deref_mut.ensures.value c.rename.ensures in
+    subst (λ xs. c.rename.new.class ≡ map (renamed_class (get_or xs c.in-Some.i 0) (get_or xs c.in-Some.j 0)) xs) c.deref_mut.ensures.value c.rename.ensures in
     preserved c.args.tree.now c.args.pairs.now c.loop-class.class.items c.rename.new.class c.loop-class.class.len c.in-Some.i c.in-Some.j c.loop-class.invariant violated renamed (omega arith)
 
 pub loop-class-smaller : goal.loop-class-smaller
 loop-class-smaller c =
     let found = c.in_ok-i.ensures in
     let violated : IsViolated c.args.tree.now c.args.pairs.now c.loop-class.class.items c.in-Some.i c.in-Some.j =
-      subst (λ xs. IsViolated c.args.tree.now c.args.pairs.now xs c.in-Some.i c.in-Some.j) c.deref.ensures.value (rw c.in-Some.is at found) in
+    subst (λ xs. IsViolated c.args.tree.now c.args.pairs.now xs c.in-Some.i c.in-Some.j) c.deref.ensures.value (rw c.in-Some.is at found) in
     let renamed : c.rename.new.class ≡ map (renamed_class (get_or c.loop-class.class.items c.in-Some.i 0) (get_or c.loop-class.class.items c.in-Some.j 0)) c.loop-class.class.items =
-      subst (λ xs. c.rename.new.class ≡ map (renamed_class (get_or xs c.in-Some.i 0) (get_or xs c.in-Some.j 0)) xs) c.deref_mut.ensures.value c.rename.ensures in
+    subst (λ xs. c.rename.new.class ≡ map (renamed_class (get_or xs c.in-Some.i 0) (get_or xs c.in-Some.j 0)) xs) c.deref_mut.ensures.value c.rename.ensures in
     falls c.args.tree.now c.args.pairs.now c.loop-class.class.items c.rename.new.class c.loop-class.class.len c.in-Some.i c.in-Some.j c.loop-class.invariant violated renamed (omega arith)

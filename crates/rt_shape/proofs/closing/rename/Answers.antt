@@ -26,10 +26,10 @@ loop-c-preserved c =
     let less : k < length old = omega arith in
     let within : k < length cur = omega arith in
     elim c.if-c-greater.branch [
-      then-c-greater w ↦
-        let now : f (get_or cur k 0) ≡ c.min-lesser.result = is_renamed a b (get_or cur k 0) (w.if-c-greater.true ∙ c.max-greater.ensures) ∙ sym c.min-lesser.ensures in
-        w.class-is ∙ wrote f old cur k c.min-lesser.result less within c.loop-c.invariant now
-    | else-c-greater w ↦
-        let now : f (get_or cur k 0) ≡ get_or cur k 0 = is_kept a b (get_or cur k 0) (λ e. w.if-c-greater.false (e ∙ sym c.max-greater.ensures)) in
-        w.class-is ∙ wrote f old cur k (get_or cur k 0) less within c.loop-c.invariant now
+      | then-c-greater w ↦
+          let now : f (get_or cur k 0) ≡ c.min-lesser.result = is_renamed a b (get_or cur k 0) (w.if-c-greater.true ∙ c.max-greater.ensures) ∙ sym c.min-lesser.ensures in
+          w.class-is ∙ wrote f old cur k c.min-lesser.result less within c.loop-c.invariant now
+      | else-c-greater w ↦
+          let now : f (get_or cur k 0) ≡ get_or cur k 0 = is_kept a b (get_or cur k 0) (λ e. w.if-c-greater.false (e ∙ sym c.max-greater.ensures)) in
+          w.class-is ∙ wrote f old cur k (get_or cur k 0) less within c.loop-c.invariant now
     ]

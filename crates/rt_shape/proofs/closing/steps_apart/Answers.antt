@@ -21,17 +21,17 @@ returns-then-class-other c =
 pub loop-i-preserved : goal.loop-i-preserved
 loop-i-preserved c =
     elim c.match-get.branch [
-      in-Some+else-class-other w ↦
-        rw w.first-is
-        (passes c.args.tree.now c.args.class.now c.loop-i.i c.loop-i.first.entries c.loop-i.invariant c.edge-from.result.0 c.edge-from.result.1 c.edge-from.result.2 c.edge-from.ensures.entry
-        w.in-Some.other.now (subst (λ k. lookup (letter_eq (slice_index c.args.class.now c.edge-from.result.0, k)) c.loop-i.first.entries ≡ Some w.in-Some.other.now) c.pointed.ensures (sym w.in-Some.ensures.value)) w.if-class-other.false)
-    | in-None+in_ok-insert-in-None w ↦
-        let begun = begins_letter c.args.tree.now c.args.class.now c.loop-i.i c.loop-i.first.entries c.loop-i.invariant c.edge-from.result.0 c.edge-from.result.1 c.edge-from.result.2 c.edge-from.ensures.entry
+      | in-Some+else-class-other w ↦
+          rw w.first-is
+          (passes c.args.tree.now c.args.class.now c.loop-i.i c.loop-i.first.entries c.loop-i.invariant c.edge-from.result.0 c.edge-from.result.1 c.edge-from.result.2 c.edge-from.ensures.entry
+          w.in-Some.other.now (subst (λ k. lookup (letter_eq (slice_index c.args.class.now c.edge-from.result.0, k)) c.loop-i.first.entries ≡ Some w.in-Some.other.now) c.pointed.ensures (sym w.in-Some.ensures.value)) w.if-class-other.false)
+      | in-None+in_ok-insert-in-None w ↦
+          let begun = begins_letter c.args.tree.now c.args.class.now c.loop-i.i c.loop-i.first.entries c.loop-i.invariant c.edge-from.result.0 c.edge-from.result.1 c.edge-from.result.2 c.edge-from.ensures.entry
           c.edge-from.ensures.within c.edge-from.ensures.found (subst (λ k. lookup (letter_eq (slice_index c.args.class.now c.edge-from.result.0, k)) c.loop-i.first.entries ≡ None) c.pointed.ensures (sym w.in-None.ensures.value)) w.insert.new.self.entries
           (subst (λ k. (q : ℕ × Label) → lookup (letter_eq q) w.insert.new.self.entries ≡ cond (letter_eq (slice_index c.args.class.now c.edge-from.result.0, k) q) (Some c.edge-from.result.2) (lookup (letter_eq q) c.loop-i.first.entries)) c.pointed.ensures w.in_ok-insert-in-None.ensures.updates.0) in
-        rw w.first-is
-        (passes c.args.tree.now c.args.class.now c.loop-i.i w.insert.new.self.entries begun.0 c.edge-from.result.0 c.edge-from.result.1 c.edge-from.result.2 c.edge-from.ensures.entry
-        c.edge-from.result.2 begun.1 refl)
+          rw w.first-is
+          (passes c.args.tree.now c.args.class.now c.loop-i.i w.insert.new.self.entries begun.0 c.edge-from.result.0 c.edge-from.result.1 c.edge-from.result.2 c.edge-from.ensures.entry
+          c.edge-from.result.2 begun.1 refl)
     ]
 
 pub returns : goal.returns

@@ -2,7 +2,7 @@ use Rattle.std.proofs.Common.{◌≡◌, ℕ, ◌<◌, slice_index, sym, subst, 
 use Rattle.std.proofs.lemmas.Result.{IfOk-weaker}
 use Rattle.rt_shape.specs.Shapes.{ArePairs}
 use Rattle.rt_shape.proofs.Classed.{own_are_classes}
-use Rattle.rt_shape.proofs.ShapeOf.{pairs_within}
+use Rattle.rt_shape.proofs.Within.{pairs_within}
 use Rattle.rt_shape.proofs.plain.of.Goals as goal
 
 pub shape_of-requires-clause-classes : goal.shape_of-requires-clause-classes

@@ -21,7 +21,7 @@ pub returns : goal.returns
 returns c = record {
   on = λ m l n e. IsCarried-all letter_eq letter_equal letter_eq letter_equal letter_self (key_of c.args.number.now) (slice_index c.args.number.now) c.args.tree.now.edges c.loop-i.i c.loop-i.edges.entries c.loop-i.invariant (omega arith) (m, l) n e;
   back = λ i l k e.
-    let f = c.loop-i.invariant.from (i, l) k e in
-    let label : f.0.1 ≡ l = ap (λ (x : ℕ × Label). x.1) f.2 in
-    (f.0.0, f.1, ap (λ (x : ℕ × Label). x.0) f.2, subst (λ k. step_of c.args.tree.now f.0.0 k ≡ Some f.1) label f.3, f.4);
+      let f = c.loop-i.invariant.from (i, l) k e in
+      let label : f.0.1 ≡ l = ap (λ (x : ℕ × Label). x.1) f.2 in
+      (f.0.0, f.1, ap (λ (x : ℕ × Label). x.0) f.2, subst (λ k. step_of c.args.tree.now f.0.0 k ≡ Some f.1) label f.3, f.4);
 }

@@ -15,15 +15,15 @@ loop-c-preserved c =
     let here : get_or class i 0 < length class = All-get_or (λ k. k < length class) class i 0 (omega arith) c.requires.within in
     let sized : length class ≡ length c.loop-c.known.items = sym c.loop-c.invariant.size in
     elim c.match-index.branch [
-      in-Some w ↦
-        rw (c.in_ok-push.ensures.items, w.known-is, w.count-is, w.number-is)
-        (AreNumbered-known class i c.loop-c.known.items c.loop-c.numbers.items c.loop-c.count c.loop-c.invariant w.in-Some.number
-        (read c.loop-c.known.items (get_or class i 0) (length class) c.index.result.now (Some w.in-Some.number) c.index.ensures here sized w.in-Some.is))
-    | in-None w ↦
-        let number : c.match-index.number ≡ c.loop-c.count = omega (arith, w.number-is) in
-        rw (c.in_ok-push.ensures.items, w.known-is, w.count-is, number)
-        (AreNumbered-new class i c.loop-c.known.items c.loop-c.numbers.items c.loop-c.count c.loop-c.invariant here
-        (read c.loop-c.known.items (get_or class i 0) (length class) c.index.result.now None c.index.ensures here sized w.in-None.is))
+      | in-Some w ↦
+          rw (c.in_ok-push.ensures.items, w.known-is, w.count-is, w.number-is)
+          (AreNumbered-known class i c.loop-c.known.items c.loop-c.numbers.items c.loop-c.count c.loop-c.invariant w.in-Some.number
+          (read c.loop-c.known.items (get_or class i 0) (length class) c.index.result.now (Some w.in-Some.number) c.index.ensures here sized w.in-Some.is))
+      | in-None w ↦
+          let number : c.match-index.number ≡ c.loop-c.count = omega (arith, w.number-is) in
+          rw (c.in_ok-push.ensures.items, w.known-is, w.count-is, number)
+          (AreNumbered-new class i c.loop-c.known.items c.loop-c.numbers.items c.loop-c.count c.loop-c.invariant here
+          (read c.loop-c.known.items (get_or class i 0) (length class) c.index.result.now None c.index.ensures here sized w.in-None.is))
     ]
 
 pub returns : goal.returns
