@@ -1,0 +1,77 @@
+// The choice of the existentials that are put away together.
+ghost use Rattle.std.specs.Prelude.{◌≡◌, ◌≢◌, ℕ, List, nat_eq, IfOk, OnOk, MatchOption};
+ghost use Rattle.std.specs.HashMap.{get, ContainsKey};
+ghost use Rattle.std.specs.HashSet.{contains};
+ghost use Rattle.rt_terms.specs.declared.label.Variance.TheVariants.{Co};
+ghost use Rattle.rt_terms.specs.declared.line.Line.{Line};
+ghost use Rattle.rt_terms.specs.declared.variable.Base.TheVariants.{Exist};
+ghost use Rattle.rt_terms.specs.declared.variable.Dtv.{Dtv};
+ghost use Rattle.rt_rules.specs.Put.{IsOnlyUse, IsPutting, use_of};
+ghost use Rattle.rt_solve.specs.Choice.{IsChoice};
+
+use crate::uses::{Use, is_alone, sorted_uses};
+use rt_base::Memory;
+use rt_terms::{Base, Dtv, Line};
+use std::alloc::Global;
+use std::collections::{HashMap, HashSet};
+
+/// What is put in the places of existentials, by their numbers.
+pub type Places = HashMap<u32, Dtv>;
+
+// What the line puts in the place of the existential: Z of another base, where the line is Z <= v.
+fn definition_in(line: &Line, existential: u32) -> Option<&Dtv>
+    ensures { MatchOption result
+        ((z : Dtv) → z.base ≢ Exist existential → line.now ≡ use_of Co existential z → ⊥)
+        (λ z. (z.now.base ≢ Exist existential) × (line.now ≡ use_of Co existential z.now)) }
+{
+    let Line::Sub(definition, defined) = line else {
+        return None;
+    };
+    let base = Base::Exist(existential);
+    if defined.base == base && defined.word.items().is_empty() && definition.base != base {
+        Some(definition)
+    } else {
+        None
+    }
+}
+
+// Puts the definition in the existential's place, unless one of the two stands in the way of what is put already.
+fn put_if_apart(
+    places: &mut Places,
+    bases: &mut HashSet<u32>,
+    existential: u32,
+    definition: &Dtv,
+) -> Result<(), Memory>
+    ensures choice { OnOk result ((lines : List Line) → IsOnlyUse Co existential definition.now lines →
+        IsChoice lines (get nat_eq places.old) (contains nat_eq bases.old) → IsChoice lines (get nat_eq places.new) (contains nat_eq bases.new)) }
+{
+    if bases.contains(&existential) {
+        return Ok(());
+    }
+    if let Base::Exist(base) = definition.base {
+        if places.contains_key(&base) {
+            return Ok(());
+        }
+        bases.insert(base)?;
+    }
+    places.insert(existential, definition.copy()?)?;
+    Ok(())
+}
+
+/// What is put away together: existentials with one defining use, `Z <= v` with Z of another base, of which none is the
+/// base of what is put in the place of another; by rising number, each that can. The error is want of memory.
+pub fn choose(alloc: Global, lines: &[Line]) -> Result<Places, Memory>
+    ensures putting { IfOk result (λ places. IsPutting (get nat_eq places) lines.now) }
+{
+    let uses = sorted_uses(alloc, lines)?;
+    let mut places = HashMap::new(alloc);
+    let mut bases = HashSet::new(alloc);
+    for (i, defining) in uses.iter().enumerate() {
+        if is_alone(&uses, i) {
+            if let Some(definition) = definition_in(&lines[defining.line], defining.existential) {
+                put_if_apart(&mut places, &mut bases, defining.existential, definition)?;
+            }
+        }
+    }
+    Ok(places)
+}

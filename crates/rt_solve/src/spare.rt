@@ -1,0 +1,127 @@
+// `var` lines that other lines cover.
+ghost use Rattle.std.specs.Prelude.{◌≡◌, ℕ, ◌<◌, Contains, length, IfOk, OnOk, IsTrue};
+ghost use Rattle.rt_terms.specs.declared.line.Line.{Line};
+ghost use Rattle.rt_terms.specs.Orders.{Below};
+ghost use Rattle.rt_rules.specs.Rules.{Derivable};
+ghost use Rattle.rt_solve.specs.Sides.{AddsSide, AddsSides, AreSides, IsCovered, IsFront};
+ghost use Rattle.rt_solve.specs.Tidy.{kept};
+ghost use Rattle.rt_solve.specs.Told.{TellsSame};
+
+use rt_base::{Memory, Sequence};
+use rt_terms::{Dtv, Line, Lines};
+use rt_texts::print_variable;
+use std::alloc::Global;
+
+// A side of a line.
+#[derive(Drop)]
+struct Side {
+    text: Vec<u8>,
+    variable: Dtv,
+    // The index of the line, where the line is a `var`.
+    own: Option<usize>,
+}
+
+// Adds a side at the end.
+fn push_side(alloc: Global, variable: &Dtv, own: Option<usize>, sides: &mut Vec<Side>) -> Result<(), Memory>
+    ensures { OnOk result (AddsSide variable.now own sides.old.items sides.new.items) }
+{
+    let mut text = Vec::new(alloc);
+    print_variable(variable, &mut text)?;
+    sides.push(Side {
+        text,
+        variable: variable.copy()?,
+        own,
+    })?;
+    Ok(())
+}
+
+// Adds the sides of the line at the index.
+fn push_sides(alloc: Global, line: &Line, index: usize, sides: &mut Vec<Side>) -> Result<(), Memory>
+    ensures { OnOk result (AddsSides index line.now sides.old.items sides.new.items) }
+{
+    match line {
+        Line::Var(x) => push_side(alloc, x, Some(index), sides),
+        Line::Same(x, y) | Line::Sub(x, y) => {
+            push_side(alloc, x, None, sides)?;
+            push_side(alloc, y, None, sides)
+        }
+        Line::Low(_, x) | Line::Up(x, _) => push_side(alloc, x, None, sides),
+    }
+}
+
+// The sides, in the order of the lines.
+fn sides_in_order(alloc: Global, lines: &[Line]) -> Result<Vec<Side>, Memory>
+    ensures { IfOk result (λ sides. AreSides lines.now sides.items) }
+{
+    let mut sides = Vec::new(alloc);
+    for (i, line) in lines.iter().enumerate() {
+        push_sides(alloc, line, i, &mut sides)?;
+    }
+    Ok(sides)
+}
+
+// The sides of the lines by their texts. A `var` line's own side stands before an equal side of another line.
+fn sorted_sides(alloc: Global, lines: &[Line]) -> Result<Vec<Side>, Memory>
+    ensures { IfOk result (λ sides. AreSides lines.now sides.items) }
+{
+    let mut sides = sides_in_order(alloc, lines)?;
+    sides.sort_by(|a, b| a.text.cmp(&b.text).then(a.own.is_none().cmp(&b.own.is_none())))?;
+    Ok(sides)
+}
+
+// Whether the second variable is the first one with more letters, or none.
+fn is_front(front: &Dtv, whole: &Dtv) -> bool
+    ensures { IsTrue result → IsFront front.now whole.now }
+{
+    front.base == whole.base && whole.word.items().starts_with(front.word.items())
+}
+
+// Whether the next side has the side at the index as a front.
+fn is_covered(sides: &[Side], index: usize) -> bool
+    requires { index < length sides.now }
+    ensures { IsTrue result → IsCovered sides.now index }
+{
+    index + 1 < sides.len() && is_front(&sides[index].variable, &sides[index + 1].variable)
+}
+
+// For each line, whether it stays. A side that has a front among the sides stands directly behind it or behind another
+// one that has it, so the next side tells whether a `var` line is covered.
+fn which_stay(alloc: Global, lines: &[Line], sides: &[Side]) -> Result<Vec<bool>, Memory>
+    requires { AreSides lines.now sides.now }
+    ensures len { IfOk result (λ stay. length stay.items ≡ length lines.now) }
+    ensures derived { IfOk result (λ stay. (order : Below) (l : Line) → Contains lines.now l → Derivable order (kept lines.now stay.items) l) }
+{
+    let mut stay: Vec<bool> = lines.iter().map(|line| !matches!(line, Line::Var(_))).collect(alloc)?;
+    for i in (0..sides.len()).rev() {
+        if let Some(line) = sides[i].own {
+            if !is_covered(sides, i) {
+                stay[line] = true;
+            }
+        }
+    }
+    Ok(stay)
+}
+
+// The lines that stay, in their order.
+fn keep(alloc: Global, lines: Lines, stay: &[bool]) -> Result<Lines, Memory>
+    requires { length stay.now ≡ length lines }
+    ensures { IfOk result (λ r. r ≡ kept lines stay.now) }
+{
+    let mut kept = Vec::new(alloc);
+    for (i, line) in lines.items().iter().enumerate() {
+        if stay[i] {
+            kept.push(line.copy()?)?;
+        }
+    }
+    Ok(Sequence::from_vec(kept))
+}
+
+/// The lines without the `var` lines whose variable is a front of the variable of another line. The error is want of
+/// memory.
+pub fn without_spare(alloc: Global, lines: Lines) -> Result<Lines, Memory>
+    ensures { IfOk result (TellsSame lines) }
+{
+    let sides = sorted_sides(alloc, lines.items())?;
+    let stay = which_stay(alloc, lines.items(), &sides)?;
+    keep(alloc, lines, &stay)
+}

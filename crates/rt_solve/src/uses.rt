@@ -1,0 +1,99 @@
+// The uses that define existentials.
+ghost use Rattle.std.specs.Prelude.{◌≡◌, ◌↔◌, ℕ, ◌<◌, ◌++◌, length, map, IfOk, OnOk, IsTrue, Some};
+ghost use Rattle.std.specs.Option.{option_to_list};
+ghost use Rattle.std.specs.List.Sorted.{IsNonDecreasingBy};
+ghost use Rattle.rt_solve.specs.Uses.{AreUses, DefinesLeft, DefinesRight, IsAlone, IsExistAt};
+
+use rt_base::Memory;
+use rt_terms::{Base, Dtv, Line, Variance, variance_of};
+use std::alloc::Global;
+
+/// A use that defines an existential.
+#[derive(Clone, Copy)]
+pub struct Use {
+    /// The existential's number.
+    pub existential: u32,
+    /// The index of the line in which the use stands.
+    pub line: usize,
+}
+
+// The existential of the variable, where the variable's word has the sign.
+fn existential_at(variable: &Dtv, sign: Variance) -> Option<u32>
+    ensures { (n : ℕ) → (result ≡ Some n) ↔ IsExistAt n sign variable.now }
+{
+    match variable.base {
+        Base::Exist(n) => {
+            if variance_of(&variable.word) == sign {
+                Some(n)
+            } else {
+                None
+            }
+        }
+        _ => None,
+    }
+}
+
+// The existential that the line defines on its left.
+fn defined_left(line: &Line) -> Option<u32>
+    ensures { (n : ℕ) → (result ≡ Some n) ↔ DefinesLeft n line.now }
+{
+    match line {
+        Line::Sub(x, _) | Line::Up(x, _) => existential_at(x, Variance::Contra),
+        _ => None,
+    }
+}
+
+// The existential that the line defines on its right.
+fn defined_right(line: &Line) -> Option<u32>
+    ensures { (n : ℕ) → (result ≡ Some n) ↔ DefinesRight n line.now }
+{
+    match line {
+        Line::Sub(_, x) | Line::Low(_, x) => existential_at(x, Variance::Co),
+        _ => None,
+    }
+}
+
+// Adds the use of the existential in the line at the index, if there is one.
+fn push_use(uses: &mut Vec<Use>, existential: Option<u32>, line: usize) -> Result<(), Memory>
+    ensures { OnOk result
+        (uses.new.items ≡ uses.old.items ++ map (λ n. record { existential = n; line = line }) (option_to_list existential)) }
+{
+    if let Some(existential) = existential {
+        uses.push(Use { existential, line })?;
+    }
+    Ok(())
+}
+
+// The uses, in the order of the lines.
+fn uses_in_order(alloc: Global, lines: &[Line]) -> Result<Vec<Use>, Memory>
+    ensures { IfOk result (λ uses. AreUses lines.now uses.items) }
+{
+    let mut uses = Vec::new(alloc);
+    for (i, line) in lines.iter().enumerate() {
+        push_use(&mut uses, defined_left(line), i)?;
+        push_use(&mut uses, defined_right(line), i)?;
+    }
+    Ok(uses)
+}
+
+/// The uses that define existentials, by rising number of the existential. The error is want of memory.
+pub fn sorted_uses(alloc: Global, lines: &[Line]) -> Result<Vec<Use>, Memory>
+    ensures uses { IfOk result (λ uses. AreUses lines.now uses.items) }
+    ensures sorted { IfOk result (λ uses. IsNonDecreasingBy (λ u. u.existential) uses.items) }
+{
+    let mut uses = uses_in_order(alloc, lines)?;
+    uses.sort_by_key(|defining| defining.existential)?;
+    Ok(uses)
+}
+
+/// Whether no other use defines the existential of the use at the index. The uses stand by rising number.
+pub fn is_alone(uses: &[Use], index: usize) -> bool
+    requires within { index < length uses.now }
+    requires sorted { IsNonDecreasingBy (λ u. u.existential) uses.now }
+    ensures { IsTrue result ↔ IsAlone uses.now index }
+{
+    let existential = uses[index].existential;
+    let is_first = index == 0 || uses[index - 1].existential != existential;
+    let is_last = index + 1 == uses.len() || uses[index + 1].existential != existential;
+    is_first && is_last
+}
