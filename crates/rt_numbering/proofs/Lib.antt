@@ -1,0 +1,4 @@
+mod Places
+pub mod Distinct
+pub mod Deduplicating
+pub mod Numbers

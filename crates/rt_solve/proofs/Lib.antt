@@ -1,1 +1,8 @@
 pub mod Told
+pub mod Using
+pub mod Choosing
+pub mod Kept
+pub mod Fronts
+pub mod Sparing
+pub mod Staying
+pub mod Sorting

@@ -23,6 +23,9 @@ use Rattle.rt_rules.proofs.Lists.{Contains-map, Contains-map_source, All-from_co
 use Rattle.rt_rules.proofs.Carry.{given, HasSide-map}
 use Rattle.rt_rules.proofs.Covering.{exchange, Alike-refl, Alike-trans}
 use Rattle.rt_rules.proofs.Putting.{putting_lem}
+use Rattle.rt_numbering.specs.Numbering.{deduplicated, numbered}
+use Rattle.rt_numbering.proofs.Deduplicating.{deduplicated-has, deduplicated-source}
+use Rattle.rt_numbering.proofs.Numbers.{numbering_lem, numbered-constants, numbered-bases}
 use Rattle.rt_solve.specs.Told.{IsExist, TellsSame}
 use Rattle.rt_solve.specs.Tidy.{without_self}
 
@@ -161,3 +164,20 @@ TellsSame-without_self lines = record {
   bases = λ b names. let s = Contains-map_source without_self lines names.0 names.2 in
       inr (s.0, names.1, s.1, HasSide-without_self s.0 names.1 (subst (λ l. HasSide l names.1) (sym s.2) names.3), names.4);
 }
+
+-- each line once tells the same
+pub TellsSame-deduplicated : (lines : List Line) → TellsSame lines (deduplicated lines)
+TellsSame-deduplicated lines =
+    TellsSame-part lines (deduplicated lines) (deduplicated-source lines) (λ order l c. given order (deduplicated lines) l (deduplicated-has lines l c))
+
+-- numbers of existentials tell nothing
+pub TellsSame-numbered : (lines : List Line) → TellsSame lines (numbered lines)
+TellsSame-numbered lines = record {
+  alike = λ order p. numbering_lem order (is_inside_for p) lines (λ n. refl);
+  constants = λ count all. numbered-constants count lines all;
+  bases = λ b names. by_cases b (numbered-bases lines b names);
+}
+  where
+    by_cases : (b : Base) → NamesBase lines b ⊎ ((n : ℕ) × (b ≡ Exist n)) → IsExist b ⊎ NamesBase lines b
+    by_cases b (inl names) = inr names
+    by_cases b (inr (n, e)) = inl (subst IsExist (sym e) tt)

@@ -5,8 +5,7 @@ use Rattle.rt_terms.specs.declared.variable.Dtv.{Dtv}
 use Rattle.rt_terms.specs.declared.line.Line.{Line}
 use Rattle.rt_rules.specs.Put.{IsPutting}
 
--- what is in places of existentials may be put there, and its bases are among the known ones, each of which comes from a place
+-- what is in places of existentials may be put there, and its bases are among the known ones
 pub record IsChoice (lines : List Line) (place : ℕ → Option Dtv) (is_base : ℕ → Bool) : Type 0 where
   pub putting : IsPutting place lines
   pub known : (n m : ℕ) (z : Dtv) → place n ≡ Some z → z.base ≡ Exist m → is_base m ≡ true
-  pub taken : (m : ℕ) → is_base m ≡ true → (n : ℕ) × (z : Dtv) × (place n ≡ Some z)

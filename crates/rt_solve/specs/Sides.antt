@@ -1,5 +1,5 @@
 -- The sides of lines.
-use Rattle.std.specs.Prelude.{◌≡◌, ℕ, ◌+◌, ◌<◌, List, [], ◌∷◌, ◌++◌, All, Contains, Option, Some, None, length, slice_index_or}
+use Rattle.std.specs.Prelude.{◌≡◌, ℕ, ◌+◌, ◌<◌, List, [], ◌∷◌, ◌++◌, All, Contains, Bool, true, false, Option, Some, None, length, slice_index_or}
 use Rattle.std.specs.List.{HoldsAt}
 use Rattle.rt_terms.specs.declared.label.Label.{Label}
 use Rattle.rt_terms.specs.declared.variable.Dtv.{Dtv}
@@ -8,6 +8,14 @@ use Rattle.rt_terms.specs.declared.line.Line.TheVariants.{Var, Same, Sub, Low, U
 use Rattle.rt_texts.specs.Texts.{dtv_text}
 use Rattle.rt_rules.specs.Rules.{extended, HasSide}
 use Rattle.rt_solve.specs.declared.spare.Side.{Side}
+
+-- whether the line is a `var`
+abbrev pub is_var : Line → Bool
+is_var (Var x) = true
+is_var (Same x y) = false
+is_var (Sub x y) = false
+is_var (Low k x) = false
+is_var (Up x k) = false
 
 -- the index of the line, where the line is a `var`
 abbrev pub own_of : ℕ → Line → Option ℕ
@@ -54,6 +62,10 @@ pub record AddsSide (variable : Dtv) (own : Option ℕ) (old new : List Side) : 
   pub variable_is : side.variable ≡ variable
   pub own_is : side.own ≡ own
   pub text_is : side.text.items ≡ dtv_text variable
+
+-- sides of two variables, of a line that is no `var`, are added at the end
+abbrev pub AddsTwo : Dtv → Dtv → List Side → List Side → Type 0
+AddsTwo left right old new = (between : List Side) × AddsSide left None old between × AddsSide right None between new
 
 -- the second variable is the first with more letters, or none
 abbrev pub IsFront : Dtv → Dtv → Type 0

@@ -1,5 +1,5 @@
 -- The uses that define the existentials of lines.
-use Rattle.std.specs.Prelude.{◌≡◌, ◌≢◌, ℕ, ◌<◌, List, All, Contains, length, slice_index_or}
+use Rattle.std.specs.Prelude.{◌≡◌, ◌≢◌, ℕ, ◌<◌, ◌+◌, ◌-◌, List, All, Contains, length, slice_index_or}
 use Rattle.std.specs.List.{HoldsAt}
 use Rattle.rt_terms.specs.declared.label.Variance.{Variance}
 use Rattle.rt_terms.specs.declared.label.Variance.TheVariants.{Co, Contra}
@@ -43,6 +43,14 @@ pub record AreUsesBelow (lines : List Line) (high : ℕ) (uses : List Use) : Typ
 -- the defining uses of the lines
 abbrev pub AreUses : List Line → List Use → Type 0
 AreUses lines uses = AreUsesBelow lines (length lines) uses
+
+-- the use before the one at the index, if there is one, is of another existential
+abbrev pub IsFirst : List Use → ℕ → Type 0
+IsFirst uses index = (d : Use) → 0 < index → (slice_index_or uses (index - 1) d).existential ≢ (slice_index_or uses index d).existential
+
+-- the use after the one at the index, if there is one, is of another existential
+abbrev pub IsLast : List Use → ℕ → Type 0
+IsLast uses index = (d : Use) → index + 1 < length uses → (slice_index_or uses (index + 1) d).existential ≢ (slice_index_or uses index d).existential
 
 -- no other use is of the existential of the one at the index
 abbrev pub IsAlone : List Use → ℕ → Type 0

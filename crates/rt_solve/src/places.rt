@@ -1,5 +1,5 @@
 // The choice of the existentials that are put away together.
-ghost use Rattle.std.specs.Prelude.{◌≡◌, ◌≢◌, ℕ, List, nat_eq, IfOk, OnOk, MatchOption};
+ghost use Rattle.std.specs.Prelude.{◌≡◌, ◌≢◌, ℕ, List, false, nat_eq, true, IfOk, OnOk, MatchOption};
 ghost use Rattle.std.specs.HashMap.{get, ContainsKey};
 ghost use Rattle.std.specs.HashSet.{contains};
 ghost use Rattle.rt_terms.specs.declared.label.Variance.TheVariants.{Co};
@@ -35,6 +35,27 @@ fn definition_in(line: &Line, existential: u32) -> Option<&Dtv>
     }
 }
 
+// Whether the base is an existential in whose place something is put.
+fn has_place(places: &Places, base: Base) -> bool
+    ensures { result ≡ false → (n : ℕ) → base ≡ Exist n → get nat_eq places.now n ≡ None }
+{
+    match base {
+        Base::Exist(n) => places.contains_key(&n),
+        _ => false,
+    }
+}
+
+// Adds the base to the known ones, where it is an existential.
+fn note_base(bases: &mut HashSet<u32>, base: Base) -> Result<(), Memory>
+    ensures kept { OnOk result ((n : ℕ) → contains nat_eq bases.old n ≡ true → contains nat_eq bases.new n ≡ true) }
+    ensures noted { OnOk result ((n : ℕ) → base ≡ Exist n → contains nat_eq bases.new n ≡ true) }
+{
+    if let Base::Exist(n) = base {
+        bases.insert(n)?;
+    }
+    Ok(())
+}
+
 // Puts the definition in the existential's place, unless one of the two stands in the way of what is put already.
 fn put_if_apart(
     places: &mut Places,
@@ -45,15 +66,10 @@ fn put_if_apart(
     ensures choice { OnOk result ((lines : List Line) → IsOnlyUse Co existential definition.now lines →
         IsChoice lines (get nat_eq places.old) (contains nat_eq bases.old) → IsChoice lines (get nat_eq places.new) (contains nat_eq bases.new)) }
 {
-    if bases.contains(&existential) {
+    if bases.contains(&existential) || has_place(places, definition.base) {
         return Ok(());
     }
-    if let Base::Exist(base) = definition.base {
-        if places.contains_key(&base) {
-            return Ok(());
-        }
-        bases.insert(base)?;
-    }
+    note_base(bases, definition.base)?;
     places.insert(existential, definition.copy()?)?;
     Ok(())
 }

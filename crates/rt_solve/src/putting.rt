@@ -71,6 +71,10 @@ fn self_to_var(line: Line) -> Line
 pub fn selves_to_vars(alloc: Global, lines: Lines) -> Result<Lines, Memory>
     ensures { IfOk result (λ r. r ≡ map without_self lines) }
 {
-    let plain: Vec<Line> = lines.into_vec().into_iter().map(self_to_var).collect(alloc)?;
+    let plain: Vec<Line> = lines
+        .into_vec()
+        .into_iter()
+        .map(self_to_var)
+        .collect(alloc)?;
     Ok(Sequence::from_vec(plain))
 }

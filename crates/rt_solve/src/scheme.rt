@@ -32,10 +32,10 @@ fn put_away(alloc: Global, lines: Lines) -> Result<Lines, Memory>
     ensures { IfOk result (TellsSame lines) }
 {
     let mut lines = tidy(alloc, lines)?;
-    for _ in 0..=lines.len() {
+    for _ in 0..lines.len() {
         let places = choose(alloc, lines.items())?;
         if places.is_empty() {
-            break;
+            return Ok(lines);
         }
         let put = put_in_lines(alloc, lines.items(), &places)?;
         lines = tidy(alloc, put)?;

@@ -1,9 +1,9 @@
 // `var` lines that other lines cover.
-ghost use Rattle.std.specs.Prelude.{◌≡◌, ℕ, ◌<◌, Contains, length, IfOk, OnOk, IsTrue};
+ghost use Rattle.std.specs.Prelude.{◌≡◌, ◌↔◌, ℕ, ◌<◌, Contains, length, map, not, IfOk, OnOk, IsTrue};
 ghost use Rattle.rt_terms.specs.declared.line.Line.{Line};
 ghost use Rattle.rt_terms.specs.Orders.{Below};
 ghost use Rattle.rt_rules.specs.Rules.{Derivable};
-ghost use Rattle.rt_solve.specs.Sides.{AddsSide, AddsSides, AreSides, IsCovered, IsFront};
+ghost use Rattle.rt_solve.specs.Sides.{AddsSide, AddsSides, AddsTwo, AreSides, IsCovered, IsFront, is_var};
 ghost use Rattle.rt_solve.specs.Tidy.{kept};
 ghost use Rattle.rt_solve.specs.Told.{TellsSame};
 
@@ -22,7 +22,12 @@ struct Side {
 }
 
 // Adds a side at the end.
-fn push_side(alloc: Global, variable: &Dtv, own: Option<usize>, sides: &mut Vec<Side>) -> Result<(), Memory>
+fn push_side(
+    alloc: Global,
+    variable: &Dtv,
+    own: Option<usize>,
+    sides: &mut Vec<Side>,
+) -> Result<(), Memory>
     ensures { OnOk result (AddsSide variable.now own sides.old.items sides.new.items) }
 {
     let mut text = Vec::new(alloc);
@@ -35,17 +40,29 @@ fn push_side(alloc: Global, variable: &Dtv, own: Option<usize>, sides: &mut Vec<
     Ok(())
 }
 
+// Adds both sides of a line that is no `var`.
+fn push_two_sides(
+    alloc: Global,
+    left: &Dtv,
+    right: &Dtv,
+    sides: &mut Vec<Side>,
+) -> Result<(), Memory>
+    ensures { OnOk result (AddsTwo left.now right.now sides.old.items sides.new.items) }
+{
+    push_side(alloc, left, None, sides)?;
+    push_side(alloc, right, None, sides)
+}
+
 // Adds the sides of the line at the index.
 fn push_sides(alloc: Global, line: &Line, index: usize, sides: &mut Vec<Side>) -> Result<(), Memory>
     ensures { OnOk result (AddsSides index line.now sides.old.items sides.new.items) }
 {
     match line {
         Line::Var(x) => push_side(alloc, x, Some(index), sides),
-        Line::Same(x, y) | Line::Sub(x, y) => {
-            push_side(alloc, x, None, sides)?;
-            push_side(alloc, y, None, sides)
-        }
-        Line::Low(_, x) | Line::Up(x, _) => push_side(alloc, x, None, sides),
+        Line::Same(x, y) => push_two_sides(alloc, x, y, sides),
+        Line::Sub(x, y) => push_two_sides(alloc, x, y, sides),
+        Line::Low(_, x) => push_side(alloc, x, None, sides),
+        Line::Up(x, _) => push_side(alloc, x, None, sides),
     }
 }
 
@@ -65,13 +82,16 @@ fn sorted_sides(alloc: Global, lines: &[Line]) -> Result<Vec<Side>, Memory>
     ensures { IfOk result (λ sides. AreSides lines.now sides.items) }
 {
     let mut sides = sides_in_order(alloc, lines)?;
-    sides.sort_by(|a, b| a.text.cmp(&b.text).then(a.own.is_none().cmp(&b.own.is_none())))?;
+    sides.sort_by(|a, b| a
+        .text
+        .cmp(&b.text)
+        .then(a.own.is_none().cmp(&b.own.is_none())))?;
     Ok(sides)
 }
 
 // Whether the second variable is the first one with more letters, or none.
 fn is_front(front: &Dtv, whole: &Dtv) -> bool
-    ensures { IsTrue result → IsFront front.now whole.now }
+    ensures { IsTrue result ↔ IsFront front.now whole.now }
 {
     front.base == whole.base && whole.word.items().starts_with(front.word.items())
 }
@@ -79,9 +99,27 @@ fn is_front(front: &Dtv, whole: &Dtv) -> bool
 // Whether the next side has the side at the index as a front.
 fn is_covered(sides: &[Side], index: usize) -> bool
     requires { index < length sides.now }
-    ensures { IsTrue result → IsCovered sides.now index }
+    ensures { IsTrue result ↔ IsCovered sides.now index }
 {
     index + 1 < sides.len() && is_front(&sides[index].variable, &sides[index + 1].variable)
+}
+
+// Whether the line says more than that a variable exists.
+fn is_no_var(line: &Line) -> bool
+    ensures { result ≡ not (is_var line.now) }
+{
+    !matches!(line, Line::Var(_))
+}
+
+// For each line, whether it says more than that a variable exists.
+fn which_say_more(alloc: Global, lines: &[Line]) -> Result<Vec<bool>, Memory>
+    ensures { IfOk result (λ flags. flags.items ≡ map (λ l. not (is_var l)) lines.now) }
+{
+    let mut flags = Vec::with_capacity(alloc, lines.len())?;
+    for line in lines {
+        flags.push(is_no_var(line))?;
+    }
+    Ok(flags)
 }
 
 // For each line, whether it stays. A side that has a front among the sides stands directly behind it or behind another
@@ -91,7 +129,7 @@ fn which_stay(alloc: Global, lines: &[Line], sides: &[Side]) -> Result<Vec<bool>
     ensures len { IfOk result (λ stay. length stay.items ≡ length lines.now) }
     ensures derived { IfOk result (λ stay. (order : Below) (l : Line) → Contains lines.now l → Derivable order (kept lines.now stay.items) l) }
 {
-    let mut stay: Vec<bool> = lines.iter().map(|line| !matches!(line, Line::Var(_))).collect(alloc)?;
+    let mut stay = which_say_more(alloc, lines)?;
     for i in (0..sides.len()).rev() {
         if let Some(line) = sides[i].own {
             if !is_covered(sides, i) {

@@ -79,7 +79,11 @@ fn one_definition(alloc: Global) -> Result<Lines, Memory>
     ensures { IfOk result (All (HasConstantsBelow 0)) }
 {
     let mut lines = Lines::new(alloc);
-    push_sub(&mut lines, loaded(argument(alloc, 0)?)?, existential(alloc, 0))?;
+    push_sub(
+        &mut lines,
+        loaded(argument(alloc, 0)?)?,
+        existential(alloc, 0),
+    )?;
     push_sub(&mut lines, existential(alloc, 0), returned(alloc)?)?;
     Ok(lines)
 }
@@ -89,8 +93,16 @@ fn unused(alloc: Global) -> Result<Lines, Memory>
     ensures { IfOk result (All (HasConstantsBelow 0)) }
 {
     let mut lines = Lines::new(alloc);
-    push_sub(&mut lines, loaded(argument(alloc, 0)?)?, existential(alloc, 0))?;
-    push_sub(&mut lines, loaded(argument(alloc, 0)?)?, existential(alloc, 1))?;
+    push_sub(
+        &mut lines,
+        loaded(argument(alloc, 0)?)?,
+        existential(alloc, 0),
+    )?;
+    push_sub(
+        &mut lines,
+        loaded(argument(alloc, 0)?)?,
+        existential(alloc, 1),
+    )?;
     Ok(lines)
 }
 
@@ -112,7 +124,11 @@ fn list_walk(alloc: Global) -> Result<Lines, Memory>
     let mut lines = Lines::new(alloc);
     push_sub(&mut lines, argument(alloc, 0)?, existential(alloc, 0))?;
     push_sub(&mut lines, existential(alloc, 1), existential(alloc, 0))?;
-    push_sub(&mut lines, loaded(existential(alloc, 0))?, existential(alloc, 1))?;
+    push_sub(
+        &mut lines,
+        loaded(existential(alloc, 0))?,
+        existential(alloc, 1),
+    )?;
     push_sub(&mut lines, existential(alloc, 1), returned(alloc)?)?;
     Ok(lines)
 }
@@ -124,9 +140,17 @@ fn chain(alloc: Global, count: u32) -> Result<Lines, Memory>
     let mut lines = Lines::new(alloc);
     push_sub(&mut lines, argument(alloc, 0)?, existential(alloc, 0))?;
     for i in 1..count {
-        push_sub(&mut lines, loaded(existential(alloc, i - 1))?, existential(alloc, i))?;
+        push_sub(
+            &mut lines,
+            loaded(existential(alloc, i - 1))?,
+            existential(alloc, i),
+        )?;
     }
-    push_sub(&mut lines, existential(alloc, count.saturating_sub(1)), returned(alloc)?)?;
+    push_sub(
+        &mut lines,
+        existential(alloc, count.saturating_sub(1)),
+        returned(alloc)?,
+    )?;
     Ok(lines)
 }
 
@@ -144,7 +168,10 @@ fn chain_text(alloc: Global, count: u32) -> Result<Vec<u8>, Memory> {
 fn puts_definitions_in_place(rt: HostRuntime) -> Result<(), Fail> {
     let alloc = rt.alloc();
     let text = scheme_text(alloc, one_definition(alloc)?)?;
-    assert_eq!(rt; text.as_slice(), b"f0.in_a0.load.s32@0 <= f0.out_a0\n".as_slice());
+    assert_eq!(rt;
+        text.as_slice(),
+        b"f0.in_a0.load.s32@0 <= f0.out_a0\n".as_slice()
+    );
     let text = scheme_text(alloc, unused(alloc)?)?;
     assert_eq!(rt; text.as_slice(), b"var f0.in_a0.load.s32@0\n".as_slice());
     let text = scheme_text(alloc, Lines::new(alloc))?;

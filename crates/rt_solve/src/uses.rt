@@ -2,7 +2,7 @@
 ghost use Rattle.std.specs.Prelude.{◌≡◌, ◌↔◌, ℕ, ◌<◌, ◌++◌, length, map, IfOk, OnOk, IsTrue, Some};
 ghost use Rattle.std.specs.Option.{option_to_list};
 ghost use Rattle.std.specs.List.Sorted.{IsNonDecreasingBy};
-ghost use Rattle.rt_solve.specs.Uses.{AreUses, DefinesLeft, DefinesRight, IsAlone, IsExistAt};
+ghost use Rattle.rt_solve.specs.Uses.{AreUses, DefinesLeft, DefinesRight, IsAlone, IsExistAt, IsFirst, IsLast};
 
 use rt_base::Memory;
 use rt_terms::{Base, Dtv, Line, Variance, variance_of};
@@ -38,7 +38,8 @@ fn defined_left(line: &Line) -> Option<u32>
     ensures { (n : ℕ) → (result ≡ Some n) ↔ DefinesLeft n line.now }
 {
     match line {
-        Line::Sub(x, _) | Line::Up(x, _) => existential_at(x, Variance::Contra),
+        Line::Sub(x, _) => existential_at(x, Variance::Contra),
+        Line::Up(x, _) => existential_at(x, Variance::Contra),
         _ => None,
     }
 }
@@ -48,7 +49,8 @@ fn defined_right(line: &Line) -> Option<u32>
     ensures { (n : ℕ) → (result ≡ Some n) ↔ DefinesRight n line.now }
 {
     match line {
-        Line::Sub(_, x) | Line::Low(_, x) => existential_at(x, Variance::Co),
+        Line::Sub(_, x) => existential_at(x, Variance::Co),
+        Line::Low(_, x) => existential_at(x, Variance::Co),
         _ => None,
     }
 }
@@ -86,14 +88,27 @@ pub fn sorted_uses(alloc: Global, lines: &[Line]) -> Result<Vec<Use>, Memory>
     Ok(uses)
 }
 
+// Whether the use before the one at the index, if there is one, is of another existential.
+fn is_first(uses: &[Use], index: usize) -> bool
+    requires { index < length uses.now }
+    ensures { IsTrue result ↔ IsFirst uses.now index }
+{
+    index == 0 || uses[index - 1].existential != uses[index].existential
+}
+
+// Whether the use after the one at the index, if there is one, is of another existential.
+fn is_last(uses: &[Use], index: usize) -> bool
+    requires { index < length uses.now }
+    ensures { IsTrue result ↔ IsLast uses.now index }
+{
+    index + 1 == uses.len() || uses[index + 1].existential != uses[index].existential
+}
+
 /// Whether no other use defines the existential of the use at the index. The uses stand by rising number.
 pub fn is_alone(uses: &[Use], index: usize) -> bool
     requires within { index < length uses.now }
     requires sorted { IsNonDecreasingBy (λ u. u.existential) uses.now }
     ensures { IsTrue result ↔ IsAlone uses.now index }
 {
-    let existential = uses[index].existential;
-    let is_first = index == 0 || uses[index - 1].existential != existential;
-    let is_last = index + 1 == uses.len() || uses[index + 1].existential != existential;
-    is_first && is_last
+    is_first(uses, index) && is_last(uses, index)
 }

@@ -1,0 +1,19 @@
+use Rattle.std.proofs.Common.{List, Contains, sym, subst, ap, ◌∙◌}
+use Rattle.std.proofs.lemmas.Result.{IfOk-weaker}
+use Rattle.rt_terms.specs.declared.line.Line.{Line}
+use Rattle.rt_terms.specs.Orders.{Below}
+use Rattle.rt_rules.specs.Rules.{Derivable}
+use Rattle.rt_solve.specs.Tidy.{kept}
+use Rattle.rt_solve.specs.Told.{TellsSame}
+use Rattle.rt_solve.proofs.Kept.{kept_source}
+use Rattle.rt_solve.proofs.Told.{TellsSame-part}
+use Rattle.rt_solve.proofs.spare.without_spare.Goals as goal
+
+pub returns : goal.returns
+returns c =
+    let derived : (order : Below) (l : Line) → Contains c.args.lines l → Derivable order (kept c.args.lines c.in_ok-stay.stay.items) l =
+    subst (λ (lines : List Line). (order : Below) (l : Line) → Contains lines l → Derivable order (kept lines c.in_ok-stay.stay.items) l) c.items-2.ensures c.in_ok-stay.ensures.derived in
+    IfOk-weaker c.keep.result _ (TellsSame c.args.lines)
+    (λ r e. subst (TellsSame c.args.lines) (sym (e ∙ ap (kept c.args.lines) c.deref-2.ensures.value))
+    (TellsSame-part c.args.lines (kept c.args.lines c.in_ok-stay.stay.items) (kept_source c.args.lines c.in_ok-stay.stay.items) derived))
+    c.keep.ensures
