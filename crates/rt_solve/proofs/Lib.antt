@@ -1,8 +1,11 @@
 pub mod Told
+pub mod Distinct
 pub mod Using
 pub mod Choosing
 pub mod Kept
 pub mod Fronts
 pub mod Sparing
 pub mod Staying
+pub mod Tidying
+pub mod Numbering
 pub mod Sorting

@@ -1,5 +1,6 @@
 -- Lines that say nothing twice.
-use Rattle.std.specs.Prelude.{List, [], ◌∷◌, Bool, true, false, cond}
+use Rattle.std.specs.Prelude.{◌≢◌, ℕ, List, [], ◌∷◌, AllPairs, Contains, Bool, true, false, cond, ◌+◌}
+use Rattle.rt_terms.specs.declared.variable.Dtv.{Dtv}
 use Rattle.rt_terms.specs.declared.line.Line.{Line}
 use Rattle.rt_terms.specs.declared.line.Line.TheVariants.{Var, Same, Sub, Low, Up}
 use Rattle.rt_terms.specs.Equality.{variable_eq}
@@ -11,6 +12,24 @@ without_self (Same x y) = Same x y
 without_self (Sub x y) = cond (variable_eq x y) (Var x) (Sub x y)
 without_self (Low k x) = Low k x
 without_self (Up x k) = Up x k
+
+-- 1 where the line says that a variable lies below another
+abbrev pub sub_weight : Line → ℕ
+sub_weight (Var x) = 0
+sub_weight (Same x y) = 0
+sub_weight (Sub x y) = 1
+sub_weight (Low k x) = 0
+sub_weight (Up x k) = 0
+
+-- how many lines say that a variable lies below another
+abbrev pub sub_count : List Line → ℕ
+sub_count [] = 0
+sub_count (l ∷ lines) = sub_weight l + sub_count lines
+
+-- no line stands twice, and none puts a variable below itself
+pub record IsTidy (lines : List Line) : Type 0 where
+  pub once : AllPairs (λ a b. a ≢ b) lines
+  pub no_self : (x : Dtv) → Contains lines (Sub x x) → ⊥
 
 -- the elements whose flags are set
 abbrev pub kept : {X : Type 0} → List X → List Bool → List X

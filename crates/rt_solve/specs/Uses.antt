@@ -1,5 +1,5 @@
 -- The uses that define the existentials of lines.
-use Rattle.std.specs.Prelude.{◌≡◌, ◌≢◌, ℕ, ◌<◌, ◌+◌, ◌-◌, List, All, Contains, length, slice_index_or}
+use Rattle.std.specs.Prelude.{◌≡◌, ◌≢◌, ℕ, ◌<◌, ◌+◌, ◌-◌, List, All, AllPairs, Contains, length, slice_index_or}
 use Rattle.std.specs.List.{HoldsAt}
 use Rattle.rt_terms.specs.declared.label.Variance.{Variance}
 use Rattle.rt_terms.specs.declared.label.Variance.TheVariants.{Co, Contra}
@@ -35,9 +35,11 @@ DefinesRight n (Up x k) = ⊥
 abbrev pub IsUseIn : List Line → Use → Type 0
 IsUseIn lines defining = (defining.line < length lines) × HoldsAt (HasUse Co defining.existential) lines defining.line
 
--- the defining uses of the lines before an index, and no other uses than the lines'
+-- the defining uses of the lines before an index, each once
 pub record AreUsesBelow (lines : List Line) (high : ℕ) (uses : List Use) : Type 0 where
   pub sound : All (IsUseIn lines) uses
+  pub below : All (λ u. u.line < high) uses
+  pub distinct : AllPairs (λ u v. u ≢ v) uses
   pub complete : (n i : ℕ) (d : Line) → i < high → HasUse Co n (slice_index_or lines i d) → Contains uses (record { existential = n; line = i })
 
 -- the defining uses of the lines

@@ -1,13 +1,13 @@
 // The choice of the existentials that are put away together.
-ghost use Rattle.std.specs.Prelude.{◌≡◌, ◌≢◌, ℕ, List, false, nat_eq, true, IfOk, OnOk, MatchOption};
-ghost use Rattle.std.specs.HashMap.{get, ContainsKey};
+ghost use Rattle.std.specs.Prelude.{◌≡◌, ◌≢◌, ◌⊎◌, ℕ, List, AllPairs, false, nat_eq, true, IfOk, OnOk, MatchOption};
+ghost use Rattle.std.specs.HashMap.{get, ContainsKey, IsEmpty};
 ghost use Rattle.std.specs.HashSet.{contains};
 ghost use Rattle.rt_terms.specs.declared.label.Variance.TheVariants.{Co};
 ghost use Rattle.rt_terms.specs.declared.line.Line.{Line};
 ghost use Rattle.rt_terms.specs.declared.variable.Base.TheVariants.{Exist};
 ghost use Rattle.rt_terms.specs.declared.variable.Dtv.{Dtv};
 ghost use Rattle.rt_rules.specs.Put.{IsOnlyUse, IsPutting, use_of};
-ghost use Rattle.rt_solve.specs.Choice.{IsChoice};
+ghost use Rattle.rt_solve.specs.Choice.{IsChoice, IsSolved};
 
 use crate::uses::{Use, is_alone, sorted_uses};
 use rt_base::Memory;
@@ -37,7 +37,8 @@ fn definition_in(line: &Line, existential: u32) -> Option<&Dtv>
 
 // Whether the base is an existential in whose place something is put.
 fn has_place(places: &Places, base: Base) -> bool
-    ensures { result ≡ false → (n : ℕ) → base ≡ Exist n → get nat_eq places.now n ≡ None }
+    ensures found { result ≡ true → (n : ℕ) × ContainsKey nat_eq places.now n }
+    ensures none { result ≡ false → (n : ℕ) → base ≡ Exist n → get nat_eq places.now n ≡ None }
 {
     match base {
         Base::Exist(n) => places.contains_key(&n),
@@ -49,6 +50,7 @@ fn has_place(places: &Places, base: Base) -> bool
 fn note_base(bases: &mut HashSet<u32>, base: Base) -> Result<(), Memory>
     ensures kept { OnOk result ((n : ℕ) → contains nat_eq bases.old n ≡ true → contains nat_eq bases.new n ≡ true) }
     ensures noted { OnOk result ((n : ℕ) → base ≡ Exist n → contains nat_eq bases.new n ≡ true) }
+    ensures source { OnOk result ((n : ℕ) → contains nat_eq bases.new n ≡ true → (contains nat_eq bases.old n ≡ true) ⊎ (base ≡ Exist n)) }
 {
     if let Base::Exist(n) = base {
         bases.insert(n)?;
@@ -65,6 +67,8 @@ fn put_if_apart(
 ) -> Result<(), Memory>
     ensures choice { OnOk result ((lines : List Line) → IsOnlyUse Co existential definition.now lines →
         IsChoice lines (get nat_eq places.old) (contains nat_eq bases.old) → IsChoice lines (get nat_eq places.new) (contains nat_eq bases.new)) }
+    ensures filled { OnOk result ((lines : List Line) → IsChoice lines (get nat_eq places.old) (contains nat_eq bases.old) →
+        (n : ℕ) × ContainsKey nat_eq places.new n) }
 {
     if bases.contains(&existential) || has_place(places, definition.base) {
         return Ok(());
@@ -77,7 +81,9 @@ fn put_if_apart(
 /// What is put away together: existentials with one defining use, `Z <= v` with Z of another base, of which none is the
 /// base of what is put in the place of another; by rising number, each that can. The error is want of memory.
 pub fn choose(alloc: Global, lines: &[Line]) -> Result<Places, Memory>
+    requires { AllPairs (λ a b. a ≢ b) lines.now }
     ensures putting { IfOk result (λ places. IsPutting (get nat_eq places) lines.now) }
+    ensures nothing { IfOk result (λ places. IsEmpty places → IsSolved lines.now) }
 {
     let uses = sorted_uses(alloc, lines)?;
     let mut places = HashMap::new(alloc);

@@ -1,11 +1,14 @@
 // Schemes of lists of lines.
-ghost use Rattle.std.specs.Prelude.{ℕ, ◌⊎◌, length, All, IfOk};
+ghost use Rattle.std.specs.Prelude.{◌≡◌, ◌≢◌, ◌≤◌, ℕ, ◌⊎◌, length, map, All, AllPairs, Contains, IfOk};
 ghost use Rattle.rt_terms.specs.declared.variable.Base.{Base};
+ghost use Rattle.rt_terms.specs.declared.variable.Dtv.{Dtv};
 ghost use Rattle.rt_terms.specs.Lines.{HasConstantsBelow};
 ghost use Rattle.rt_terms.specs.Orders.{Below};
 ghost use Rattle.rt_rules.specs.Alike.{Alike, is_inside_for};
 ghost use Rattle.rt_rules.specs.Laws.{NamesBase};
+ghost use Rattle.rt_solve.specs.Choice.{IsSolved};
 ghost use Rattle.rt_solve.specs.Sorted.{AreSorted};
+ghost use Rattle.rt_solve.specs.Tidy.{IsTidy, sub_count, without_self};
 ghost use Rattle.rt_solve.specs.Told.{IsExist, TellsSame};
 
 use crate::ordering::sort_lines;
@@ -14,13 +17,15 @@ use crate::putting::{put_in_lines, selves_to_vars};
 use crate::spare::without_spare;
 use rt_base::Memory;
 use rt_numbering::{deduplicate, number};
-use rt_terms::{Lines, Names};
+use rt_terms::{Line, Lines, Names};
 use std::alloc::Global;
 
 // The lines with nothing said twice: `X <= X` is `var X`, equal lines stand once, and no `var` line that another line
 // covers stands.
 fn tidy(alloc: Global, lines: Lines) -> Result<Lines, Memory>
-    ensures { IfOk result (TellsSame lines) }
+    ensures same { IfOk result (TellsSame lines) }
+    ensures tidied { IfOk result IsTidy }
+    ensures fewer { IfOk result (λ tidied. sub_count tidied ≤ sub_count (map without_self lines)) }
 {
     let lines = selves_to_vars(alloc, lines)?;
     let lines = deduplicate(alloc, lines)?;
@@ -29,10 +34,12 @@ fn tidy(alloc: Global, lines: Lines) -> Result<Lines, Memory>
 
 // The lines without the existentials that their only definitions can replace.
 fn put_away(alloc: Global, lines: Lines) -> Result<Lines, Memory>
-    ensures { IfOk result (TellsSame lines) }
+    ensures same { IfOk result (TellsSame lines) }
+    ensures tidied { IfOk result IsTidy }
+    ensures solved { IfOk result IsSolved }
 {
     let mut lines = tidy(alloc, lines)?;
-    for _ in 0..lines.len() {
+    loop {
         let places = choose(alloc, lines.items())?;
         if places.is_empty() {
             return Ok(lines);
@@ -40,7 +47,6 @@ fn put_away(alloc: Global, lines: Lines) -> Result<Lines, Memory>
         let put = put_in_lines(alloc, lines.items(), &places)?;
         lines = tidy(alloc, put)?;
     }
-    Ok(lines)
 }
 
 /// The scheme of a list of lines.
@@ -49,6 +55,9 @@ pub fn settle(alloc: Global, lines: Lines, names: &Names) -> Result<Lines, Memor
     ensures alike { IfOk result (λ settled. (order : Below) (p : ℕ) → Alike order (is_inside_for p) lines settled) }
     ensures sorted { IfOk result (AreSorted names.now) }
     ensures constants { IfOk result (λ settled. (count : ℕ) → All (HasConstantsBelow count) lines → All (HasConstantsBelow count) settled) }
+    ensures once { IfOk result (AllPairs (λ a b. a ≢ b)) }
+    ensures solved { IfOk result IsSolved }
+    ensures no_self { IfOk result (λ settled. (x : Dtv) → Contains settled (Line.Sub x x) → ⊥) }
     ensures bases { IfOk result (λ settled. (b : Base) → NamesBase settled b → IsExist b ⊎ NamesBase lines b) }
 {
     let lines = put_away(alloc, lines)?;

@@ -1,5 +1,5 @@
 // `var` lines that other lines cover.
-ghost use Rattle.std.specs.Prelude.{◌≡◌, ◌↔◌, ℕ, ◌<◌, Contains, length, map, not, IfOk, OnOk, IsTrue};
+ghost use Rattle.std.specs.Prelude.{◌≡◌, ◌↔◌, ℕ, ◌<◌, Bool, List, Contains, length, map, not, IfOk, OnOk, IsTrue};
 ghost use Rattle.rt_terms.specs.declared.line.Line.{Line};
 ghost use Rattle.rt_terms.specs.Orders.{Below};
 ghost use Rattle.rt_rules.specs.Rules.{Derivable};
@@ -157,7 +157,8 @@ fn keep(alloc: Global, lines: Lines, stay: &[bool]) -> Result<Lines, Memory>
 /// The lines without the `var` lines whose variable is a front of the variable of another line. The error is want of
 /// memory.
 pub fn without_spare(alloc: Global, lines: Lines) -> Result<Lines, Memory>
-    ensures { IfOk result (TellsSame lines) }
+    ensures same { IfOk result (TellsSame lines) }
+    ensures part { IfOk result (λ r. (stay : List Bool) × (r ≡ kept lines stay)) }
 {
     let sides = sorted_sides(alloc, lines.items())?;
     let stay = which_stay(alloc, lines.items(), &sides)?;

@@ -55,6 +55,18 @@ fn defined_right(line: &Line) -> Option<u32>
     }
 }
 
+// The existential that the line defines on its right and not on its left.
+fn defined_right_alone(line: &Line) -> Option<u32>
+    ensures { (n : ℕ) → (result ≡ Some n) ↔ (DefinesRight n line.now × (DefinesLeft n line.now → ⊥)) }
+{
+    let right = defined_right(line);
+    if right == defined_left(line) {
+        None
+    } else {
+        right
+    }
+}
+
 // Adds the use of the existential in the line at the index, if there is one.
 fn push_use(uses: &mut Vec<Use>, existential: Option<u32>, line: usize) -> Result<(), Memory>
     ensures { OnOk result
@@ -73,7 +85,7 @@ fn uses_in_order(alloc: Global, lines: &[Line]) -> Result<Vec<Use>, Memory>
     let mut uses = Vec::new(alloc);
     for (i, line) in lines.iter().enumerate() {
         push_use(&mut uses, defined_left(line), i)?;
-        push_use(&mut uses, defined_right(line), i)?;
+        push_use(&mut uses, defined_right_alone(line), i)?;
     }
     Ok(uses)
 }

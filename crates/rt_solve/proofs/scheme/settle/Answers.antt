@@ -1,12 +1,16 @@
 use Rattle.std.proofs.Common.{sym, subst}
 use Rattle.std.specs.Prelude.{IfOk}
 use Rattle.std.proofs.lemmas.Result.{IfOk-weaker}
+use Rattle.std.specs.List.Sorted.{IsPermutation}
+use Rattle.rt_solve.specs.Choice.{IsSolved}
+use Rattle.rt_solve.specs.Tidy.{IsTidy}
 use Rattle.rt_solve.specs.Told.{TellsSame}
+use Rattle.rt_solve.proofs.Numbering.{numbered-tidy, numbered-solved, moved-tidy, moved-solved}
 use Rattle.rt_solve.proofs.Told.{TellsSame-trans, TellsSame-numbered, TellsSame-permutation}
 use Rattle.rt_solve.proofs.scheme.settle.Goals as goal
 
 numbered_tells : (c : goal.In_ok-lines-2) → TellsSame c.args.lines c.in_ok-lines-2.lines
-numbered_tells c = TellsSame-trans c.args.lines c.in_ok-lines.lines c.in_ok-lines-2.lines c.in_ok-lines.ensures (subst (TellsSame c.in_ok-lines.lines) (sym c.in_ok-lines-2.ensures) (TellsSame-numbered c.in_ok-lines.lines))
+numbered_tells c = TellsSame-trans c.args.lines c.in_ok-lines.lines c.in_ok-lines-2.lines c.in_ok-lines.ensures.same (subst (TellsSame c.in_ok-lines.lines) (sym c.in_ok-lines-2.ensures) (TellsSame-numbered c.in_ok-lines.lines))
 
 pub sort_lines-requires : goal.sort_lines-requires
 sort_lines-requires c = (numbered_tells c).constants _ c.requires
@@ -14,8 +18,26 @@ sort_lines-requires c = (numbered_tells c).constants _ c.requires
 settled_tells : (c : goal.After-sort_lines) → IfOk c.sort_lines.result (TellsSame c.args.lines)
 settled_tells c =
     IfOk-weaker c.sort_lines.result _ _
-    (λ r moved. TellsSame-trans c.args.lines c.in_ok-lines-2.lines r (TellsSame-trans c.args.lines c.in_ok-lines.lines c.in_ok-lines-2.lines c.in_ok-lines.ensures (subst (TellsSame c.in_ok-lines.lines) (sym c.in_ok-lines-2.ensures) (TellsSame-numbered c.in_ok-lines.lines))) (TellsSame-permutation c.in_ok-lines-2.lines r moved))
+    (λ r moved. TellsSame-trans c.args.lines c.in_ok-lines-2.lines r (TellsSame-trans c.args.lines c.in_ok-lines.lines c.in_ok-lines-2.lines c.in_ok-lines.ensures.same (subst (TellsSame c.in_ok-lines.lines) (sym c.in_ok-lines-2.ensures) (TellsSame-numbered c.in_ok-lines.lines))) (TellsSame-permutation c.in_ok-lines-2.lines r moved))
     c.sort_lines.ensures.same
+
+-- the lines before they are sorted
+numbered_tidy : (c : goal.After-sort_lines) → IsTidy c.in_ok-lines-2.lines
+numbered_tidy c = subst IsTidy (sym c.in_ok-lines-2.ensures) (numbered-tidy c.in_ok-lines.lines c.in_ok-lines.ensures.tidied)
+
+settled_tidy : (c : goal.After-sort_lines) → IfOk c.sort_lines.result IsTidy
+settled_tidy c = IfOk-weaker c.sort_lines.result (IsPermutation c.in_ok-lines-2.lines) IsTidy (λ r moved. moved-tidy c.in_ok-lines-2.lines r moved (numbered_tidy c)) c.sort_lines.ensures.same
+
+pub returns-clause-once : goal.returns-clause-once
+returns-clause-once c = IfOk-weaker c.sort_lines.result IsTidy _ (λ r tidy. tidy.once) (settled_tidy c)
+
+pub returns-clause-no_self : goal.returns-clause-no_self
+returns-clause-no_self c = IfOk-weaker c.sort_lines.result IsTidy _ (λ r tidy. tidy.no_self) (settled_tidy c)
+
+pub returns-clause-solved : goal.returns-clause-solved
+returns-clause-solved c =
+    IfOk-weaker c.sort_lines.result (IsPermutation c.in_ok-lines-2.lines) IsSolved
+    (λ r moved. moved-solved c.in_ok-lines-2.lines r moved (subst IsSolved (sym c.in_ok-lines-2.ensures) (numbered-solved c.in_ok-lines.lines c.in_ok-lines.ensures.solved))) c.sort_lines.ensures.same
 
 pub returns-clause-alike : goal.returns-clause-alike
 returns-clause-alike c = IfOk-weaker c.sort_lines.result (TellsSame c.args.lines) _ (λ r told. told.alike) (settled_tells c)

@@ -9,8 +9,11 @@ use Rattle.rt_solve.proofs.Kept.{kept_source}
 use Rattle.rt_solve.proofs.Told.{TellsSame-part}
 use Rattle.rt_solve.proofs.spare.without_spare.Goals as goal
 
-pub returns : goal.returns
-returns c =
+pub returns-clause-part : goal.returns-clause-part
+returns-clause-part c = IfOk-weaker c.keep.result _ _ (λ r e. (c.in_ok-stay.stay.items, e ∙ ap (kept c.args.lines) c.deref-2.ensures.value)) c.keep.ensures
+
+pub returns-clause-same : goal.returns-clause-same
+returns-clause-same c =
     let derived : (order : Below) (l : Line) → Contains c.args.lines l → Derivable order (kept c.args.lines c.in_ok-stay.stay.items) l =
     subst (λ (lines : List Line). (order : Below) (l : Line) → Contains lines l → Derivable order (kept lines c.in_ok-stay.stay.items) l) c.items-2.ensures c.in_ok-stay.ensures.derived in
     IfOk-weaker c.keep.result _ (TellsSame c.args.lines)
