@@ -4,6 +4,7 @@ pub mod Using
 pub mod Choosing
 pub mod Kept
 pub mod Fronts
+pub mod Ranking
 pub mod Sparing
 pub mod Staying
 pub mod Tidying

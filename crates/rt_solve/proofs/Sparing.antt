@@ -9,9 +9,9 @@ use Rattle.std.proofs.lemmas.List.Sorted.{All-permutation, Contains-permutation}
 use Rattle.rt_terms.specs.declared.variable.Dtv.{Dtv}
 use Rattle.rt_terms.specs.declared.line.Line.{Line}
 use Rattle.rt_terms.specs.declared.line.Line.TheVariants.{Var, Same, Sub, Low, Up}
-use Rattle.rt_texts.specs.Texts.{dtv_text}
 use Rattle.rt_rules.specs.Rules.{HasSide}
 use Rattle.rt_rules.proofs.Lists.{Contains-here, Contains-there}
+use Rattle.rt_solve.specs.Ranks.{ranks_of}
 use Rattle.rt_solve.specs.declared.spare.Side.{Side}
 use Rattle.rt_solve.specs.Sides.{own_of, IsSide, IsSideIn, HasSideOf, AreSidesBelow, AreSides, AddsSides, AddsSide, AddsTwo}
 
@@ -25,7 +25,7 @@ AddsSides-one i l x own old new e has all one = record {
 }
   where
     it : IsSide i one.side l
-    it = record { stands = subst (HasSide l) (sym one.variable_is) has; own = one.own_is ∙ e; text = one.text_is ∙ ap dtv_text (sym one.variable_is) }
+    it = record { stands = subst (HasSide l) (sym one.variable_is) has; own = one.own_is ∙ e; ranks = one.ranks_are ∙ ap ranks_of (sym one.variable_is) }
 
 -- two sides are added that are the line's only ones
 pub AddsSides-two : (i : ℕ) (l : Line) (x y : Dtv) (old new : List Side) → None ≡ own_of i l → HasSide l x → HasSide l y → ((z : Dtv) → HasSide l z → (x ≡ z) ⊎ (y ≡ z)) → AddsTwo x y old new → AddsSides i l old new
@@ -37,10 +37,10 @@ AddsSides-two i l x y old new e has_x has_y all (between, left, right) = record 
 }
   where
     first : IsSide i left.side l
-    first = record { stands = subst (HasSide l) (sym left.variable_is) has_x; own = left.own_is ∙ e; text = left.text_is ∙ ap dtv_text (sym left.variable_is) }
+    first = record { stands = subst (HasSide l) (sym left.variable_is) has_x; own = left.own_is ∙ e; ranks = left.ranks_are ∙ ap ranks_of (sym left.variable_is) }
 
     second : IsSide i right.side l
-    second = record { stands = subst (HasSide l) (sym right.variable_is) has_y; own = right.own_is ∙ e; text = right.text_is ∙ ap dtv_text (sym right.variable_is) }
+    second = record { stands = subst (HasSide l) (sym right.variable_is) has_y; own = right.own_is ∙ e; ranks = right.ranks_are ∙ ap ranks_of (sym right.variable_is) }
 
     by : (z : Dtv) → (x ≡ z) ⊎ (y ≡ z) → HasSideOf (left.side ∷ right.side ∷ []) i l z
     by z (inl f) = (left.side, Contains-here left.side (right.side ∷ []), first, left.variable_is ∙ f)

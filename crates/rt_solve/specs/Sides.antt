@@ -1,12 +1,15 @@
 -- The sides of lines.
-use Rattle.std.specs.Prelude.{◌≡◌, ℕ, ◌+◌, ◌<◌, List, [], ◌∷◌, ◌++◌, All, Contains, Bool, true, false, Option, Some, None, length, slice_index_or}
+use Rattle.std.specs.Prelude.{◌≡◌, ℕ, ◌+◌, ◌<◌, List, [], ◌∷◌, ◌++◌, All, Contains, Bool, true, false, Option, Some, None, is_none, length, slice_index_or}
 use Rattle.std.specs.List.{HoldsAt}
+use Rattle.std.specs.Ordering.{ordering_then, bool_cmp}
+use Rattle.std.specs.Cmp.Lexicographic.{slice_cmp}
+use Rattle.std.specs.declared.cmp.Ordering.{Ordering}
 use Rattle.rt_terms.specs.declared.label.Label.{Label}
 use Rattle.rt_terms.specs.declared.variable.Dtv.{Dtv}
 use Rattle.rt_terms.specs.declared.line.Line.{Line}
 use Rattle.rt_terms.specs.declared.line.Line.TheVariants.{Var, Same, Sub, Low, Up}
-use Rattle.rt_texts.specs.Texts.{dtv_text}
 use Rattle.rt_rules.specs.Rules.{extended, HasSide}
+use Rattle.rt_solve.specs.Ranks.{ranks_of, rank_cmp}
 use Rattle.rt_solve.specs.declared.spare.Side.{Side}
 
 -- whether the line is a `var`
@@ -25,11 +28,15 @@ own_of i (Sub x y) = None
 own_of i (Low k x) = None
 own_of i (Up x k) = None
 
--- a side, with its text, of the line at the index
+-- a side, with its ranks, of the line at the index
 pub record IsSide (index : ℕ) (side : Side) (line : Line) : Type 0 where
   pub stands : HasSide line side.variable
   pub own : side.own ≡ own_of index line
-  pub text : side.text.items ≡ dtv_text side.variable
+  pub ranks : side.ranks.items ≡ ranks_of side.variable
+
+-- the order of sides: by their ranks, and a `var` line's own side before an equal one
+abbrev pub side_cmp : Side → Side → Ordering
+side_cmp a b = ordering_then (slice_cmp rank_cmp a.ranks.items b.ranks.items) (bool_cmp (is_none a.own) (is_none b.own))
 
 -- a side of one of the lines
 abbrev pub IsSideIn : List Line → Side → Type 0
@@ -61,7 +68,7 @@ pub record AddsSide (variable : Dtv) (own : Option ℕ) (old new : List Side) : 
   pub is : new ≡ old ++ side ∷ []
   pub variable_is : side.variable ≡ variable
   pub own_is : side.own ≡ own
-  pub text_is : side.text.items ≡ dtv_text variable
+  pub ranks_are : side.ranks.items ≡ ranks_of variable
 
 -- sides of two variables, of a line that is no `var`, are added at the end
 abbrev pub AddsTwo : Dtv → Dtv → List Side → List Side → Type 0

@@ -4,6 +4,7 @@
 mod ordering;
 mod places;
 mod putting;
+mod ranks;
 mod scheme;
 mod spare;
 #[cfg(test)]

@@ -1,21 +1,22 @@
 // `var` lines that other lines cover.
-ghost use Rattle.std.specs.Prelude.{◌≡◌, ◌↔◌, ℕ, ◌<◌, Bool, List, Contains, length, map, not, IfOk, OnOk, IsTrue};
+ghost use Rattle.std.specs.Prelude.{◌≡◌, ◌↔◌, ℕ, ◌<◌, Bool, List, Contains, length, map, not, IfOk, IsSorted, OnOk, IsTrue};
 ghost use Rattle.rt_terms.specs.declared.line.Line.{Line};
 ghost use Rattle.rt_terms.specs.Orders.{Below};
 ghost use Rattle.rt_rules.specs.Rules.{Derivable};
-ghost use Rattle.rt_solve.specs.Sides.{AddsSide, AddsSides, AddsTwo, AreSides, IsCovered, IsFront, is_var};
+ghost use Rattle.rt_solve.specs.Sides.{AddsSide, AddsSides, AddsTwo, AreSides, IsCovered, IsFront, is_var, side_cmp};
 ghost use Rattle.rt_solve.specs.Tidy.{kept};
 ghost use Rattle.rt_solve.specs.Told.{TellsSame};
 
+use crate::ranks::{Rank, ranks_of};
 use rt_base::{Memory, Sequence};
 use rt_terms::{Dtv, Line, Lines};
-use rt_texts::print_variable;
 use std::alloc::Global;
+use std::cmp::Ordering;
 
 // A side of a line.
 #[derive(Drop)]
 struct Side {
-    text: Vec<u8>,
+    ranks: Vec<Rank>,
     variable: Dtv,
     // The index of the line, where the line is a `var`.
     own: Option<usize>,
@@ -30,10 +31,9 @@ fn push_side(
 ) -> Result<(), Memory>
     ensures { OnOk result (AddsSide variable.now own sides.old.items sides.new.items) }
 {
-    let mut text = Vec::new(alloc);
-    print_variable(variable, &mut text)?;
+    let ranks = ranks_of(alloc, variable)?;
     sides.push(Side {
-        text,
+        ranks,
         variable: variable.copy()?,
         own,
     })?;
@@ -77,15 +77,21 @@ fn sides_in_order(alloc: Global, lines: &[Line]) -> Result<Vec<Side>, Memory>
     Ok(sides)
 }
 
-// The sides of the lines by their texts. A `var` line's own side stands before an equal side of another line.
+// How two sides stand in the order of ranks, where a `var` line's own side stands before an equal one.
+fn compare_sides(a: &Side, b: &Side) -> Ordering
+    ensures { result ≡ side_cmp a.now b.now }
+{
+    let ranks = a.ranks.cmp(&b.ranks);
+    ranks.then(a.own.is_none().cmp(&b.own.is_none()))
+}
+
+// The sides of the lines in the order of ranks.
 fn sorted_sides(alloc: Global, lines: &[Line]) -> Result<Vec<Side>, Memory>
-    ensures { IfOk result (λ sides. AreSides lines.now sides.items) }
+    ensures sides { IfOk result (λ sides. AreSides lines.now sides.items) }
+    ensures sorted { IfOk result (λ sides. IsSorted side_cmp sides.items) }
 {
     let mut sides = sides_in_order(alloc, lines)?;
-    sides.sort_by(|a, b| a
-        .text
-        .cmp(&b.text)
-        .then(a.own.is_none().cmp(&b.own.is_none())))?;
+    sides.sort_by(compare_sides)?;
     Ok(sides)
 }
 
