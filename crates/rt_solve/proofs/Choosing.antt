@@ -1,5 +1,5 @@
 -- The choice of the existentials that are put away together.
-use Rattle.std.proofs.Common.{◌≡◌, ◌≢◌, ℕ, ◌+◌, ◌<◌, ◌⊎◌, inl, inr, List, [], ◌∷◌, AllPairs, Bool, true, false, cond, Option, Some, None, IsSome, length, get_or, nat_eq, refl, sym, ap, subst, ◌∙◌, arith}
+use Rattle.std.proofs.Common.{◌≡◌, ◌≢◌, ℕ, ◌+◌, ◌<◌, ◌⊎◌, inl, inr, List, [], ◌∷◌, AllPairs, Bool, true, false, cond, Option, Some, None, IsSome, length, get_or, nat_eq, refl, sym, subst, ◌∙◌, arith}
 use Rattle.std.proofs.lemmas.Bool.{both_ways, eqb-true, eq-eqb, cases_eq}
 use Rattle.std.specs.Map.{lookup}
 use Rattle.std.proofs.lemmas.List.{get_or_default}
@@ -7,9 +7,9 @@ use Rattle.rt_terms.specs.declared.label.Variance.TheVariants.{Co}
 use Rattle.rt_terms.specs.declared.variable.Base.TheVariants.{Exist}
 use Rattle.rt_terms.specs.declared.variable.Dtv.{Dtv}
 use Rattle.rt_terms.specs.declared.line.Line.{Line}
-use Rattle.rt_rules.specs.Put.{IsOnlyUse, IsPutting, use_of}
+use Rattle.rt_rules.specs.Put.{IsOnlyUse, use_of}
 use Rattle.rt_solve.specs.declared.uses.Use.{Use}
-use Rattle.rt_solve.specs.Uses.{AreUses, IsAlone}
+use Rattle.rt_solve.specs.Uses.{AreUses}
 use Rattle.rt_solve.specs.Choice.{IsChoice, IsSole, ChoosesBelow, IsSolved}
 use Rattle.rt_solve.proofs.Using.{only_alone}
 

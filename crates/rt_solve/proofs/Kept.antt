@@ -1,9 +1,13 @@
 -- The elements of a list whose flags are set.
-use Rattle.std.proofs.Common.{◌≡◌, ℕ, zero, suc, ◌+◌, ◌<◌, ◌≤◌, ◌⊎◌, inl, inr, List, [], ◌∷◌, ◌++◌, Bool, true, false, cond, Contains, length, get_or, take, set, refl, sym, ap, subst, ◌∙◌, arith, length-take, append-nil}
+use Rattle.std.proofs.Common.{◌≡◌, ℕ, zero, suc, ◌+◌, ◌<◌, ◌⊎◌, inl, inr, List, [], ◌∷◌, ◌++◌, Bool, true, false, cond, Contains, length, get_or, take, set, refl, sym, ap, subst, ◌∙◌, arith, length-take, append-nil}
 use Rattle.std.proofs.lemmas.Bool.{both_ways}
 use Rattle.std.proofs.lemmas.List.{take_more}
 use Rattle.rt_rules.proofs.Lists.{Contains-none, Contains-here, Contains-there, Contains-cons_cases}
 use Rattle.rt_solve.specs.Tidy.{kept}
+
+-- the element stands at an index whose flag is set
+abbrev pub IsKeptAt : {X : Type 0} → List X → List Bool → X → Type 0
+IsKeptAt {X} xs flags y = (k : ℕ) × (k < length xs) × (get_or flags k false ≡ true) × ((d : X) → get_or xs k d ≡ y)
 
 kept_cons : {X : Type 0} (x : X) (xs : List X) (flag : Bool) (flags : List Bool) (ys : List X) (flags' : List Bool) →
     kept (xs ++ ys) (flags ++ flags') ≡ kept xs flags ++ kept ys flags' → cond flag (x ∷ kept (xs ++ ys) (flags ++ flags')) (kept (xs ++ ys) (flags ++ flags')) ≡ cond flag (x ∷ kept xs flags) (kept xs flags) ++ kept ys flags'
@@ -72,3 +76,17 @@ kept_more_yes xs flags i x old new lt e is t was now = now ∙ ap (λ ys. ys ++ 
 pub kept_more_no : {X : Type 0} (xs : List X) (flags : List Bool) (i : ℕ) (x : X) (old : List X) → i < length xs → length xs ≡ length flags → get_or flags i false ≡ false →
     old ≡ kept (take i xs) (take i flags) → old ≡ kept (take (i + 1) xs) (take (i + 1) flags)
 kept_more_no xs flags i x old lt e t was = was ∙ sym (kept_more xs flags i x lt e ∙ (λ j. kept (take i xs) (take i flags) ++ cond (t j) (get_or xs i x ∷ []) []) ∙ append-nil (kept (take i xs) (take i flags)))
+
+head_place : {X : Type 0} (x : X) (xs : List X) (flag : Bool) (flags : List Bool) (y : X) (t : Bool) → flag ≡ t → (Contains (kept xs flags) y → IsKeptAt xs flags y) → Contains (cond t (x ∷ kept xs flags) (kept xs flags)) y → IsKeptAt (x ∷ xs) (flag ∷ flags) y
+head_place x xs flag flags y false e rest c = let (k, lt, f, at) = rest c in (suc k, omega arith, f, at)
+head_place x xs flag flags y true e rest c = by (Contains-cons_cases x (kept xs flags) y c)
+  where
+    by : (x ≡ y) ⊎ Contains (kept xs flags) y → IsKeptAt (x ∷ xs) (flag ∷ flags) y
+    by (inl f) = (zero, omega arith, e, λ d. f)
+    by (inr d) = let (k, lt, f, at) = rest d in (suc k, omega arith, f, at)
+
+-- where what is kept stands, with its flag
+pub kept_place : {X : Type 0} (xs : List X) (flags : List Bool) (y : X) → Contains (kept xs flags) y → IsKeptAt xs flags y
+kept_place [] flags y c = absurd (Contains-none y c)
+kept_place (x ∷ xs) [] y c = absurd (Contains-none y c)
+kept_place (x ∷ xs) (flag ∷ flags) y c = head_place x xs flag flags y flag refl (kept_place xs flags y) c

@@ -1,11 +1,10 @@
 -- What lines keep when their existentials get other numbers, and when they stand in another order.
-use Rattle.std.proofs.Common.{◌≡◌, ◌≢◌, ℕ, ◌<◌, ◌⊎◌, inl, inr, List, [], ◌∷◌, map, All, AllPairs, Contains, true, length, get_or, refl, sym, ap, subst, ◌∙◌, arith}
+use Rattle.std.proofs.Common.{◌≡◌, ◌≢◌, ℕ, ◌<◌, ◌⊎◌, inl, inr, List, ◌++◌, map, AllPairs, Contains, true, length, get_or, refl, sym, ap, subst, ◌∙◌, arith}
 use Rattle.std.specs.Bool.{Decides}
 use Rattle.std.specs.List.Sorted.{IsPermutation}
 use Rattle.std.proofs.lemmas.List.{get_or-map, length-map}
 use Rattle.std.proofs.lemmas.List.Elements.{Contains-get_or}
 use Rattle.std.proofs.lemmas.List.Sorted.{All-permutation, Contains-permutation, IsPermutation-sym}
-use Rattle.rt_terms.specs.declared.label.Label.{Label}
 use Rattle.rt_terms.specs.declared.label.Variance.TheVariants.{Co}
 use Rattle.rt_terms.specs.declared.variable.Base.{Base}
 use Rattle.rt_terms.specs.declared.variable.Base.TheVariants.{Proc, Global, Exist, Outer}
@@ -23,7 +22,9 @@ use Rattle.rt_rules.proofs.Lists.{Contains-map_source}
 use Rattle.rt_numbering.specs.Numbering.{existentials, placed, numbered}
 use Rattle.rt_numbering.proofs.Numbers.{placed-one_to_one}
 use Rattle.rt_solve.specs.Choice.{IsSolved}
-use Rattle.rt_solve.specs.Tidy.{IsTidy}
+use Rattle.rt_solve.specs.Sides.{IsFront}
+use Rattle.rt_solve.specs.Tidy.{IsBare, IsTidy}
+use Rattle.rt_solve.proofs.Told.{side_source}
 use Rattle.rt_solve.proofs.Distinct.{distinct_permutation}
 
 module _ (lines : List Line) (rename : Base → Base)
@@ -101,6 +102,33 @@ module _ (lines : List Line) (rename : Base → Base)
       by : (l : Line) × Contains lines l × (new l ≡ Sub z z) → ⊥
       by (l, d, e) = by_line l d e
 
+  -- a front after is a front before
+  front_before : (x y : Dtv) (k l : Line) → Contains lines k → Contains lines l → HasSide k x → HasSide l y → IsFront (renamed rename x) (renamed rename y) → IsFront x y
+  front_before x y k l c d h g (w, e) =
+      let bases : x.base ≡ y.base = one x.base y.base (k, x, c, h, refl) (l, y, d, g, refl) (sym (ap (λ v. v.base) e)) in
+      let words : y.word ≡ x.word ++ w = ap (λ v. v.word) e in
+      (w, λ t. record { base = sym bases t; word = words t })
+
+  renamed-bare : IsBare lines → IsBare (map new lines)
+  renamed-bare is_bare x y l c d has front = by (Contains-map_source new lines (Var x) c) (Contains-map_source new lines l d)
+    where
+      by_side : (u : Dtv) (k : Line) → Contains lines (Var u) → Contains lines k → renamed rename u ≡ x → new k ≡ l → (v : Dtv) × HasSide k v × (renamed rename v ≡ y) → l ≡ Var x
+      by_side u k cu ck eu ek (v, hv, ev) =
+          let before : IsFront u v = front_before u v (Var u) k cu ck refl hv (subst (λ z. IsFront z (renamed rename v)) (sym eu) (subst (IsFront x) (sym ev) front)) in
+          sym ek ∙ ap new (is_bare u v k cu ck hv before) ∙ ap Var eu
+
+      by_line : (m : Line) → Contains lines m → new m ≡ Var x → (k : Line) × Contains lines k × (new k ≡ l) → l ≡ Var x
+      by_line (Var u) cm em (k, ck, ek) =
+          let eu : renamed rename u ≡ x = cc in
+          by_side u k cm ck eu ek (side_source (renamed rename) k y (subst (λ z. HasSide z y) (sym ek) has))
+      by_line (Same u v) cm em s = cc
+      by_line (Sub u v) cm em s = cc
+      by_line (Low j u) cm em s = cc
+      by_line (Up u j) cm em s = cc
+
+      by : (m : Line) × Contains lines m × (new m ≡ Var x) → (k : Line) × Contains lines k × (new k ≡ l) → l ≡ Var x
+      by (m, cm, em) s = by_line m cm em s
+
   HasUse-renamed : (m n : ℕ) → rename (Exist m) ≡ Exist n → (l : Line) → HasUse Co m l → HasUse Co n (new l)
   HasUse-renamed m n e (Var x) h = absurd h
   HasUse-renamed m n e (Same x y) h = absurd h
@@ -157,6 +185,7 @@ module _ (lines : List Line) where
   numbered-tidy tidy = record {
     once = renamed-once lines (placed (existentials lines)) (placed-one_to_one lines) (placed-exist (existentials lines)) tidy.once;
     no_self = renamed-no_self lines (placed (existentials lines)) (placed-one_to_one lines) (placed-exist (existentials lines)) tidy.no_self;
+    bare = renamed-bare lines (placed (existentials lines)) (placed-one_to_one lines) (placed-exist (existentials lines)) tidy.bare;
   }
 
   -- and no existential can be put away where none could
@@ -171,6 +200,7 @@ module _ (first second : List Line) (moved : IsPermutation first second) where
   moved-tidy tidy = record {
     once = distinct_permutation line_decides first second moved tidy.once;
     no_self = λ x c. tidy.no_self x (Contains-permutation second first (Sub x x) (IsPermutation-sym first second moved) c);
+    bare = λ x y l c d has front. tidy.bare x y l (Contains-permutation second first (Var x) (IsPermutation-sym first second moved) c) (Contains-permutation second first l (IsPermutation-sym first second moved) d) has front;
   }
 
   pub moved-solved : IsSolved first → IsSolved second

@@ -1,10 +1,9 @@
 -- Lines in the order of their texts.
-use Rattle.std.proofs.Common.{◌≡◌, ℕ, ◌+◌, ◌<◌, List, [], ◌∷◌, map, All, false, length, get_or, refl, sym, ap, subst, ◌∙◌, arith, is_lt, nat_cmp}
+use Rattle.std.proofs.Common.{◌≡◌, ℕ, ◌+◌, ◌<◌, List, [], ◌∷◌, map, All, length, get_or, sym, ap, ◌∙◌, arith, is_lt, nat_cmp}
 use Rattle.std.proofs.lemmas.List.{length-map}
 use Rattle.std.specs.Cmp.Lexicographic.{slice_cmp}
 use Rattle.std.specs.List.Sorted.{IsSortedBy}
 use Rattle.std.proofs.lemmas.List.{get_or-map}
-use Rattle.rt_terms.specs.declared.line.Line.{Line}
 use Rattle.rt_texts.specs.Texts.{line_text}
 use Rattle.rt_solve.specs.declared.ordering.Written.{Written}
 use Rattle.rt_solve.specs.Sorted.{AreSorted}

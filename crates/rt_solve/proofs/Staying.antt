@@ -1,10 +1,14 @@
 -- Which `var` lines stay.
-use Rattle.std.proofs.Common.{◌≡◌, ℕ, zero, suc, ◌+◌, ◌-◌, ◌<◌, ◌≤◌, ◌⊎◌, inl, inr, List, [], ◌∷◌, map, All, Contains, Bool, true, false, not, Option, Some, None, length, get_or, set, refl, sym, ap, subst, ◌∙◌, arith, length-set, get_or-set_same, get_or-set_other}
-use Rattle.std.specs.List.{HoldsAt}
-use Rattle.std.proofs.lemmas.Bool.{cases_eq, both_ways}
+use Rattle.std.proofs.Common.{◌≡◌, ℕ, zero, suc, ◌+◌, ◌-◌, ◌<◌, ◌≤◌, ◌⊎◌, inl, inr, List, [], ◌∷◌, map, Contains, Bool, true, false, not, Option, Some, None, length, get_or, set, refl, sym, ap, subst, ◌∙◌, arith, length-set, get_or-set_same, get_or-set_other, IsSorted, is_lt, is_none}
+use Rattle.std.specs.Ordering.{ordering_then, bool_cmp}
+use Rattle.std.specs.Cmp.{tied_itself}
+use Rattle.std.specs.Cmp.Lexicographic.{slice_cmp, lists_total}
+use Rattle.std.specs.declared.cmp.Ordering.{Ordering}
+use Rattle.std.specs.declared.cmp.Ordering.TheVariants.{Less, Equal}
+use Rattle.std.proofs.lemmas.List.Sorted.{sorted_far, ranks_by}
+use Rattle.std.proofs.lemmas.Bool.{cases_eq, cases_order, both_ways}
 use Rattle.std.proofs.lemmas.List.{get_or_default, get_or-map, length-map}
-use Rattle.std.proofs.lemmas.List.Elements.{All-get_or, Contains-get_or}
-use Rattle.rt_terms.specs.declared.label.Label.{Label}
+use Rattle.std.proofs.lemmas.List.Elements.{All-get_or}
 use Rattle.rt_terms.specs.declared.variable.Dtv.{Dtv}
 use Rattle.rt_terms.specs.declared.line.Line.{Line}
 use Rattle.rt_terms.specs.declared.line.Line.TheVariants.{Var, Same, Sub, Low, Up}
@@ -13,15 +17,23 @@ use Rattle.rt_rules.specs.Rules.{HasSide, Derivable}
 use Rattle.rt_rules.proofs.Carry.{given, side}
 use Rattle.rt_rules.proofs.Covering.{derives_more, front}
 use Rattle.rt_solve.specs.declared.spare.Side.{Side}
-use Rattle.rt_solve.specs.Sides.{is_var, own_of, IsSide, IsSideIn, HasSideOf, AreSides, IsFront, IsCovered}
-use Rattle.rt_solve.specs.Tidy.{kept}
-use Rattle.rt_solve.proofs.Kept.{kept_contains, kept_source, kept_set}
+use Rattle.rt_solve.specs.Sides.{is_var, own_of, IsSide, IsSideIn, HasSideOf, AreSides, IsFront, IsCovered, side_cmp}
+use Rattle.rt_solve.specs.Tidy.{IsBare, kept}
+use Rattle.rt_solve.specs.Ranks.{ranks_of, rank_cmp}
+use Rattle.rt_solve.proofs.Fronts.{covered_made}
+use Rattle.rt_solve.proofs.Ranking.{rank_total, side_total, front_between, before_longer}
+use Rattle.rt_solve.proofs.Kept.{kept_contains, kept_source, kept_set, kept_place}
 
--- the lines that are no `var` stay, and the sides from an index on follow from the lines that stay
+-- the own side of the line at the index stands where the next side does not cover it
+abbrev pub IsOpen : List Side → ℕ → Type 0
+IsOpen sides line = (p : ℕ) × (p < length sides) × ((d : Side) → (get_or sides p d).own ≡ Some line) × (IsCovered sides p → ⊥)
+
+-- the lines that are no `var` stay, the sides from an index on follow from the lines that stay, and each `var` line that stays is open
 pub record Stays (lines : List Line) (sides : List Side) (low : ℕ) (stay : List Bool) : Type 0 where
   pub len : length stay ≡ length lines
   pub others : (k : ℕ) (d : Line) → k < length lines → is_var (get_or lines k d) ≡ false → get_or stay k false ≡ true
   pub derived : (order : Below) (k : ℕ) (d : Side) → low ≤ k → k < length sides → Derivable order (kept lines stay) (Var (get_or sides k d).variable)
+  pub needed : (k : ℕ) (d : Line) → k < length lines → is_var (get_or lines k d) ≡ true → get_or stay k false ≡ true → IsOpen sides k
 
 -- before the loop: all but the `var` lines stay
 pub others_stay : (lines : List Line) (sides : List Side) (stay : List Bool) → stay ≡ map (λ l. not (is_var l)) lines → Stays lines sides (length sides) stay
@@ -29,6 +41,7 @@ others_stay lines sides stay e = record {
   len = ap length e ∙ simp length-map;
   others = λ k d lt other. ap (λ xs. get_or xs k false) e ∙ get_or-map (λ l. not (is_var l)) lines k d false lt ∙ ap not other;
   derived = λ order k d low lt. absurd (omega arith);
+  needed = λ k d lt var stays. absurd (both_ways (get_or stay k false) (ap (λ xs. get_or xs k false) e ∙ get_or-map (λ l. not (is_var l)) lines k d false lt ∙ ap not var) stays);
 }
 
 -- what own_of says of the line
@@ -65,6 +78,7 @@ module _ (lines : List Line) (sides : List Side) (are : AreSides lines sides) wh
     len = stays.len;
     others = stays.others;
     derived = λ order k d h lt. by order k d h lt (cases_eq k low);
+    needed = stays.needed;
   }
     where
       by : (order : Below) (k : ℕ) (d : Side) → low ≤ k → k < length sides → (k ≡ low) ⊎ (k ≡ low → ⊥) → Derivable order (kept lines stay) (Var (get_or sides k d).variable)
@@ -88,12 +102,17 @@ module _ (lines : List Line) (sides : List Side) (are : AreSides lines sides) wh
       at order d (w, e) = front order (kept lines stay) (get_or sides low d).variable w (subst (λ v. Derivable order (kept lines stay) (Var v)) e (stays.derived order (low + 1) d (omega arith) covered.0))
 
   -- with one more line that stays
-  stays_set : (stay : List Bool) (low line : ℕ) → Stays lines sides low stay → Stays lines sides low (set stay line true)
-  stays_set stay low line stays = record {
+  stays_set : (stay : List Bool) (low line : ℕ) → IsOpen sides line → Stays lines sides low stay → Stays lines sides low (set stay line true)
+  stays_set stay low line is_open stays = record {
     len = length-set stay line true ∙ stays.len;
     others = λ k d h other. set_true stay line k (stays.others k d h other) (cases_eq k line);
     derived = λ order k d h within. derives_more order (kept lines stay) (kept lines (set stay line true)) (λ l c. given order (kept lines (set stay line true)) l (kept_set lines stay line l c)) (stays.derived order k d h within);
+    needed = λ k d h var flag. by k d h var flag (cases_eq k line);
   }
+    where
+      by : (k : ℕ) (d : Line) → k < length lines → is_var (get_or lines k d) ≡ true → get_or (set stay line true) k false ≡ true → (k ≡ line) ⊎ (k ≡ line → ⊥) → IsOpen sides k
+      by k d h var flag (inl e) = subst (IsOpen sides) (sym e) is_open
+      by k d h var flag (inr e) = stays.needed k d h var (sym (get_or-set_other stay line k true false e) ∙ flag)
 
   -- the index of an own side is that of a `var` line
   pub own_line : (low line : ℕ) (d : Side) → (get_or sides low d).own ≡ Some line → low < length sides → (line < length lines) × HasSide (get_or lines line (Var d.variable)) (get_or sides low d).variable
@@ -106,9 +125,9 @@ module _ (lines : List Line) (sides : List Side) (are : AreSides lines sides) wh
           (subst (λ k. k < length lines) e within, subst (λ k. HasSide (get_or lines k (Var d.variable)) (get_or sides low d).variable) e l.stands)
 
   -- at the own side of a `var` line that stays
-  pub stays_needed : (stay : List Bool) (low line : ℕ) → ((d : Side) → (get_or sides low d).own ≡ Some line) → low < length sides → Stays lines sides (low + 1) stay → Stays lines sides low (set stay line true)
-  stays_needed stay low line own lt stays =
-      more_by (set stay line true) low (stays_set stay (low + 1) line stays)
+  pub stays_needed : (stay : List Bool) (low line : ℕ) → ((d : Side) → (get_or sides low d).own ≡ Some line) → low < length sides → (IsCovered sides low → ⊥) → Stays lines sides (low + 1) stay → Stays lines sides low (set stay line true)
+  stays_needed stay low line own lt uncovered stays =
+      more_by (set stay line true) low (stays_set stay (low + 1) line (low, lt, own, uncovered) stays)
       (λ order d h. let at = own_line low line d (own d) lt in
       let within : line < length stay = omega (arith, stays.len, at.0) in
       side_stays (set stay line true) order (get_or sides low d) line (Var d.variable) at.0 at.1 (get_or-set_same stay line true false within))
@@ -138,10 +157,87 @@ module _ (lines : List Line) (sides : List Side) (are : AreSides lines sides) wh
   pub step_covered : (stay : List Bool) (high : ℕ) → 0 < high → IsCovered sides (high - 1) → Stays lines sides high stay → Stays lines sides (high - 1) stay
   step_covered stay high positive covered stays = stays_covered stay (high - 1) covered (subst (λ k. Stays lines sides k stay) (omega arith) stays)
 
-  pub step_needed : (stay : List Bool) (high line : ℕ) (e : Side) → 0 < high → high ≤ length sides → (get_or sides (high - 1) e).own ≡ Some line → Stays lines sides high stay → Stays lines sides (high - 1) (set stay line true)
-  step_needed stay high line e positive within own stays =
-      stays_needed stay (high - 1) line (λ d. ap (λ s. s.own) (get_or_default sides (high - 1) d e (omega arith)) ∙ own) (omega arith)
+  pub step_needed : (stay : List Bool) (high line : ℕ) (e : Side) → 0 < high → high ≤ length sides → (get_or sides (high - 1) e).own ≡ Some line → (IsCovered sides (high - 1) → ⊥) → Stays lines sides high stay → Stays lines sides (high - 1) (set stay line true)
+  step_needed stay high line e positive within own uncovered stays =
+      stays_needed stay (high - 1) line (λ d. ap (λ s. s.own) (get_or_default sides (high - 1) d e (omega arith)) ∙ own) (omega arith) uncovered
       (subst (λ k. Stays lines sides k stay) (omega arith) stays)
 
   pub line_within : (stay : List Bool) (high line : ℕ) (e : Side) → 0 < high → high ≤ length sides → (get_or sides (high - 1) e).own ≡ Some line → Stays lines sides high stay → line < length stay
   line_within stay high line e positive within own stays = let at = own_line (high - 1) line e own (omega arith) in omega (arith, stays.len, at.0)
+
+-- a line with an own side is the `var` line of the side
+var_of_own : (i k : ℕ) (l : Line) (z : Dtv) → own_of i l ≡ Some k → HasSide l z → l ≡ Var z
+var_of_own i k (Var x) z e h = ap Var h
+var_of_own i k (Same x y) z e h = cc
+var_of_own i k (Sub x y) z e h = cc
+var_of_own i k (Low j x) z e h = cc
+var_of_own i k (Up x j) z e h = cc
+
+not_less : (o p : Ordering) → is_lt (ordering_then o p) ≡ false → o ≡ Less → ⊥
+not_less o p e f = both_ways (is_lt (ordering_then o p)) e (ap (λ q. is_lt (ordering_then q p)) f)
+
+module _ (lines : List Line) (sides : List Side) (are : AreSides lines sides) (sorted : IsSorted side_cmp sides) (stay : List Bool) (stays : Stays lines sides 0 stay) where
+  -- the ranks of a side
+  ranks_at : (p : ℕ) (d : Side) → p < length sides → (get_or sides p d).ranks.items ≡ ranks_of (get_or sides p d).variable
+  ranks_at p d lt = let (i, h, is) = All-get_or (IsSideIn lines) sides p d lt are.sound in (is (Var d.variable)).ranks
+
+  -- in an ordered pair, the ranks of the later side are not below those of the earlier
+  ranks_ordered : (i j : ℕ) (d : Side) → i ≤ j → j < length sides → slice_cmp rank_cmp (ranks_of (get_or sides j d).variable) (ranks_of (get_or sides i d).variable) ≡ Less → ⊥
+  ranks_ordered i j d le lt f =
+      not_less _ _ (sorted_far (λ a b. is_lt (side_cmp a b)) (ranks_by side_total (λ s. s)) sides sorted i j d le lt)
+      ((λ t. slice_cmp rank_cmp (ranks_at j d lt t) (ranks_at i d (omega arith) t)) ∙ f)
+
+  -- a later side of which the own side is a front is covered by the next
+  covered_later : (p q : ℕ) (d : Side) → p < q → q < length sides → IsFront (get_or sides p d).variable (get_or sides q d).variable → IsCovered sides p
+  covered_later p q d less lt front =
+      covered_made sides p d d (omega arith) (omega arith)
+      (front_between (get_or sides p d).variable (get_or sides (p + 1) d).variable (get_or sides q d).variable front (ranks_ordered p (p + 1) d (omega arith) (omega arith)) (ranks_ordered (p + 1) q d (omega arith) lt))
+
+  -- an earlier side of which the own side is a front is the own side of an equal line
+  own_earlier : (p q k : ℕ) (d : Side) (found : Option ℕ) → q < p → p < length sides → (get_or sides p d).own ≡ Some k → IsFront (get_or sides p d).variable (get_or sides q d).variable → (get_or sides q d).own ≡ found →
+      ((get_or sides q d).variable ≡ (get_or sides p d).variable) × ((j : ℕ) × (found ≡ Some j))
+  own_earlier p q k d found less lt own front e = by found e (before_longer (get_or sides p d).variable (get_or sides q d).variable front)
+    where
+      s : Side
+      s = get_or sides p d
+
+      t : Side
+      t = get_or sides q d
+
+      kept_order : is_lt (side_cmp s t) ≡ false
+      kept_order = sorted_far (λ a b. is_lt (side_cmp a b)) (ranks_by side_total (λ s. s)) sides sorted q p d (omega arith) lt
+
+      by : (found : Option ℕ) → t.own ≡ found → (slice_cmp rank_cmp (ranks_of s.variable) (ranks_of t.variable) ≡ Less) ⊎ (t.variable ≡ s.variable) → (t.variable ≡ s.variable) × ((j : ℕ) × (found ≡ Some j))
+      by found e (inl f) = absurd (not_less _ _ kept_order ((λ i. slice_cmp rank_cmp (ranks_at p d lt i) (ranks_at q d (omega arith) i)) ∙ f))
+      by (Some j) e (inr g) = (g, (j, refl))
+      by None e (inr g) =
+          let tied : slice_cmp rank_cmp s.ranks.items t.ranks.items ≡ Equal = (λ i. slice_cmp rank_cmp (ranks_at p d lt i) ((ranks_at q d (omega arith) ∙ ap ranks_of g) i)) ∙ tied_itself (lists_total rank_total) (ranks_of s.variable) in
+          let less' : side_cmp s t ≡ Less = λ i. ordering_then (tied i) (bool_cmp (is_none (own i)) (is_none (e i))) in
+          absurd (both_ways (is_lt (side_cmp s t)) kept_order (ap is_lt less'))
+
+  -- the line of a side that the open side of `var x` is a front of is `var x`
+  same_line : (x y : Dtv) (l : Line) (j p q k : ℕ) (t : Side) → p < length sides → q < length sides → ((d : Side) → (get_or sides p d).own ≡ Some k) → (IsCovered sides p → ⊥) → (get_or sides p t).variable ≡ x → get_or sides q t ≡ t →
+      t.variable ≡ y → IsSide j t l → IsFront x y → l ≡ Var x
+  same_line x y l j p q k t p_lt q_lt own uncovered s_x f t_y is front = by (cases_order q p)
+    where
+      both_front : IsFront (get_or sides p t).variable (get_or sides q t).variable
+      both_front = subst (λ v. IsFront v (get_or sides q t).variable) (sym s_x) (subst (IsFront x) (sym (ap (λ s. s.variable) f ∙ t_y)) front)
+
+      earlier : ((get_or sides q t).variable ≡ (get_or sides p t).variable) × ((i : ℕ) × (t.own ≡ Some i)) → l ≡ Var x
+      earlier (g, (i, o)) = var_of_own j i l t.variable (sym is.own ∙ o) is.stands ∙ ap Var (sym (ap (λ s. s.variable) f) ∙ g ∙ s_x)
+
+      by : (q ≡ p) ⊎ ((q < p) ⊎ (p < q)) → l ≡ Var x
+      by (inl e) =
+          let s_t : get_or sides p t ≡ t = ap (λ i. get_or sides i t) (sym e) ∙ f in
+          var_of_own j k l t.variable (sym is.own ∙ ap (λ s. s.own) (sym s_t) ∙ own t) is.stands ∙ ap Var (ap (λ s. s.variable) (sym s_t) ∙ s_x)
+      by (inr (inl less)) = earlier (own_earlier p q k t t.own less p_lt (own t) both_front (ap (λ s. s.own) f))
+      by (inr (inr less)) = absurd (uncovered (covered_later p q t less q_lt both_front))
+
+  pub bare : IsBare (kept lines stay)
+  bare x y l c d has front =
+      let (k, k_lt, flag, at) = kept_place lines stay (Var x) c in
+      let (p, p_lt, own, uncovered) = stays.needed k (Var x) k_lt (ap is_var (at (Var x))) flag in
+      let (j, j_lt, e) = kept_source lines stay l d in
+      let (t, (q, q_lt, f), is, v) = are.complete j l y j_lt (subst (λ m. HasSide m y) (sym e) has) in
+      let s_x = (own_line lines sides are p k t (own t) p_lt).1 in
+      same_line x y l j p q k t p_lt q_lt own uncovered (sym (subst (λ m. HasSide m (get_or sides p t).variable) (at (Var t.variable)) s_x)) f v (subst (IsSide j t) e is) front

@@ -1,11 +1,10 @@
 -- Tidy lines, and how many say that a variable lies below another.
-use Rattle.std.proofs.Common.{◌≡◌, ◌≢◌, ℕ, suc, ◌+◌, ◌<◌, ◌≤◌, ◌⊎◌, inl, inr, List, [], ◌∷◌, ◌++◌, map, fold, AllPairs, All, Contains, Bool, true, false, cond, Option, Some, None, length, get_or, refl, sym, ap, subst, ◌∙◌, arith}
+use Rattle.std.proofs.Common.{◌≡◌, ◌≢◌, ℕ, suc, ◌+◌, ◌<◌, ◌≤◌, ◌⊎◌, inl, inr, List, [], ◌∷◌, ◌++◌, map, fold, AllPairs, All, Contains, Bool, true, false, cond, Option, Some, refl, sym, ap, subst, ◌∙◌, arith}
 use Rattle.std.specs.List.{list_any}
 use Rattle.std.proofs.lemmas.Bool.{both_ways}
-use Rattle.std.proofs.lemmas.List.Elements.{All-contains, All-nil, All-cons}
+use Rattle.std.proofs.lemmas.List.Elements.{All-contains}
 use Rattle.std.proofs.lemmas.List.Kept.{AllPairs-cons}
 use Rattle.indexmap.specs.IndexSet.{insert_key}
-use Rattle.rt_terms.specs.declared.label.Variance.TheVariants.{Co}
 use Rattle.rt_terms.specs.declared.variable.Base.TheVariants.{Exist}
 use Rattle.rt_terms.specs.declared.variable.Dtv.{Dtv}
 use Rattle.rt_terms.specs.declared.line.Line.{Line}
@@ -19,7 +18,7 @@ use Rattle.rt_rules.proofs.Covering.{extended-nil}
 use Rattle.rt_rules.proofs.Putting.{put_each-none}
 use Rattle.rt_numbering.specs.Numbering.{deduplicated}
 use Rattle.rt_numbering.proofs.Deduplicating.{deduplicated-distinct, deduplicated-source}
-use Rattle.rt_solve.specs.Tidy.{without_self, sub_weight, sub_count, IsTidy, kept}
+use Rattle.rt_solve.specs.Tidy.{without_self, sub_weight, sub_count, IsBare, IsTidy, kept}
 use Rattle.rt_solve.proofs.Kept.{kept_source}
 
 -- what holds of pairs holds of pairs of what is kept
@@ -121,11 +120,12 @@ without_self-no_self (Low k x) z f = cc
 without_self-no_self (Up x k) z f = cc
 
 -- the lines after the three steps are tidy
-pub tidied : (lines : List Line) (stay : List Bool) → IsTidy (kept (deduplicated (map without_self lines)) stay)
-tidied lines stay = record {
+pub tidied : (lines : List Line) (stay : List Bool) → IsBare (kept (deduplicated (map without_self lines)) stay) → IsTidy (kept (deduplicated (map without_self lines)) stay)
+tidied lines stay is_bare = record {
   once = AllPairs-kept (λ a b. a ≢ b) (deduplicated (map without_self lines)) stay (deduplicated-distinct (map without_self lines));
   no_self = λ x c. let s = Contains-map_source without_self lines (Sub x x) (deduplicated-source (map without_self lines) (Sub x x) (kept_source (deduplicated (map without_self lines)) stay (Sub x x) c)) in
       without_self-no_self s.0 x s.2;
+  bare = is_bare;
 }
 
 pub fewer_kept : (lines : List Line) (stay : List Bool) → sub_count (kept (deduplicated lines) stay) ≤ sub_count lines

@@ -1,5 +1,5 @@
 -- Lists that tell the outside the same.
-use Rattle.std.proofs.Common.{◌≡◌, ℕ, ◌⊎◌, inl, inr, List, [], ◌∷◌, map, All, Contains, Option, Some, None, Bool, true, false, cond, refl, sym, ap, subst}
+use Rattle.std.proofs.Common.{◌≡◌, ℕ, ◌⊎◌, inl, inr, List, map, All, Contains, Option, Some, None, Bool, true, false, cond, refl, sym, subst}
 use Rattle.std.specs.List.Sorted.{IsPermutation}
 use Rattle.std.proofs.lemmas.List.Elements.{All-contains}
 use Rattle.std.proofs.lemmas.List.Sorted.{Contains-permutation, IsPermutation-sym}
@@ -9,18 +9,17 @@ use Rattle.rt_terms.specs.declared.variable.Base.TheVariants.{Proc, Global, Exis
 use Rattle.rt_terms.specs.declared.variable.Dtv.{Dtv}
 use Rattle.rt_terms.specs.declared.line.Line.{Line}
 use Rattle.rt_terms.specs.declared.line.Line.TheVariants.{Var, Same, Sub, Low, Up}
-use Rattle.rt_terms.specs.declared.label.Variance.TheVariants.{Co}
 use Rattle.rt_terms.specs.Equality.{variable_eq}
 use Rattle.rt_terms.specs.Lines.{HasConstantsBelow}
 use Rattle.rt_terms.specs.Orders.{Below}
 use Rattle.rt_terms.proofs.Equal.{variable_equal}
 use Rattle.rt_rules.specs.Rules.{HasSide, Derivable}
-use Rattle.rt_rules.specs.Rules.Derivable.{named, left_side, sub_self}
+use Rattle.rt_rules.specs.Rules.Derivable.{left_side, sub_self}
 use Rattle.rt_rules.specs.Alike.{is_inside_for, map_line}
-use Rattle.rt_rules.specs.Put.{exist, put_found, put_each_at, put_each, use_of, IsOnlyUse, IsPutting}
-use Rattle.rt_rules.specs.Laws.{renamed, NamesBase}
+use Rattle.rt_rules.specs.Put.{exist, put_found, put_each_at, put_each, IsPutting}
+use Rattle.rt_rules.specs.Laws.{NamesBase}
 use Rattle.rt_rules.proofs.Lists.{Contains-map, Contains-map_source, All-from_contains}
-use Rattle.rt_rules.proofs.Carry.{given, HasSide-map}
+use Rattle.rt_rules.proofs.Carry.{given}
 use Rattle.rt_rules.proofs.Covering.{exchange, Alike-refl, Alike-trans}
 use Rattle.rt_rules.proofs.Putting.{putting_lem}
 use Rattle.rt_numbering.specs.Numbering.{deduplicated, numbered}
@@ -76,7 +75,7 @@ pub constants-map : (count : ℕ) (f : Dtv → Dtv) (lines : List Line) → All 
 constants-map count f lines all = All-images (map_line f) (HasConstantsBelow count) (HasConstantsBelow count) (HasConstantsBelow-map count f) lines all
 
 -- a side of an image of a line is the image of a side
-side_source : (f : Dtv → Dtv) (l : Line) (z : Dtv) → HasSide (map_line f l) z → (x : Dtv) × HasSide l x × (f x ≡ z)
+pub side_source : (f : Dtv → Dtv) (l : Line) (z : Dtv) → HasSide (map_line f l) z → (x : Dtv) × HasSide l x × (f x ≡ z)
 side_source f (Var x) z e = (x, refl, e)
 side_source f (Same x y) z (inl e) = (x, inl refl, e)
 side_source f (Same x y) z (inr e) = (y, inr refl, e)

@@ -1,5 +1,5 @@
 -- The uses that define existentials.
-use Rattle.std.proofs.Common.{◌≡◌, ◌≢◌, ◌↔◌, ℕ, ◌+◌, ◌-◌, ◌<◌, ◌≤◌, ◌⊎◌, inl, inr, List, [], ◌∷◌, ◌++◌, map, All, Contains, Option, Some, None, length, get_or, refl, sym, ap, subst, ◌∙◌, arith, append-nil, AllPairs, Bool, true, false, ◌&&◌, nat_eq}
+use Rattle.std.proofs.Common.{◌≡◌, ◌≢◌, ◌↔◌, ℕ, ◌+◌, ◌-◌, ◌<◌, ◌⊎◌, inl, inr, List, [], ◌∷◌, ◌++◌, map, All, Contains, Option, Some, None, length, get_or, refl, sym, ap, subst, ◌∙◌, arith, append-nil, AllPairs, Bool, true, false, ◌&&◌, nat_eq}
 use Rattle.std.specs.List.{HoldsAt}
 use Rattle.std.specs.List.Sorted.{IsNonDecreasingBy, IsPermutation}
 use Rattle.std.specs.Option.{option_to_list, option_eq}
@@ -9,7 +9,7 @@ use Rattle.std.proofs.lemmas.List.Elements.{All-contains, All-append, All-get_or
 use Rattle.std.specs.Bool.{Decides}
 use Rattle.std.proofs.lemmas.List.Quantifiers.{all_pairs_push}
 use Rattle.std.proofs.lemmas.List.Sorted.{All-permutation, Contains-permutation}
-use Rattle.rt_terms.specs.declared.label.Variance.TheVariants.{Co, Contra}
+use Rattle.rt_terms.specs.declared.label.Variance.TheVariants.{Co}
 use Rattle.rt_terms.specs.declared.variable.Base.TheVariants.{Exist}
 use Rattle.rt_terms.specs.declared.variable.Dtv.{Dtv}
 use Rattle.rt_terms.specs.declared.line.Line.{Line}

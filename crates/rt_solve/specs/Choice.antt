@@ -1,6 +1,5 @@
 -- The choice of the existentials that are put away together.
 use Rattle.std.specs.Prelude.{◌≡◌, ◌≢◌, ℕ, ◌<◌, List, Bool, true, Option, Some, None, IsSome, slice_index_or}
-use Rattle.std.specs.List.{HoldsAt}
 use Rattle.rt_terms.specs.declared.label.Variance.TheVariants.{Co}
 use Rattle.rt_terms.specs.declared.variable.Base.TheVariants.{Exist}
 use Rattle.rt_terms.specs.declared.variable.Dtv.{Dtv}

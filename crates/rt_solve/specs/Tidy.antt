@@ -1,9 +1,11 @@
 -- Lines that say nothing twice.
-use Rattle.std.specs.Prelude.{◌≢◌, ℕ, List, [], ◌∷◌, AllPairs, Contains, Bool, true, false, cond, ◌+◌}
+use Rattle.std.specs.Prelude.{◌≡◌, ◌≢◌, ℕ, List, [], ◌∷◌, AllPairs, Contains, Bool, cond, ◌+◌}
 use Rattle.rt_terms.specs.declared.variable.Dtv.{Dtv}
 use Rattle.rt_terms.specs.declared.line.Line.{Line}
 use Rattle.rt_terms.specs.declared.line.Line.TheVariants.{Var, Same, Sub, Low, Up}
 use Rattle.rt_terms.specs.Equality.{variable_eq}
+use Rattle.rt_rules.specs.Rules.{HasSide}
+use Rattle.rt_solve.specs.Sides.{IsFront}
 
 -- the line, but that `var X` stands for `X <= X`
 abbrev pub without_self : Line → Line
@@ -26,10 +28,15 @@ abbrev pub sub_count : List Line → ℕ
 sub_count [] = 0
 sub_count (l ∷ lines) = sub_weight l + sub_count lines
 
--- no line stands twice, and none puts a variable below itself
+-- no `var` line's variable is a front of a variable of another line
+abbrev pub IsBare : List Line → Type 0
+IsBare lines = (x y : Dtv) (l : Line) → Contains lines (Var x) → Contains lines l → HasSide l y → IsFront x y → l ≡ Var x
+
+-- no line stands twice, none puts a variable below itself, and no `var` line is covered by another line
 pub record IsTidy (lines : List Line) : Type 0 where
   pub once : AllPairs (λ a b. a ≢ b) lines
   pub no_self : (x : Dtv) → Contains lines (Sub x x) → ⊥
+  pub bare : IsBare lines
 
 -- the elements whose flags are set
 abbrev pub kept : {X : Type 0} → List X → List Bool → List X

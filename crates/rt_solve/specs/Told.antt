@@ -1,5 +1,5 @@
 -- What a list of lines keeps of another.
-use Rattle.std.specs.Prelude.{◌≡◌, ℕ, ◌⊎◌, List, All}
+use Rattle.std.specs.Prelude.{ℕ, ◌⊎◌, List, All}
 use Rattle.rt_terms.specs.declared.variable.Base.{Base}
 use Rattle.rt_terms.specs.declared.variable.Base.TheVariants.{Proc, Global, Exist, Outer}
 use Rattle.rt_terms.specs.declared.line.Line.{Line}

@@ -8,7 +8,7 @@ ghost use Rattle.rt_rules.specs.Alike.{Alike, is_inside_for};
 ghost use Rattle.rt_rules.specs.Laws.{NamesBase};
 ghost use Rattle.rt_solve.specs.Choice.{IsSolved};
 ghost use Rattle.rt_solve.specs.Sorted.{AreSorted};
-ghost use Rattle.rt_solve.specs.Tidy.{IsTidy, sub_count, without_self};
+ghost use Rattle.rt_solve.specs.Tidy.{IsBare, IsTidy, sub_count, without_self};
 ghost use Rattle.rt_solve.specs.Told.{IsExist, TellsSame};
 
 use crate::ordering::sort_lines;
@@ -49,16 +49,27 @@ fn put_away(alloc: Global, lines: Lines) -> Result<Lines, Memory>
     }
 }
 
-/// The scheme of a list of lines.
+/// The scheme of a list of lines (PLDI 2016, section 5), of which every constant has a name: lines that tell the outside
+/// of every procedure the same, with no constant and no base more that is no existential.
+///
+/// While an existential v has one defining use alone, and that is the right side of `Z <= v` with Z of another base, Z is
+/// put in the place of v in every line. `X <= X` is `var X`, no line stands twice, and no `var` line stands whose variable
+/// is a front of a variable of another line. The existentials are numbered from 0 in the order in which they first stand
+/// in these lines, and then the lines are sorted by the bytes of their texts. The error is want of memory.
 pub fn settle(alloc: Global, lines: Lines, names: &Names) -> Result<Lines, Memory>
     requires { All (HasConstantsBelow (length names.now)) lines }
+
+    // The outside can derive the same from the scheme, in which no name is new.
     ensures alike { IfOk result (λ settled. (order : Below) (p : ℕ) → Alike order (is_inside_for p) lines settled) }
-    ensures sorted { IfOk result (AreSorted names.now) }
     ensures constants { IfOk result (λ settled. (count : ℕ) → All (HasConstantsBelow count) lines → All (HasConstantsBelow count) settled) }
-    ensures once { IfOk result (AllPairs (λ a b. a ≢ b)) }
+    ensures bases { IfOk result (λ settled. (b : Base) → NamesBase settled b → IsExist b ⊎ NamesBase lines b) }
+
+    // Nothing is left to do.
     ensures solved { IfOk result IsSolved }
     ensures no_self { IfOk result (λ settled. (x : Dtv) → Contains settled (Line.Sub x x) → ⊥) }
-    ensures bases { IfOk result (λ settled. (b : Base) → NamesBase settled b → IsExist b ⊎ NamesBase lines b) }
+    ensures bare { IfOk result IsBare }
+    ensures once { IfOk result (AllPairs (λ a b. a ≢ b)) }
+    ensures sorted { IfOk result (AreSorted names.now) }
 {
     let lines = put_away(alloc, lines)?;
     let lines = number(alloc, lines)?;

@@ -4,7 +4,7 @@ ghost use Rattle.rt_terms.specs.declared.line.Line.{Line};
 ghost use Rattle.rt_terms.specs.Orders.{Below};
 ghost use Rattle.rt_rules.specs.Rules.{Derivable};
 ghost use Rattle.rt_solve.specs.Sides.{AddsSide, AddsSides, AddsTwo, AreSides, IsCovered, IsFront, is_var, side_cmp};
-ghost use Rattle.rt_solve.specs.Tidy.{kept};
+ghost use Rattle.rt_solve.specs.Tidy.{IsBare, kept};
 ghost use Rattle.rt_solve.specs.Told.{TellsSame};
 
 use crate::ranks::{Rank, ranks_of};
@@ -131,9 +131,11 @@ fn which_say_more(alloc: Global, lines: &[Line]) -> Result<Vec<bool>, Memory>
 // For each line, whether it stays. A side that has a front among the sides stands directly behind it or behind another
 // one that has it, so the next side tells whether a `var` line is covered.
 fn which_stay(alloc: Global, lines: &[Line], sides: &[Side]) -> Result<Vec<bool>, Memory>
-    requires { AreSides lines.now sides.now }
+    requires sides { AreSides lines.now sides.now }
+    requires sorted { IsSorted side_cmp sides.now }
     ensures len { IfOk result (λ stay. length stay.items ≡ length lines.now) }
     ensures derived { IfOk result (λ stay. (order : Below) (l : Line) → Contains lines.now l → Derivable order (kept lines.now stay.items) l) }
+    ensures bare { IfOk result (λ stay. IsBare (kept lines.now stay.items)) }
 {
     let mut stay = which_say_more(alloc, lines)?;
     for i in (0..sides.len()).rev() {
@@ -165,6 +167,7 @@ fn keep(alloc: Global, lines: Lines, stay: &[bool]) -> Result<Lines, Memory>
 pub fn without_spare(alloc: Global, lines: Lines) -> Result<Lines, Memory>
     ensures same { IfOk result (TellsSame lines) }
     ensures part { IfOk result (λ r. (stay : List Bool) × (r ≡ kept lines stay)) }
+    ensures bare { IfOk result IsBare }
 {
     let sides = sorted_sides(alloc, lines.items())?;
     let stay = which_stay(alloc, lines.items(), &sides)?;

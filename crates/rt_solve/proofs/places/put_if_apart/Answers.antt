@@ -1,4 +1,4 @@
-use Rattle.std.proofs.Common.{◌≡◌, Some, IsSome, ap, refl, sym, subst, ◌∙◌, nat_eq, rules, cond}
+use Rattle.std.proofs.Common.{Some, IsSome, ap, refl, sym, subst, ◌∙◌, nat_eq, cond}
 use Rattle.std.specs.HashMap.{get}
 use Rattle.std.specs.HashSet.{contains}
 use Rattle.rt_solve.proofs.Choosing.{choice_more}

@@ -34,6 +34,9 @@ returns-clause-once c = IfOk-weaker c.sort_lines.result IsTidy _ (λ r tidy. tid
 pub returns-clause-no_self : goal.returns-clause-no_self
 returns-clause-no_self c = IfOk-weaker c.sort_lines.result IsTidy _ (λ r tidy. tidy.no_self) (settled_tidy c)
 
+pub returns-clause-bare : goal.returns-clause-bare
+returns-clause-bare c = IfOk-weaker c.sort_lines.result IsTidy _ (λ r tidy. tidy.bare) (settled_tidy c)
+
 pub returns-clause-solved : goal.returns-clause-solved
 returns-clause-solved c =
     IfOk-weaker c.sort_lines.result (IsPermutation c.in_ok-lines-2.lines) IsSolved

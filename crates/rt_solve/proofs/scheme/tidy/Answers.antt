@@ -1,8 +1,10 @@
-use Rattle.std.proofs.Common.{◌≡◌, ◌≤◌, map, ap, sym, subst, ◌∙◌}
+use Rattle.std.proofs.Common.{◌≡◌, ◌≤◌, IfOk, Result, Ok, Err, List, Bool, map, ap, sym, subst, ◌∙◌}
 use Rattle.std.proofs.lemmas.Result.{IfOk-weaker}
 use Rattle.rt_solve.specs.Told.{TellsSame}
+use Rattle.rt_terms.specs.declared.line.Line.{Line}
+use Rattle.std.specs.declared.alloc.AllocError.{AllocError}
 use Rattle.rt_numbering.specs.Numbering.{deduplicated}
-use Rattle.rt_solve.specs.Tidy.{IsTidy, kept, sub_count, without_self}
+use Rattle.rt_solve.specs.Tidy.{IsBare, IsTidy, kept, sub_count, without_self}
 use Rattle.rt_solve.proofs.Tidying.{tidied, fewer_kept}
 use Rattle.rt_solve.proofs.Told.{TellsSame-trans, TellsSame-without_self, TellsSame-deduplicated}
 use Rattle.rt_solve.proofs.scheme.tidy.Goals as goal
@@ -18,8 +20,13 @@ returns-clause-same c =
     c.without_spare.ensures.same
 
 pub returns-clause-tidied : goal.returns-clause-tidied
-returns-clause-tidied c =
-    IfOk-weaker c.without_spare.result _ IsTidy (λ r (stay, e). subst IsTidy (sym (e ∙ ap (λ lines. kept lines stay) (plain c))) (tidied c.args.lines stay)) c.without_spare.ensures.part
+returns-clause-tidied c = both c.without_spare.result c.without_spare.ensures.part c.without_spare.ensures.bare
+  where
+    both : (r : Result (List Line) AllocError) → IfOk r (λ t. (stay : List Bool) × (t ≡ kept c.in_ok-lines-2.lines stay)) → IfOk r IsBare → IfOk r IsTidy
+    both (Ok r) (stay, e) bare =
+        let f : r ≡ kept (deduplicated (map without_self c.args.lines)) stay = e ∙ ap (λ lines. kept lines stay) (plain c) in
+        subst IsTidy (sym f) (tidied c.args.lines stay (subst IsBare f bare))
+    both (Err e) part bare = tt
 
 pub returns-clause-fewer : goal.returns-clause-fewer
 returns-clause-fewer c =

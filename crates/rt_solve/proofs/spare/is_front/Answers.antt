@@ -1,5 +1,5 @@
-use Rattle.std.proofs.Common.{◌≡◌, ◌∙◌, sym, ap, drop, length, rules}
-use Rattle.rt_terms.specs.Equality.{base_eq, label_eq}
+use Rattle.std.proofs.Common.{◌∙◌, sym}
+use Rattle.rt_terms.specs.Equality.{label_eq}
 use Rattle.std.specs.List.{starts_with}
 use Rattle.rt_solve.proofs.Fronts.{front_is}
 use Rattle.rt_solve.proofs.spare.is_front.Goals as goal

@@ -1,4 +1,4 @@
-use Rattle.std.proofs.Common.{◌≡◌, ◌<◌, length, ◌∙◌, sym, rules}
+use Rattle.std.proofs.Common.{◌≡◌, ◌<◌, length, rules}
 use Rattle.rt_solve.proofs.Kept.{kept_more_yes, kept_more_no}
 use Rattle.rt_solve.proofs.spare.keep.Goals as goal
 use Rattle.rt_solve.proofs.spare.keep.Goals.{then-stay-i+in_ok-copy+in_ok-push, else-stay-i}

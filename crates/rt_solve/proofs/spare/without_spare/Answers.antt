@@ -3,7 +3,7 @@ use Rattle.std.proofs.lemmas.Result.{IfOk-weaker}
 use Rattle.rt_terms.specs.declared.line.Line.{Line}
 use Rattle.rt_terms.specs.Orders.{Below}
 use Rattle.rt_rules.specs.Rules.{Derivable}
-use Rattle.rt_solve.specs.Tidy.{kept}
+use Rattle.rt_solve.specs.Tidy.{IsBare, kept}
 use Rattle.rt_solve.specs.Told.{TellsSame}
 use Rattle.rt_solve.proofs.Kept.{kept_source}
 use Rattle.rt_solve.proofs.Told.{TellsSame-part}
@@ -20,3 +20,8 @@ returns-clause-same c =
     (λ r e. subst (TellsSame c.args.lines) (sym (e ∙ ap (kept c.args.lines) c.deref-2.ensures.value))
     (TellsSame-part c.args.lines (kept c.args.lines c.in_ok-stay.stay.items) (kept_source c.args.lines c.in_ok-stay.stay.items) derived))
     c.keep.ensures
+
+pub returns-clause-bare : goal.returns-clause-bare
+returns-clause-bare c =
+    let is_bare : IsBare (kept c.args.lines c.in_ok-stay.stay.items) = subst (λ (lines : List Line). IsBare (kept lines c.in_ok-stay.stay.items)) c.items-2.ensures c.in_ok-stay.ensures.bare in
+    IfOk-weaker c.keep.result _ IsBare (λ r e. subst IsBare (sym (e ∙ ap (kept c.args.lines) c.deref-2.ensures.value)) is_bare) c.keep.ensures

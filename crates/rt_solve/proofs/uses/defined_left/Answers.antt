@@ -1,5 +1,3 @@
-use Rattle.std.proofs.Common.{◌≡◌, ◌↔◌, Some, sym, subst}
-use Rattle.rt_solve.specs.Uses.{DefinesLeft}
 use Rattle.rt_solve.proofs.uses.defined_left.Goals as goal
 
 pub returns-in-Sub : goal.returns-in-Sub

@@ -1,4 +1,4 @@
-use Rattle.std.proofs.Common.{◌≡◌, None, Some, sym, ◌∙◌}
+use Rattle.std.proofs.Common.{sym}
 use Rattle.rt_solve.proofs.Using.{same_option, other_option}
 use Rattle.rt_solve.proofs.uses.defined_right_alone.Goals as goal
 
