@@ -1,4 +1,4 @@
-use Rattle.std.specs.Prelude.{◌≡◌, ℕ, ◌<◌, ◌≤◌, ◌⊎◌, List, take, Option}
+use Rattle.std.specs.Prelude.{ℕ, ◌<◌, ◌≤◌, ◌⊎◌, List, take, Option}
 use Rattle.std.specs.Io.KnownBytes.{Appends}
 
 -- A count rose: it is greater than it was, or stands at a counter's end.

@@ -7,13 +7,13 @@ use Rattle.rt_insn.specs.declared.insn.Insn.TheVariants.{Lui, Auipc, Jal, Jalr, 
 -- The table read from the word's side: the instruction of a word, found field by field. Only private functions cite
 -- it; that it agrees with the table is proved.
 
--- opcode JALR
+-- the instruction of a word of opcode JALR
 unfoldable pub jalr_of : ℕ → Option Insn
 jalr_of w =
     if field w 12 3 == 0 then Some (Jalr (field w 7 5) (field w 15 5) (imm_i w)) else
     None
 
--- opcode BRANCH
+-- the instruction of a word of opcode BRANCH
 unfoldable pub branch_of : ℕ → Option Insn
 branch_of w =
     if field w 12 3 == 0 then Some (Beq (field w 15 5) (field w 20 5) (imm_b w)) else
@@ -24,7 +24,7 @@ branch_of w =
     if field w 12 3 == 7 then Some (Bgeu (field w 15 5) (field w 20 5) (imm_b w)) else
     None
 
--- opcode LOAD
+-- the instruction of a word of opcode LOAD
 unfoldable pub load_of : ℕ → Option Insn
 load_of w =
     if field w 12 3 == 0 then Some (Lb (field w 7 5) (field w 15 5) (imm_i w)) else
@@ -34,7 +34,7 @@ load_of w =
     if field w 12 3 == 5 then Some (Lhu (field w 7 5) (field w 15 5) (imm_i w)) else
     None
 
--- opcode STORE
+-- the instruction of a word of opcode STORE
 unfoldable pub store_of : ℕ → Option Insn
 store_of w =
     if field w 12 3 == 0 then Some (Sb (field w 15 5) (field w 20 5) (imm_s w)) else
@@ -42,7 +42,7 @@ store_of w =
     if field w 12 3 == 2 then Some (Sw (field w 15 5) (field w 20 5) (imm_s w)) else
     None
 
--- opcode OP-IMM, the shifts
+-- the instruction of a word of opcode OP-IMM that is a shift
 unfoldable pub shift_imm_of : ℕ → Option Insn
 shift_imm_of w =
     if field w 25 7 == 0x00 && field w 12 3 == 1 then Some (Slli (field w 7 5) (field w 15 5) (field w 20 5)) else
@@ -50,7 +50,7 @@ shift_imm_of w =
     if field w 25 7 == 0x20 && field w 12 3 == 5 then Some (Srai (field w 7 5) (field w 15 5) (field w 20 5)) else
     None
 
--- opcode OP-IMM
+-- the instruction of a word of opcode OP-IMM
 unfoldable pub op_imm_of : ℕ → Option Insn
 op_imm_of w =
     if field w 12 3 == 0 then Some (Addi (field w 7 5) (field w 15 5) (imm_i w)) else
@@ -61,7 +61,7 @@ op_imm_of w =
     if field w 12 3 == 7 then Some (Andi (field w 7 5) (field w 15 5) (imm_i w)) else
     shift_imm_of w
 
--- opcode OP
+-- the instruction of a word of opcode OP
 unfoldable pub op_of : ℕ → Option Insn
 op_of w =
     if field w 25 7 == 0x00 && field w 12 3 == 0 then Some (Add (field w 7 5) (field w 15 5) (field w 20 5)) else
@@ -84,20 +84,20 @@ op_of w =
     if field w 25 7 == 0x01 && field w 12 3 == 7 then Some (Remu (field w 7 5) (field w 15 5) (field w 20 5)) else
     None
 
--- opcode MISC-MEM
+-- the instruction of a word of opcode MISC-MEM
 unfoldable pub fence_of : ℕ → Option Insn
 fence_of w =
     if field w 12 3 == 0 then Some (Fence (2 ^ 15 * field w 15 17 + 2 ^ 7 * field w 7 5)) else
     None
 
--- opcode SYSTEM
+-- the instruction of a word of opcode SYSTEM
 unfoldable pub system_of : ℕ → Option Insn
 system_of w =
     if w == 0x00000073 then Some Ecall else
     if w == 0x00100073 then Some Ebreak else
     None
 
--- every opcode
+-- the instruction of a word
 unfoldable pub insn_of : ℕ → Option Insn
 insn_of w =
     if field w 0 7 == 0x37 then Some (Lui (field w 7 5) (imm_u w)) else

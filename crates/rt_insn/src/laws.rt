@@ -11,17 +11,17 @@ use crate::insn::Insn;
 
 /// A word is the code of one instruction at most.
 pub fn one_code()
-    ensures { (w : ℕ) (i j : Insn) → IsCode w i → IsCode w j → i ≡ j }
+    ensures { (word : ℕ) (i j : Insn) → IsCode word i → IsCode word j → i ≡ j }
 {}
 
 /// An instruction has one word at most.
 pub fn one_word()
-    ensures { (v w : ℕ) (i : Insn) → IsCode v i → IsCode w i → v ≡ w }
+    ensures { (v w : ℕ) (insn : Insn) → IsCode v insn → IsCode w insn → v ≡ w }
 {}
 
 /// An instruction that has a word is one that [`encode`] takes.
 pub fn code_in_range()
-    ensures { (w : ℕ) (i : Insn) → IsCode w i → HasRange i }
+    ensures { (word : ℕ) (insn : Insn) → IsCode word insn → HasRange insn }
 {}
 
 /// Decoding what [`encode`] writes gives the instruction back.

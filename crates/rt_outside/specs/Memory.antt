@@ -1,5 +1,5 @@
 -- Files and sinks in memory.
-use Rattle.std.specs.Prelude.{◌≡◌, ℕ, ◌+◌, nat_lt, nat_eq, Option, Some, None, is_none, List, [], ◌∷◌, if◌then◌else◌}
+use Rattle.std.specs.Prelude.{ℕ, ◌+◌, nat_lt, nat_eq, Option, Some, None, is_none, List, [], ◌∷◌, if◌then◌else◌}
 use lib.Pointwise.{pointwise}
 
 -- names with their contents, the numbers of the reads that fail, and how many reads there were

@@ -12,3 +12,6 @@ pub use bytes_sink::BytesSink;
 pub use files::{FileFault, Files};
 pub use files_of::FilesOf;
 pub use sink::{Sink, SinkFault};
+
+#[cfg(test)]
+mod tests;

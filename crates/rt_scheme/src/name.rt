@@ -63,3 +63,30 @@ pub fn print_name(name: &[u8], out: &mut Vec<u8>) -> Result<(), Memory>
         }
     }
 }
+
+#[cfg(test)]
+mod tests {
+    use super::*;
+    use std::alloc::Global;
+    use std::process::Abort;
+    use std::test::Fail;
+
+    fn has_text(rt: &impl Abort, alloc: Global, name: &[u8], text: &[u8]) -> Result<(), Fail> {
+        let mut out = Vec::new(alloc);
+        print_name(name, &mut out)?;
+        assert_eq!(rt; out.as_slice(), text);
+        Ok(())
+    }
+
+    #[test]
+    fn names_have_texts(rt: HostRuntime) -> Result<(), Fail> {
+        let alloc = rt.alloc();
+        has_text(&rt, alloc, b"", b"-")?;
+        has_text(&rt, alloc, b"-", b"\\2d")?;
+        has_text(&rt, alloc, b"--", b"--")?;
+        has_text(&rt, alloc, b"a b", b"a\\20b")?;
+        has_text(&rt, alloc, b"a\\b", b"a\\5cb")?;
+        has_text(&rt, alloc, b"\xff\x80\x7e\x21", b"\\ff\\80~!")?;
+        has_text(&rt, alloc, b"\xc3\xa9", b"\\c3\\a9")
+    }
+}

@@ -112,7 +112,12 @@ fn push_entries(entries: &[Entry], names: &Names, out: &mut Vec<u8>) -> Result<(
 
 /// Adds the line that a procedure begins with, with its line end: the procedure's number, its place and its
 /// name. After want of memory the bytes are as they were.
-pub fn print_heading(number: u32, place: Place2, name: &[u8], out: &mut Vec<u8>) -> Result<(), Memory>
+pub fn print_heading(
+    number: u32,
+    place: Place2,
+    name: &[u8],
+    out: &mut Vec<u8>,
+) -> Result<(), Memory>
     ensures ok { OnOk result (out.new.items ≡ out.old.items ++ heading_text number place name.now) }
     ensures err { OnErr result (out.new.items ≡ out.old.items) }
 {
@@ -130,4 +135,84 @@ pub fn print_report(alloc: Global, report: &Report, names: &Names) -> Result<Vec
     push_globals(report.globals.items(), &mut text)?;
     push_entries(report.entries.items(), names, &mut text)?;
     Ok(text)
+}
+
+#[cfg(test)]
+mod tests {
+    use super::*;
+    use rt_terms::{Base, Dtv, Label, Line, Loc, Word};
+    use std::test::Fail;
+
+    // `f0.in_a0.load.s32@0 <= f0.out_a0`
+    fn lines(alloc: Global) -> Result<Lines, Memory>
+        ensures { IfOk result (All (HasConstantsBelow 0)) }
+    {
+        let mut from = Word::empty(alloc);
+        from.push(Label::In(Loc::Arg(0)))?;
+        from.push(Label::Load)?;
+        from.push(Label::Field(32, 0))?;
+        let mut to = Word::empty(alloc);
+        to.push(Label::Out(0))?;
+        let base = Base::Proc(0);
+        let line = Line::Sub(Dtv { base, word: from }, Dtv { base, word: to });
+        let mut lines = Lines::new(alloc);
+        lines.push(line)?;
+        Ok(lines)
+    }
+
+    // The report of one procedure.
+    fn report(alloc: Global, globals: Globals) -> Result<Report, Memory>
+        ensures { IfOk result (AllConstantsBelow 0) }
+    {
+        let entry = Entry {
+            number: 0,
+            place: Place2 {
+                section: 1,
+                offset: 0,
+            },
+            name: Bytes::from_vec(b"f".to_vec(alloc)?),
+            lines: lines(alloc)?,
+        };
+        let mut entries = Entries::new(alloc);
+        entries.push(entry)?;
+        Ok(Report { globals, entries })
+    }
+
+    #[test]
+    fn a_report_has_its_text(rt: HostRuntime) -> Result<(), Fail> {
+        let alloc = rt.alloc();
+        let names = Names::new(alloc);
+        let text = print_report(alloc, &report(alloc, Globals::new(alloc))?, &names)?;
+        assert_eq!(rt;
+            text.as_slice(),
+            b"proc f0 section 1 offset 0 name f\nf0.in_a0.load.s32@0 <= f0.out_a0\nend\n".as_slice()
+        );
+        let mut globals = Globals::new(alloc);
+        globals.push((2, Bytes::from_vec(b"head".to_vec(alloc)?)))?;
+        let text = print_report(alloc, &report(alloc, globals)?, &names)?;
+        assert_eq!(rt;
+            text.as_slice(),
+            b"global g2 name head\nproc f0 section 1 offset 0 name f\nf0.in_a0.load.s32@0 <= f0.out_a0\nend\n".as_slice()
+        );
+        Ok(())
+    }
+
+    #[test]
+    fn a_heading_has_its_text(rt: HostRuntime) -> Result<(), Fail> {
+        let mut out = Vec::new(rt.alloc());
+        print_heading(
+            7,
+            Place2 {
+                section: 3,
+                offset: 64,
+            },
+            b"",
+            &mut out,
+        )?;
+        assert_eq!(rt;
+            out.as_slice(),
+            b"proc f7 section 3 offset 64 name -\n".as_slice()
+        );
+        Ok(())
+    }
 }

@@ -1,4 +1,6 @@
 // What registers hold.
+ghost use Rattle.std.specs.Prelude.{◌≡◌, ◌+ℤ◌};
+ghost use Rattle.std.specs.Int.{int_wrap, w32};
 
 /// Where a value comes from in straight code.
 #[derive(Clone, Copy, Debug, PartialEq, Eq)]
@@ -18,4 +20,11 @@ pub struct Held {
     pub offset: i32,
     /// Whether an instruction wrote the register.
     pub written: bool,
+}
+
+// The sum of two offsets, which wraps at 32 bits.
+pub(crate) fn wrapping_sum(offset: i32, more: i32) -> i32
+    ensures { result ≡ int_wrap w32 (offset +ℤ more) }
+{
+    offset.wrapping_add(more)
 }

@@ -1,2 +1,4 @@
 pub mod Signs
 pub mod Equal
+pub mod NameLists
+pub mod OrderCells

@@ -1,5 +1,5 @@
 -- Names of constants.
-use Rattle.std.specs.Prelude.{◌≡◌, ◌≢◌, ℕ, ◌≤◌, ◌⊎◌, List, All, AllPairs, length, slice_index}
+use Rattle.std.specs.Prelude.{◌≡◌, ◌≢◌, ℕ, ◌<◌, ◌≤◌, ◌⊎◌, List, [], All, AllPairs, length, slice_index, slice_index_or}
 
 -- a lower-case letter
 abbrev pub IsLetter : ℕ → Type 0
@@ -20,3 +20,8 @@ pub record AreNames (names : List (List ℕ)) : Type 0 where
   pub spelled : All IsName names
   pub distinct : AllPairs (λ a b. a ≢ b) names
   pub few : length names ≤ 65535
+
+-- the name of a number
+pub record HasName (names : List (List ℕ)) (number : ℕ) (name : List ℕ) : Type 0 where
+  pub within : number < length names
+  pub named : slice_index_or names number [] ≡ name

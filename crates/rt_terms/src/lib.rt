@@ -5,11 +5,13 @@
 mod label;
 mod line;
 mod names;
+mod order;
 mod variable;
 mod word;
 
 pub use label::{Label, Loc, Variance};
 pub use line::{Judge, Line, Lines};
-pub use names::Names;
+pub use names::{Names, is_name};
+pub use order::Order;
 pub use variable::{Base, Dtv};
 pub use word::{Word, variance_of};

@@ -1,6 +1,6 @@
 // Names of constants.
-ghost use Rattle.std.specs.Prelude.{◌≡◌, [], IfOk};
-ghost use Rattle.rt_terms.specs.Names.{AreNames};
+ghost use Rattle.std.specs.Prelude.{◌≡◌, ◌↔◌, IsTrue, ◌<◌, [], ◌∷◌, ◌++◌, OnOk, OnErr, IfOk, Contains, MatchOption, length};
+ghost use Rattle.rt_terms.specs.Names.{AreNames, HasName, IsName, IsNameByte};
 
 use rt_base::{Bytes, Sequence};
 use std::alloc::{AllocError, Global};
@@ -42,11 +42,53 @@ impl Names {
         self.names.items()
     }
 
+    /// Adds a name at the end. After want of memory the names are as they were.
+    pub fn push(&mut self, name: &[u8]) -> Result<(), AllocError>
+        requires spelled { IsName name.now }
+        requires absent { Contains self.old name.now → ⊥ }
+        requires room { length self.old < 65535 }
+        ensures ok { OnOk result (self.new ≡ self.old ++ name.now ∷ []) }
+        ensures err { OnErr result (self.new ≡ self.old) }
+    {
+        let copy = name.to_vec(self.names.allocator())?;
+        self.names.push(Bytes::from_vec(copy))?;
+        Ok(())
+    }
+
+    /// The number of a name. It takes no memory.
+    pub fn find(&self, name: &[u8]) -> Option<u16>
+        ensures { MatchOption result (Contains self.now name.now → ⊥) (λ k. HasName self.now k name.now) }
+    {
+        for (k, item) in self.items().iter().enumerate() {
+            if item.items() == name {
+                return Some(k as u16);
+            }
+        }
+        None
+    }
+
     /// Equal names.
     pub fn copy(&self) -> Result<Names, AllocError>
         ensures { IfOk result (λ copy. copy ≡ self.now) }
     {
         let names = self.names.copy()?;
         Ok(Names { names })
+    }
+}
+
+// Whether the byte may stand in a name.
+fn is_name_byte(byte: u8) -> bool
+    ensures { IsTrue result ↔ IsNameByte byte }
+{
+    matches!(byte, b'a'..=b'z' | b'0'..=b'9' | b'_')
+}
+
+/// Whether the bytes are spelled as a name: `[a-z][a-z0-9_]*`, with at most 32 bytes.
+pub fn is_name(bytes: &[u8]) -> bool
+    ensures { IsTrue result ↔ IsName bytes.now }
+{
+    match bytes {
+        [b'a'..=b'z', ..] => bytes.len() <= 32 && bytes.iter().all(|byte| is_name_byte(*byte)),
+        _ => false,
     }
 }

@@ -1,1 +1,5 @@
 pub mod Texts
+pub mod Goods
+pub mod Readings
+pub mod Sides
+pub mod Laws

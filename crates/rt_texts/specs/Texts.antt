@@ -10,6 +10,8 @@ use Rattle.rt_terms.specs.declared.variable.Base.TheVariants.{Proc, Global, Exis
 use Rattle.rt_terms.specs.declared.variable.Dtv.{Dtv}
 use Rattle.rt_terms.specs.declared.line.Line.{Line}
 use Rattle.rt_terms.specs.declared.line.Line.TheVariants.{Var, Same, Sub, Low, Up}
+use Rattle.rt_terms.specs.declared.line.Judge.{Judge}
+use Rattle.rt_terms.specs.declared.line.Judge.TheVariants.{Var as JudgeVar, Sub as JudgeSub, Low as JudgeLow, Up as JudgeUp}
 
 -- what stands before a field's offset
 abbrev pub field_front : ℕ → List ℕ
@@ -55,3 +57,10 @@ line_text names (Up x k) = dtv_text x ++ codes " <= " ++ constant_text names k
 -- a text of lines: each line's text and a line end
 abbrev pub lines_text : List (List ℕ) → List Line → List ℕ
 lines_text names lines = flat_map (λ l. line_text names l ++ 10 ∷ []) lines
+
+-- a judgement's text, that of the line that says the same
+abbrev pub judge_text : List (List ℕ) → Judge → List ℕ
+judge_text names (JudgeVar x) = line_text names (Var x)
+judge_text names (JudgeSub x y) = line_text names (Sub x y)
+judge_text names (JudgeLow k x) = line_text names (Low k x)
+judge_text names (JudgeUp x k) = line_text names (Up x k)

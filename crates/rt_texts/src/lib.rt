@@ -1,6 +1,18 @@
-//! The texts of derived variables and of lines. Each value has one text, which `specs/Texts.antt` states.
+//! The texts of derived variables, lines and judgements, printed and read. Each value has one text, which
+//! `specs/Texts.antt` states.
 #![tactic(auto)]
 
+mod cut;
+mod fault;
+mod label;
+pub mod laws;
+mod line;
 mod print;
+mod variable;
 
+pub use fault::TextFault;
+pub use line::{read_judge, read_line};
 pub use print::{print_line, print_lines, print_number, print_variable};
+
+#[cfg(test)]
+mod tests;

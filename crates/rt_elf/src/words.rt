@@ -1,0 +1,22 @@
+// The words of a section.
+ghost use Rattle.std.specs.Prelude.{◌≡◌, ◌+◌, ◌<◌, ◌≤◌, IfOk, length};
+ghost use Rattle.rt_elf.specs.Object.{section_of, section_words};
+
+use crate::object::Object;
+use crate::reader::read_words;
+use std::alloc::{AllocError, Global};
+
+impl Object {
+    /// The little endian words of a section, in order: those at the offsets 0, 4, 8 and so on that lie wholly inside it.
+    ///
+    /// Condition: there is such a section, and it lies in the object's bytes.
+    pub fn words(&self, alloc: Global, section: u16) -> Result<Vec<u32>, AllocError>
+        requires there { section < length self.now.sections }
+        requires in_file { (section_of self.now section).offset + (section_of self.now section).size ≤ length self.now.bytes }
+        ensures { IfOk result (λ words. words.items ≡ section_words self.now section) }
+    {
+        let section = &self.sections.items()[section as usize];
+        let count = section.size as usize / 4;
+        read_words(alloc, self.bytes.items(), section.offset as usize, count)
+    }
+}

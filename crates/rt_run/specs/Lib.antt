@@ -1,0 +1,6 @@
+pub mod Words
+pub mod Meant
+pub mod Errors
+pub mod Schemes
+pub mod Entails
+pub mod Status

@@ -1,0 +1,9 @@
+-- What a request means.
+use Rattle.rt_run.specs.declared.words.Request.{Request}
+use Rattle.rt_run.specs.declared.words.Request.TheVariants.{Schemes as SchemesOf, Entail as EntailOf}
+use Rattle.rt_run.specs.Words.{Command, Schemes, Entail}
+
+-- the command of a request
+abbrev pub meaning : Request → Command
+meaning (SchemesOf object) = Schemes object.now
+meaning (EntailOf file judgement) = Entail file.now judgement.now

@@ -1,0 +1,16 @@
+pub mod Letters
+pub mod Walks
+pub mod Models
+pub mod ReadWrite
+pub mod Growth
+pub mod GrowthByStep
+pub mod GrowthByBase
+pub mod Fronts
+pub mod Named
+pub mod Mapped
+pub mod Numbers
+pub mod Firsts
+pub mod Classed
+pub mod JoinedSame
+pub mod Quotients
+pub mod ShapeOf

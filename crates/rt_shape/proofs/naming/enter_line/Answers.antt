@@ -1,0 +1,31 @@
+use Rattle.std.proofs.Common.{rules, ◌≡◌, ◌⊎◌, inl, inr, refl, sym, subst}
+use Rattle.std.proofs.lemmas.Result.{on_ok_weaker}
+use Rattle.rt_terms.specs.declared.variable.Dtv.{Dtv}
+use Rattle.rt_terms.specs.declared.line.Line.{Line}
+use Rattle.rt_terms.specs.declared.line.Line.TheVariants.{Same, Sub}
+use Rattle.rt_rules.specs.Rules.{HasSide}
+use Rattle.rt_shape.proofs.Named.{one_side, two_sides}
+use Rattle.rt_shape.proofs.naming.enter_line.Goals as goal
+
+first_side : (l : Line) (x y : Dtv) → (l ≡ Same x y) ⊎ (l ≡ Sub x y) → HasSide l x
+first_side l x y (inl e) = subst (λ m. HasSide m x) (sym e) (inl refl)
+first_side l x y (inr e) = subst (λ m. HasSide m x) (sym e) (inl refl)
+
+second_side : (l : Line) (x y : Dtv) → (l ≡ Same x y) ⊎ (l ≡ Sub x y) → HasSide l y
+second_side l x y (inl e) = subst (λ m. HasSide m y) (sym e) (inr refl)
+second_side l x y (inr e) = subst (λ m. HasSide m y) (sym e) (inr refl)
+
+pub returns-in_ok-enter-in-Same-clause-kept : goal.returns-in_ok-enter-in-Same-clause-kept
+returns-in_ok-enter-in-Same-clause-kept c =
+    on_ok_weaker c.enter-in-Same.result (λ kept x h. kept x (c.in_ok-enter-in-Same.ensures.kept x h)) c.enter-in-Same.ensures.kept
+
+pub returns-in_ok-enter-in-Same-clause-only : goal.returns-in_ok-enter-in-Same-clause-only
+returns-in_ok-enter-in-Same-clause-only c =
+    on_ok_weaker c.enter-in-Same.result
+    (two_sides c.args.line.now c.in-Same.x c.in-Same.y c.args.tree.now c.enter.new.self c.enter-in-Same.new.self (first_side _ _ _ c.in-Same.is) (second_side _ _ _ c.in-Same.is) c.in_ok-enter-in-Same.ensures.only)
+    c.enter-in-Same.ensures.only
+
+pub returns-in-Var-clause-only : goal.returns-in-Var-clause-only
+returns-in-Var-clause-only c =
+    let side : HasSide c.args.line.now c.in-Var.x = search rules in
+    on_ok_weaker c.enter-in-Var.result (one_side c.args.line.now c.in-Var.x c.args.tree.now c.enter-in-Var.new.self side) c.enter-in-Var.ensures.only

@@ -1,0 +1,4 @@
+pub mod Graphs
+pub mod Shapes
+pub mod Classes
+pub mod Laws

@@ -1,0 +1,105 @@
+// The graph of the classes of a tree's nodes.
+ghost use Rattle.std.specs.Prelude.{◌≡◌, ℕ, ◌<◌, ◌^◌, length, List, All, Contains, IfOk};
+ghost use Rattle.rt_terms.specs.declared.line.Line.{Line};
+ghost use Rattle.rt_shape.specs.Graphs.{IsTree};
+ghost use Rattle.rt_shape.specs.Shapes.{ArePairs, IsNaming, IsShapeOf};
+ghost use Rattle.rt_shape.specs.Classes.{AreBasesOf, AreClasses, AreEdgesOf, AreStepsOne, IsClosed, IsNumbering, IsQuotient};
+
+use crate::closing::closed;
+use crate::shape::Shape;
+use crate::tree::Tree;
+use indexmap::IndexMap;
+use rt_base::Memory;
+use rt_terms::{Base, Label};
+use std::alloc::Global;
+
+/// The shape of the lines whose variables are the tree's and whose pairs these are, from classes of nodes that have to
+/// be one. The error is want of memory.
+pub fn shape_of(
+    alloc: Global,
+    tree: &Tree,
+    pairs: &[(u32, u32)],
+    class: Vec<u32>,
+) -> Result<Shape, Memory>
+    requires tree { IsTree tree.now }
+    requires classes { AreClasses tree.now pairs.now class.items }
+    requires pairs_in { (i j : ℕ) → Contains pairs.now (i, j) → (i < tree.now.count) × (j < tree.now.count) }
+    ensures { IfOk result (λ shape. (lines : List Line) → IsNaming lines tree.now → ArePairs lines tree.now pairs.now → IsShapeOf lines shape) }
+{
+    let class = closed(alloc, tree, pairs, class)?;
+    quotient(alloc, tree, pairs, &class)
+}
+
+// The graph of the classes of the tree's nodes.
+fn quotient(
+    alloc: Global,
+    tree: &Tree,
+    pairs: &[(u32, u32)],
+    class: &[u32],
+) -> Result<Shape, Memory>
+    requires classes { AreClasses tree.now pairs.now class.now }
+    requires closed { IsClosed tree.now pairs.now class.now }
+    ensures { IfOk result (λ shape. (number : List ℕ) × IsNumbering class.now number shape.count × IsQuotient tree.now number shape) }
+{
+    let nodes = tree.count() as usize;
+    prove!(class.len() == nodes);
+    let (number, count) = numbered(alloc, class)?;
+    let bases = bases_of(alloc, tree, &number)?;
+    let edges = edges_of(alloc, tree, &number)?;
+    Ok(Shape::from_parts(count, bases, edges))
+}
+
+// Numbers for the classes, from 0 in the order in which they first stand: the number of each node's class, and how many
+// classes there are.
+fn numbered(alloc: Global, class: &[u32]) -> Result<(Vec<u32>, u32), Memory>
+    requires few { length class.now < 2 ^ 32 }
+    requires within { All (λ c. c < length class.now) class.now }
+    ensures { IfOk result (λ r. IsNumbering class.now r.0.items r.1) }
+{
+    let mut known = vec![in alloc; None; class.len()]?;
+    let mut numbers = Vec::with_capacity(alloc, class.len())?;
+    let mut count = 0;
+    for c in class {
+        let number = match known[*c as usize] {
+            Some(number) => number,
+            None => {
+                known[*c as usize] = Some(count);
+                count += 1;
+                count - 1
+            }
+        };
+        numbers.push(number)?;
+    }
+    Ok((numbers, count))
+}
+
+// The numbers of the bases' nodes.
+fn bases_of(alloc: Global, tree: &Tree, number: &[u32]) -> Result<IndexMap<Base, u32>, Memory>
+    requires { length number.now ≡ tree.now.count }
+    ensures { IfOk result (λ bases. AreBasesOf tree.now number.now bases.entries) }
+{
+    let mut bases = IndexMap::new(alloc);
+    for i in 0..tree.base_count() {
+        let (base, node) = tree.base(i);
+        bases.insert(base, number[node as usize])?;
+    }
+    Ok(bases)
+}
+
+// The edges between the numbers.
+fn edges_of(
+    alloc: Global,
+    tree: &Tree,
+    number: &[u32],
+) -> Result<IndexMap<(u32, Label), u32>, Memory>
+    requires each { length number.now ≡ tree.now.count }
+    requires one { AreStepsOne tree.now number.now }
+    ensures { IfOk result (λ edges. AreEdgesOf tree.now number.now edges.entries) }
+{
+    let mut edges = IndexMap::new(alloc);
+    for i in 0..tree.edge_count() {
+        let (from, label, to) = tree.edge(i);
+        edges.insert((number[from as usize], label), number[to as usize])?;
+    }
+    Ok(edges)
+}
