@@ -64,7 +64,7 @@ same_place order m n c d e = sym (first-equal order m 0 c) ∙ ap (λ i. get_or 
 exist_of : (m n : ℕ) → Exist m ≡ Exist n → m ≡ n
 exist_of m n e = cc
 
-placed-one_to_one : (lines : List Line) (a b : Base) → NamesBase lines a → NamesBase lines b → placed (existentials lines) a ≡ placed (existentials lines) b → a ≡ b
+pub placed-one_to_one : (lines : List Line) (a b : Base) → NamesBase lines a → NamesBase lines b → placed (existentials lines) a ≡ placed (existentials lines) b → a ≡ b
 placed-one_to_one lines (Proc m) (Proc n) h k e = e
 placed-one_to_one lines (Proc m) (Global n) h k e = cc
 placed-one_to_one lines (Proc m) (Exist n) h k e = cc
