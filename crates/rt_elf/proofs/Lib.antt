@@ -1,3 +1,4 @@
+pub mod Booleans
+pub mod Joined
 pub mod Lists
-pub mod Places
-pub mod ReadBack
+pub mod Reading

@@ -1,16 +1,8 @@
--- Steps of the loops that read lists.
-use Rattle.std.proofs.Common.{◌≡◌, ℕ, zero, suc, ◌+◌, ◌*◌, ◌^◌, ◌<◌, ◌≤◌, List, [], ◌∷◌, ◌++◌, All, length, take, drop, get_or, not, nat_eq, Bool, true, false, ◌⊎◌, refl, sym, ap, ◌∙◌, subst, inl, inr, arith, append-nil}
-use Rattle.std.proofs.lemmas.Bool.{ne_eqb, cases_eq}
-use Rattle.std.proofs.lemmas.Bool.Decides.{Decides-eqb}
-use Rattle.std.proofs.lemmas.Slice.Eq.{slice_eq-Decides}
-use Rattle.std.specs.Cmp.Lexicographic.{pointwise}
-use Rattle.std.proofs.lemmas.List.{drop_all, drop_more, get_or-drop, take_all}
-use Rattle.std.proofs.lemmas.List.Elements.{All-nil, All-cons}
-use Rattle.byteorder.specs.Numbers.{little_from-lt}
+-- Lists of entries, and lists that are joined.
+use Rattle.std.proofs.Common.{◌≡◌, ℕ, zero, suc, ◌+◌, ◌<◌, ◌≤◌, List, [], ◌∷◌, ◌++◌, All, length, get_or, refl, ap, arith}
+use Rattle.std.proofs.lemmas.List.Elements.{All-nil, All-cons, All-append}
 use Rattle.rt_base.specs.First.{entries}
-use Rattle.rt_elf.specs.Fields.{word_at}
-use Rattle.rt_elf.specs.Form.{IsNameByte}
-use Rattle.rt_elf.specs.Parts.{up_to_zero, words_at}
+use Rattle.rt_elf.specs.Relocs.{joined}
 
 entries-more_from : {X : Type 0} (at : ℕ → X) (i n : ℕ) → entries at i (suc n) ≡ entries at i n ++ at (i + n) ∷ []
 entries-more_from at i zero = let e : i + 0 ≡ i = omega arith in rw e refl
@@ -30,68 +22,26 @@ pub length-entries : {X : Type 0} (at : ℕ → X) (i n : ℕ) → length (entri
 length-entries at i zero = refl
 length-entries at i (suc n) = ap suc (length-entries at (i + 1) n)
 
-pub word_at-lt : (bytes : List ℕ) (at : ℕ) → ((k : ℕ) → get_or bytes k 0 < 256) → word_at bytes at < 2 ^ 32
-unfolding word_at
-word_at-lt bytes at h = little_from-lt 0 4 (drop at bytes) (λ k. rw (get_or-drop at bytes k 0) (h (at + k)))
+get_or-entries_from : {X : Type 0} (at : ℕ → X) (i n k : ℕ) (d : X) → k < n → get_or (entries at i n) k d ≡ at (i + k)
+get_or-entries_from at i zero k d h = absurd (omega arith)
+get_or-entries_from at i (suc n) zero d h = let e : i + 0 ≡ i = omega arith in rw e refl
+get_or-entries_from at i (suc n) (suc k) d h =
+    let step = get_or-entries_from at (i + 1) n k d (omega arith) in
+    let e : i + 1 + k ≡ i + suc k = omega arith in
+    rw e at step
+
+-- an entry by its index
+pub get_or-entries : {X : Type 0} (at : ℕ → X) (n k : ℕ) (d : X) → k < n → get_or (entries at 0 n) k d ≡ at k
+get_or-entries at n k d h = let e : 0 + k ≡ k = omega arith in rw e at (get_or-entries_from at 0 n k d h)
 
 -- what each entry has
-pub All-entries : {X : Type 0} (P : X → Type 0) (at : ℕ → X) (i n : ℕ) → ((k : ℕ) → P (at k)) → All P (entries at i n)
+pub All-entries : {X : Type 0} (P : X → Type 0) (at : ℕ → X) (i n : ℕ) → ((k : ℕ) → i ≤ k → k < i + n → P (at k)) → All P (entries at i n)
 All-entries P at i zero h = All-nil P
-All-entries P at i (suc n) h = All-cons P (at i) (entries at (i + 1) n) (h i) (All-entries P at (i + 1) n h)
+All-entries P at i (suc n) h =
+    All-cons P (at i) (entries at (i + 1) n) (h i (omega arith) (omega arith)) (All-entries P at (i + 1) n (λ k low high. h k (omega arith) (omega arith)))
 
--- no byte before the first zero byte is zero
-pub All-up_to_zero : (bytes : List ℕ) → ((k : ℕ) → get_or bytes k 0 < 256) → All IsNameByte (up_to_zero bytes)
-All-up_to_zero [] h = All-nil IsNameByte
-All-up_to_zero (b ∷ bs) h =
-    let rest : All IsNameByte (up_to_zero bs) = All-up_to_zero bs (λ k. h (suc k)) in
-    elim (cases_eq b 0) [
-      | inl e ↦ rw e (All-nil IsNameByte)
-      | inr ne ↦ rw (ne_eqb b 0 ne) (All-cons IsNameByte b (up_to_zero bs) (omega arith, h 0) rest)
-    ]
-
--- where the loop over the bytes before the first zero byte stops, or ends
-up_to_zero-stops : (bytes : List ℕ) (i : ℕ) → i < length bytes → get_or bytes i 0 ≡ 0
-    → take i bytes ++ up_to_zero (drop i bytes) ≡ up_to_zero bytes → take i bytes ≡ up_to_zero bytes
-up_to_zero-stops bytes i l z h =
-    let next : drop i bytes ≡ 0 ∷ drop (i + 1) bytes = drop_more bytes i 0 l ∙ ap (λ (b : ℕ). b ∷ drop (i + 1) bytes) z in
-    sym (append-nil (take i bytes)) ∙ sym (ap (λ (xs : List ℕ). take i bytes ++ up_to_zero xs) next) ∙ h
-
-up_to_zero-ends : (bytes : List ℕ) (i : ℕ) → length bytes ≤ i
-    → take i bytes ++ up_to_zero (drop i bytes) ≡ up_to_zero bytes → bytes ≡ up_to_zero bytes
-up_to_zero-ends bytes i l h =
-    sym (take_all i bytes l) ∙ sym (append-nil (take i bytes)) ∙ sym (ap (λ (xs : List ℕ). take i bytes ++ up_to_zero xs) (drop_all i bytes l)) ∙ h
-
-pub All-stopped : (bytes : List ℕ) (i : ℕ) → ((k : ℕ) → get_or bytes k 0 < 256) → i < length bytes → get_or bytes i 0 ≡ 0
-    → take i bytes ++ up_to_zero (drop i bytes) ≡ up_to_zero bytes → All IsNameByte (take i bytes)
-All-stopped bytes i fit l z h =
-    subst (λ (xs : List ℕ). All IsNameByte xs) (sym (up_to_zero-stops bytes i l z h)) (All-up_to_zero bytes fit)
-
-pub All-ended : (bytes : List ℕ) (i : ℕ) → ((k : ℕ) → get_or bytes k 0 < 256) → length bytes ≤ i
-    → take i bytes ++ up_to_zero (drop i bytes) ≡ up_to_zero bytes → All IsNameByte bytes
-All-ended bytes i fit l h =
-    subst (λ (xs : List ℕ). All IsNameByte xs) (sym (up_to_zero-ends bytes i l h)) (All-up_to_zero bytes fit)
-
--- words fit 32 bits
-pub All-words_at : (bytes : List ℕ) (at count : ℕ) → ((k : ℕ) → get_or bytes k 0 < 256) → All (λ w. w < 2 ^ 32) (words_at bytes at count)
-All-words_at bytes at count h =
-    All-entries (λ w. w < 2 ^ 32) (λ k. word_at bytes (at + 4 * k)) 0 count (λ k. word_at-lt bytes (at + 4 * k) h)
-
-cases_bool : (b : Bool) → (b ≡ true) ⊎ (b ≡ false)
-cases_bool true = inl refl
-cases_bool false = inr refl
-
-true≢false : true ≡ false → ⊥
-true≢false e = cc
-
--- what `!=` of slices of bytes tells
-pub other_bytes : (xs ys : List ℕ) → true ≡ not (pointwise nat_eq xs ys) → xs ≡ ys → ⊥
-other_bytes xs ys h e =
-    let same : pointwise nat_eq xs ys ≡ true = (slice_eq-Decides Decides-eqb xs ys (pointwise nat_eq xs ys) refl).1 e in
-    true≢false (h ∙ ap not same)
-
-pub same_bytes : (xs ys : List ℕ) → false ≡ not (pointwise nat_eq xs ys) → xs ≡ ys
-same_bytes xs ys h =
-    elim (cases_bool (pointwise nat_eq xs ys)) [
-      | inl e ↦ (slice_eq-Decides Decides-eqb xs ys (pointwise nat_eq xs ys) refl).0 e
-      | inr e ↦ absurd (true≢false (sym (h ∙ ap not e)))
-    ]
+-- what each element of each list has
+pub All-joined : {X : Type 0} (P : X → Type 0) (at : ℕ → List X) (i n : ℕ) → ((k : ℕ) → i ≤ k → k < i + n → All P (at k)) → All P (joined at i n)
+All-joined P at i zero h = All-nil P
+All-joined P at i (suc n) h =
+    All-append P (at i) (joined at (i + 1) n) (h i (omega arith) (omega arith)) (All-joined P at (i + 1) n (λ k low high. h k (omega arith) (omega arith)))

@@ -1,32 +1,16 @@
--- The checks of an object, in order, and when it is refused.
-use Rattle.std.specs.Prelude.{◌≡◌, ℕ, ◌==◌, ◌⊎◌, nat_lt, not, Option, Some, None, List, [], ◌∷◌, length, Result, Ok, Err}
-use Rattle.rt_base.specs.First.{fault_if, first_of}
+-- The checks of an object, in order: the first that fails has the number and the place.
+use Rattle.std.specs.Prelude.{ℕ, Option, List, [], ◌∷◌, length}
+use Rattle.rt_base.specs.First.{first_of, first_each}
 use Rattle.rt_elf.specs.declared.fault.ElfFault.{ElfFault}
-use Rattle.rt_elf.specs.declared.fault.ElfFault.TheVariants.{Bad, Memory}
-use Rattle.rt_elf.specs.Fields.{word_at}
-use Rattle.rt_elf.specs.Form.{IsFirstForm}
+use Rattle.rt_elf.specs.Header.{section_count, header_fault}
+use Rattle.rt_elf.specs.Sections.{sections_of, sections_fault}
+use Rattle.rt_elf.specs.Symbols.{symbol_table, symbol_part_fault, symbols_of}
+use Rattle.rt_elf.specs.Relocs.{reloc_part_fault}
 
--- the length, and the first four bytes, which are 7F 45 4C 46 (ELF gABI, "ELF Identification")
-unfoldable pub check_fault : List ℕ → Option ElfFault
-check_fault bytes = first_of (
-    fault_if (nat_lt 16777216 (length bytes)) (Bad 16 16777216)
-    ∷ fault_if (nat_lt (length bytes) 52) (Bad 1 (length bytes))
-    ∷ fault_if (not (word_at bytes 0 == 0x464C457F)) (Bad 2 0)
+unfoldable pub first_fault : List ℕ → Option ElfFault
+first_fault bytes = let table = symbol_table (sections_of bytes) in first_of (
+    header_fault bytes
+    ∷ sections_fault bytes
+    ∷ symbol_part_fault bytes (sections_of bytes) table
+    ∷ first_each (reloc_part_fault bytes table (length (symbols_of bytes))) 0 (section_count bytes)
     ∷ [])
-
--- what checks answer: Ok where there is no fault, else the fault
-abbrev pub checked : Option ElfFault → Result (Unit {0}) ElfFault
-checked None = Ok tt
-checked (Some fault) = Err fault
-
--- an object that isn't of the first form is refused by 90 at 0; memory may always run out
-abbrev pub IsOtherForm : List ℕ → ElfFault → Type 0
-IsOtherForm bytes (Bad number offset) = (number ≡ 90) × (offset ≡ 0) × (IsFirstForm bytes → ⊥)
-IsOtherForm bytes Memory = Unit {0}
-
--- why an object is refused: by the first check that fails, or because it isn't of the first form
-abbrev pub IsRefusal : List ℕ → ElfFault → Type 0
-IsRefusal bytes (Bad number offset) =
-    (check_fault bytes ≡ Some (Bad number offset))
-    ⊎ ((check_fault bytes ≡ None) × IsOtherForm bytes (Bad number offset))
-IsRefusal bytes Memory = Unit {0}

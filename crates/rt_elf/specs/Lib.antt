@@ -1,7 +1,9 @@
 pub mod Checks
+pub mod Faults
 pub mod Fields
-pub mod Form
-pub mod Layout
+pub mod Header
+pub mod Names
 pub mod Object
-pub mod Packed
-pub mod Parts
+pub mod Relocs
+pub mod Sections
+pub mod Symbols

@@ -1,20 +1,28 @@
 -- What an object holds.
-use Rattle.std.specs.Prelude.{◌≡◌, ℕ, ◌+◌, ◌*◌, ◌/◌, ◌%◌, ◌^◌, ◌<◌, ◌≤◌, ◌==◌, ◌&&◌, Bool, IsTrue, List, [], ◌∷◌, length, get_or, All}
+use Rattle.std.specs.Prelude.{◌≡◌, ℕ, ◌+◌, ◌*◌, ◌/◌, ◌%◌, ◌^◌, ◌<◌, ◌≤◌, IsTrue, All, List, length, get_or}
 use Rattle.rt_base.specs.First.{entries}
 use Rattle.rt_elf.specs.declared.section.Section.{Section}
 use Rattle.rt_elf.specs.declared.object.Object.{Object}
+use Rattle.rt_elf.specs.declared.reloc.Reloc.{Reloc}
 use Rattle.rt_elf.specs.Fields.{word_at}
-use Rattle.rt_elf.specs.Layout.{null_section, layout_sections}
-use Rattle.rt_elf.specs.Packed.{string_table, zero_symbol, packed}
-use Rattle.rt_elf.specs.Form.{the_symbol, IsNameByte}
+use Rattle.rt_elf.specs.Sections.{sections_of, is_code_section}
+use Rattle.rt_elf.specs.Symbols.{symbols_of}
+use Rattle.rt_elf.specs.Relocs.{relocs_of}
+
+-- the object's parts are the fields at their places
+pub record IsObject (bytes : List ℕ) (object : Object) : Type 0 where
+  pub sections : object.sections ≡ sections_of bytes
+  pub symbols : object.symbols ≡ symbols_of bytes
+  pub relocs : object.relocs ≡ relocs_of bytes
+  pub bytes_kept : object.bytes ≡ bytes
+
+-- an empty section, SHT_NULL
+abbrev pub null_section : Section
+null_section = record { kind = 0; flags = 0; offset = 0; size = 0; link = 0; info = 0 }
 
 -- the section of an index, which is empty where there is none
 abbrev pub section_of : Object → ℕ → Section
 section_of object index = get_or object.sections index null_section
-
--- executable: SHT_PROGBITS with SHF_EXECINSTR (ELF gABI, "Sections")
-abbrev pub is_code_section : Section → Bool
-is_code_section section = (section.kind == 1) && (section.flags / 4 % 2 == 1)
 
 -- a word stands at an offset of a section of code
 pub record HasWord (object : Object) (index offset : ℕ) : Type 0 where
@@ -28,20 +36,19 @@ IsInFile object =
     (index : ℕ) → IsTrue (is_code_section (section_of object index))
     → (section_of object index).offset + (section_of object index).size ≤ length object.bytes
 
+-- a relocation is of a section of code, and about a symbol of the object
+abbrev pub IsOfObject : Object → Reloc → Type 0
+IsOfObject object reloc =
+    IsTrue (is_code_section (section_of object reloc.section)) × (reloc.symbol < length object.symbols)
+
+-- what is known of an object that was read: its relocations are of its code and about its symbols, and the indices
+-- of sections and symbols fit their types
+pub record IsLinkable (object : Object) : Type 0 where
+  pub relocs : All (IsOfObject object) object.relocs
+  pub sections_fit : length object.sections < 2 ^ 16
+  pub symbols_fit : length object.symbols < 2 ^ 32
+
 -- the words of a section, in order
 abbrev pub section_words : Object → ℕ → List ℕ
 section_words object index =
     entries (λ k. word_at object.bytes ((section_of object index).offset + 4 * k)) 0 ((section_of object index).size / 4)
-
--- the object that is read from bytes of the first form
-pub record IsFirstObject (bytes : List ℕ) (object : Object) : Type 0 where
-  pub name : List ℕ
-  pub size : ℕ
-  pub code_fits : All (λ w. w < 2 ^ 32) (section_words object 1)
-  pub name_fits : All IsNameByte name
-  pub size_fits : size < 2 ^ 32
-  pub symbols : object.symbols ≡ zero_symbol ∷ the_symbol name size ∷ []
-  pub relocs : object.relocs ≡ []
-  pub sections : object.sections ≡ layout_sections (length (section_words object 1)) 0 2 (length (string_table (the_symbol name size ∷ [])))
-  pub bytes_kept : object.bytes ≡ bytes
-  pub is_packed : bytes ≡ packed (section_words object 1) (the_symbol name size ∷ []) []

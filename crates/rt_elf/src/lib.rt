@@ -3,13 +3,16 @@
 
 mod fault;
 mod field;
-mod layout;
+mod header;
+mod names;
 mod object;
-mod pack;
 mod reader;
 mod reloc;
+mod relocs;
 mod section;
+mod sections;
 mod symbol;
+mod symbols;
 mod words;
 
 pub use fault::ElfFault;
@@ -18,3 +21,6 @@ pub use reader::read;
 pub use reloc::{Reloc, Relocs};
 pub use section::{Section, Sections};
 pub use symbol::{Symbol, Symbols};
+
+#[cfg(test)]
+mod tests;

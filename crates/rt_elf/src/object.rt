@@ -1,11 +1,13 @@
 // Objects.
-ghost use Rattle.std.specs.Prelude.{◌≡◌, ◌+◌, ◌↔◌, IsTrue, IsSome, IfSome};
+ghost use Rattle.std.specs.Prelude.{◌≡◌, ◌+◌, ◌↔◌, IsSome, IfSome};
 ghost use Rattle.rt_elf.specs.Fields.{word_at};
-ghost use Rattle.rt_elf.specs.Object.{section_of, is_code_section, HasWord, IsInFile};
+ghost use Rattle.rt_elf.specs.Object.{section_of, HasWord, IsInFile};
+ghost use Rattle.rt_elf.specs.Sections.{is_code_section};
 
 use crate::field::word_at;
 use crate::reloc::Relocs;
 use crate::section::Sections;
+use crate::sections::is_code_section;
 use crate::symbol::Symbols;
 use rt_base::Bytes;
 
@@ -25,7 +27,7 @@ impl Object {
         ensures { result ≡ is_code_section (section_of self.now section) }
     {
         match self.sections.items().get(section as usize) {
-            Some(section) => section.kind == 1 && section.flags / 4 % 2 == 1,
+            Some(section) => is_code_section(section),
             None => false,
         }
     }

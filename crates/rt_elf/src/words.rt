@@ -2,8 +2,8 @@
 ghost use Rattle.std.specs.Prelude.{◌≡◌, ◌+◌, ◌<◌, ◌≤◌, IfOk, length};
 ghost use Rattle.rt_elf.specs.Object.{section_of, section_words};
 
+use crate::field::word_at;
 use crate::object::Object;
-use crate::reader::read_words;
 use std::alloc::{AllocError, Global};
 
 impl Object {
@@ -17,6 +17,10 @@ impl Object {
     {
         let section = &self.sections.items()[section as usize];
         let count = section.size as usize / 4;
-        read_words(alloc, self.bytes.items(), section.offset as usize, count)
+        let mut words = Vec::with_capacity(alloc, count)?;
+        for k in 0..count {
+            words.push(word_at(self.bytes.items(), section.offset as usize + 4 * k))?;
+        }
+        Ok(words)
     }
 }

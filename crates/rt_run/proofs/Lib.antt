@@ -1,3 +1,5 @@
+mod Lined
+mod Reported
 pub mod Appending
-pub mod Reading
+pub mod Coded
 pub mod Refusing

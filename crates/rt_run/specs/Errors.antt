@@ -1,22 +1,61 @@
 -- The lines on the stream for errors.
-use Rattle.std.specs.Prelude.{ℕ, List, [], ◌∷◌, ◌++◌, codes, decimal, if◌then◌else◌, ◌==◌}
+use Rattle.std.specs.Prelude.{ℕ, List, ◌++◌, codes, decimal, if◌then◌else◌, ◌==◌}
 use Rattle.rt_scheme.specs.NameTexts.{name_text}
 use Rattle.rt_run.specs.declared.refusal.Refusal.{Refusal}
-use Rattle.rt_run.specs.declared.refusal.Refusal.TheVariants.{Object, NotYet, TextTooLarge, BadLine, BadJudgement}
+use Rattle.rt_run.specs.declared.refusal.Refusal.TheVariants.{Object, Link, NotYet, TextTooLarge, BadLine, BadJudgement}
 
--- the name of a check of the object that fails, by its number
+-- the name of a check of the object or of its relocations that fails, by its number
 abbrev pub check_name : ℕ → List ℕ
 check_name number =
     if number == 1 then codes "Short" else
     if number == 2 then codes "Magic" else
-    if number == 16 then codes "TooLarge" else codes "Unknown"
+    if number == 3 then codes "Class" else
+    if number == 4 then codes "Endian" else
+    if number == 5 then codes "Kind" else
+    if number == 6 then codes "Machine" else
+    if number == 7 then codes "Flags" else
+    if number == 8 then codes "SectionTable" else
+    if number == 9 then codes "SectionRange" else
+    if number == 10 then codes "SymbolTable" else
+    if number == 11 then codes "Name" else
+    if number == 12 then codes "SymbolSection" else
+    if number == 13 then codes "RelocTable" else
+    if number == 14 then codes "RelocSymbol" else
+    if number == 15 then codes "Compressed" else
+    if number == 16 then codes "TooLarge" else
+    if number == 20 then codes "RelocType" else
+    if number == 21 then codes "RelocPlace" else
+    if number == 22 then codes "TwoRelocs" else
+    if number == 23 then codes "LoneLow" else
+    if number == 24 then codes "CallPair" else codes "Unknown"
+
+-- the number and the name of a check
+abbrev pub check_text : ℕ → List ℕ
+check_text number = codes "error " ++ decimal number ++ codes " " ++ check_name number
+
+-- a byte of the input
+abbrev pub byte_text : ℕ → List ℕ
+byte_text byte = codes " at " ++ decimal byte ++ codes "\n"
+
+-- the index of a section
+unfoldable pub section_text : ℕ → List ℕ
+section_text section = codes " at section " ++ decimal section
+
+-- an offset in a section
+unfoldable pub offset_text : ℕ → List ℕ
+offset_text offset = codes " offset " ++ decimal offset ++ codes "\n"
+
+-- a place of a section
+abbrev pub place_text : ℕ → ℕ → List ℕ
+place_text section offset = section_text section ++ offset_text offset
 
 -- the line of a refusal
 abbrev pub refusal_line : Refusal → List ℕ
-refusal_line (Object number offset) = codes "error " ++ decimal number ++ codes " " ++ check_name number ++ codes " at " ++ decimal offset ++ codes "\n"
+refusal_line (Object number offset) = check_text number ++ byte_text offset
+refusal_line (Link number section offset) = check_text number ++ place_text section offset
 refusal_line NotYet = codes "error 90 NotYet\n"
 refusal_line TextTooLarge = codes "error 63 TextTooLarge\n"
-refusal_line (BadLine place) = codes "error 61 BadText at " ++ decimal place ++ codes "\n"
+refusal_line (BadLine place) = codes "error 61 BadText" ++ byte_text place
 refusal_line BadJudgement = codes "error 62 BadText\n"
 
 -- the line of a file that wasn't read

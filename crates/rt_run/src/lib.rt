@@ -2,6 +2,7 @@
 #![tactic(auto)]
 
 mod entail;
+mod function;
 mod no_text;
 mod put;
 mod refusal;

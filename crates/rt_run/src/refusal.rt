@@ -1,6 +1,6 @@
 // Why an input is refused.
-ghost use Rattle.std.specs.Prelude.{◌≡◌, IfOk};
-ghost use Rattle.rt_run.specs.Errors.{check_name, refusal_line, read_line};
+ghost use Rattle.std.specs.Prelude.{◌≡◌, ◌++◌, IfOk, OnOk};
+ghost use Rattle.rt_run.specs.Errors.{byte_text, check_name, check_text, offset_text, place_text, read_line, refusal_line, section_text};
 
 use rt_base::Memory;
 use rt_scheme::print_name;
@@ -12,6 +12,8 @@ use std::alloc::Global;
 pub enum Refusal {
     /// A check of the object fails: its number, and the byte of the file.
     Object(u8, u32),
+    /// A check of the object's relocations fails: its number, and the section and the offset of the relocation.
+    Link(u8, u16, u32),
     /// The object is not of the form that this build reads, or the text has what it doesn't.
     NotYet,
     /// The text of `entail` is too long.
@@ -22,15 +24,118 @@ pub enum Refusal {
     BadJudgement,
 }
 
-// The name of a check of the object, by its number.
+// The name of a check of the object or of its relocations, by its number.
 fn check_name(number: u8) -> &'static str
     ensures { result.now ≡ check_name number }
 {
     match number {
         1 => "Short",
         2 => "Magic",
+        3 => "Class",
+        4 => "Endian",
+        5 => "Kind",
+        6 => "Machine",
+        7 => "Flags",
+        8 => "SectionTable",
+        9 => "SectionRange",
+        10 => "SymbolTable",
+        11 => "Name",
+        12 => "SymbolSection",
+        13 => "RelocTable",
+        14 => "RelocSymbol",
+        15 => "Compressed",
         16 => "TooLarge",
+        20 => "RelocType",
+        21 => "RelocPlace",
+        22 => "TwoRelocs",
+        23 => "LoneLow",
+        24 => "CallPair",
         _ => "Unknown",
+    }
+}
+
+// Adds the number and the name of a check.
+fn push_check(number: u8, line: &mut Vec<u8>) -> Result<(), Memory>
+    ensures { OnOk result (line.new.items ≡ line.old.items ++ check_text number) }
+{
+    line.extend_from_slice(b"error ")?;
+    print_number(u32::from(number), line)?;
+    line.extend_from_slice(b" ")?;
+    line.extend_from_slice(check_name(number).as_bytes())
+}
+
+// Adds what stands for a byte.
+fn push_byte(byte: u32, line: &mut Vec<u8>) -> Result<(), Memory>
+    ensures { OnOk result (line.new.items ≡ line.old.items ++ byte_text byte) }
+{
+    line.extend_from_slice(b" at ")?;
+    print_number(byte, line)?;
+    line.extend_from_slice(b"\n")
+}
+
+// Adds the index of a section.
+#[tactic(auto, unfolding(crate::specs::Errors::section_text))]
+fn push_section(section: u16, line: &mut Vec<u8>) -> Result<(), Memory>
+    ensures { OnOk result (line.new.items ≡ line.old.items ++ section_text section) }
+{
+    line.extend_from_slice(b" at section ")?;
+    print_number(u32::from(section), line)?;
+    Ok(())
+}
+
+// Adds an offset in a section, and the line's end.
+#[tactic(auto, unfolding(crate::specs::Errors::offset_text))]
+fn push_offset(offset: u32, line: &mut Vec<u8>) -> Result<(), Memory>
+    ensures { OnOk result (line.new.items ≡ line.old.items ++ offset_text offset) }
+{
+    line.extend_from_slice(b" offset ")?;
+    print_number(offset, line)?;
+    line.extend_from_slice(b"\n")
+}
+
+// Adds what stands for a place of a section.
+fn push_place(section: u16, offset: u32, line: &mut Vec<u8>) -> Result<(), Memory>
+    ensures { OnOk result (line.new.items ≡ line.old.items ++ place_text section offset) }
+{
+    push_section(section, line)?;
+    push_offset(offset, line)
+}
+
+// Adds the line of a check of the object.
+fn push_object(number: u8, byte: u32, line: &mut Vec<u8>) -> Result<(), Memory>
+    ensures { OnOk result (line.new.items ≡ line.old.items ++ refusal_line (Refusal.Object number byte)) }
+{
+    push_check(number, line)?;
+    push_byte(byte, line)
+}
+
+// Adds the line of a check of its relocations.
+fn push_link(number: u8, section: u16, offset: u32, line: &mut Vec<u8>) -> Result<(), Memory>
+    ensures { OnOk result (line.new.items ≡ line.old.items ++ refusal_line (Refusal.Link number section offset)) }
+{
+    push_check(number, line)?;
+    push_place(section, offset, line)
+}
+
+// Adds the line of a bad line of a text.
+fn push_bad_line(byte: u32, line: &mut Vec<u8>) -> Result<(), Memory>
+    ensures { OnOk result (line.new.items ≡ line.old.items ++ refusal_line (Refusal.BadLine byte)) }
+{
+    line.extend_from_slice(b"error 61 BadText")?;
+    push_byte(byte, line)
+}
+
+// Adds the line of a refusal.
+fn push_refusal(refusal: Refusal, line: &mut Vec<u8>) -> Result<(), Memory>
+    ensures { OnOk result (line.new.items ≡ line.old.items ++ refusal_line refusal) }
+{
+    match refusal {
+        Refusal::Object(number, offset) => push_object(number, offset, line),
+        Refusal::Link(number, section, offset) => push_link(number, section, offset, line),
+        Refusal::NotYet => line.extend_from_slice(b"error 90 NotYet\n"),
+        Refusal::TextTooLarge => line.extend_from_slice(b"error 63 TextTooLarge\n"),
+        Refusal::BadLine(place) => push_bad_line(place, line),
+        Refusal::BadJudgement => line.extend_from_slice(b"error 62 BadText\n"),
     }
 }
 
@@ -40,25 +145,7 @@ pub fn refusal_line(alloc: Global, refusal: Refusal) -> Result<Vec<u8>, Memory>
     ensures { IfOk result (λ line. line.items ≡ refusal_line refusal) }
 {
     let mut line = Vec::new(alloc);
-    match refusal {
-        Refusal::Object(number, offset) => {
-            line.extend_from_slice(b"error ")?;
-            print_number(u32::from(number), &mut line)?;
-            line.extend_from_slice(b" ")?;
-            line.extend_from_slice(check_name(number).as_bytes())?;
-            line.extend_from_slice(b" at ")?;
-            print_number(offset, &mut line)?;
-            line.extend_from_slice(b"\n")?;
-        }
-        Refusal::NotYet => line.extend_from_slice(b"error 90 NotYet\n")?,
-        Refusal::TextTooLarge => line.extend_from_slice(b"error 63 TextTooLarge\n")?,
-        Refusal::BadLine(place) => {
-            line.extend_from_slice(b"error 61 BadText at ")?;
-            print_number(place, &mut line)?;
-            line.extend_from_slice(b"\n")?;
-        }
-        Refusal::BadJudgement => line.extend_from_slice(b"error 62 BadText\n")?,
-    }
+    push_refusal(refusal, &mut line)?;
     Ok(line)
 }
 

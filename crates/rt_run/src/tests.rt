@@ -120,31 +120,25 @@ fn loads_and_stores(rt: HostRuntime) -> Result<(), Fail> {
     Ok(())
 }
 
+// A byte of the object, what is put there, and the line that is wanted.
+const CHANGES: [(usize, u8, &str); 5] = [
+    (0, 0x00, "error 2 Magic at 0\n"),
+    (16, 0x02, "error 5 Kind at 16\n"),
+    (36, 0x01, "error 7 Flags at 36\n"),
+    (145, 0x08, "error 15 Compressed at 144\n"),
+    (52, 0x73, "error 90 NotYet\n"),
+];
+
 #[test]
 fn refuses_objects(rt: HostRuntime) -> Result<(), Fail> {
     let alloc = rt.alloc();
     let short = "error 1 Short at 51\n";
     check_told(&rt, alloc, &["schemes", "file"], &LOAD[..51], 1, short)?;
-    let mut object = LOAD;
-    object[0] = 0;
-    check_told(
-        &rt,
-        alloc,
-        &["schemes", "file"],
-        &object,
-        1,
-        "error 2 Magic at 0\n",
-    )?;
-    let mut object = LOAD;
-    object[36] = 1;
-    check_told(
-        &rt,
-        alloc,
-        &["schemes", "file"],
-        &object,
-        1,
-        "error 90 NotYet\n",
-    )?;
+    for (byte, value, line) in CHANGES {
+        let mut object = LOAD;
+        object[byte] = value;
+        check_told(&rt, alloc, &["schemes", "file"], &object, 1, line)?;
+    }
     Ok(())
 }
 

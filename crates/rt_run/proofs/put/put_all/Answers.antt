@@ -1,4 +1,4 @@
-use Rattle.std.proofs.Common.{arith, ◌≤◌}
+use Rattle.std.proofs.Common.{arith}
 use Rattle.rt_run.proofs.Appending.{appends_piece, appends_front}
 use Rattle.rt_run.proofs.put.put_all.Goals as goal
 

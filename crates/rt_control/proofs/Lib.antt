@@ -1,0 +1,3 @@
+pub mod GoodForms
+pub mod KnownForms
+pub mod Room

@@ -1,0 +1,4 @@
+pub mod Control
+pub mod Laws
+pub mod Places
+pub mod Sites

@@ -1,0 +1,234 @@
+-- The heads that are held, and what they mean.
+use Rattle.std.proofs.Common.{◌≡◌, ℕ, zero, suc, ◌+◌, ◌<◌, ◌≤◌, inl, inr, Bool, true, false, is_some, Option, Some, None, List, [], ◌∷◌, ◌++◌, find, take, length, get_or, if◌then◌else◌, refl, sym, ap, ◌∙◌, subst, arith, add-one}
+use Rattle.std.specs.Option.{option_map, option_and_then, option_or}
+use Rattle.std.proofs.lemmas.List.{take_more, take_all}
+use Rattle.std.proofs.lemmas.List.Folds.{find-append}
+use Rattle.std.proofs.Math.Bool.{and-false, and-true as and-true_right}
+use Rattle.rt_elf.specs.declared.object.Object.{Object}
+use Rattle.rt_elf.specs.declared.reloc.Reloc.{Reloc}
+use Rattle.rt_elf.specs.declared.symbol.Symbol.{Symbol}
+use Rattle.rt_link.specs.declared.heads.Heads.{Heads}
+use Rattle.rt_link.specs.declared.links.Links.{Links}
+use Rattle.rt_link.specs.declared.kind.Kind.{Kind}
+use Rattle.rt_link.specs.declared.kind.Kind.TheVariants.{Passed, Jump, Call, PcrelHigh, High, Low, PcrelLow}
+use Rattle.rt_link.specs.declared.place.Place.{Place}
+use Rattle.rt_link.specs.Checks.{place_fault, partner_fault, reloc_by, no_reloc, places_fault, partners_fault}
+use Rattle.rt_link.specs.Effects.{place_of, is_place, is_head, head_at, is_high, high_at, low_of, meaning, symbol_place}
+use Rattle.rt_link.specs.Kinds.{kind_of, has_effect, is_pcrel_high, is_pcrel_low}
+use Rattle.rt_link.specs.Links.{head_of, head_in, low_in, low_of_head, meaning_in, link_in, AreHeads, high_of, HoldAll, AreLinksOf}
+use Rattle.rt_elf.proofs.Booleans.{cases_bool, not-false, and-true, and-rest_false, eqb-is, fault_if-none, then_of-none, none_at}
+
+-- a relocation after others, where a place has none of those before, or isn't its own
+option_or-none : {X : Type 0} (o : Option X) → option_or o None ≡ o
+option_or-none None = refl
+option_or-none (Some x) = refl
+
+is_some-false : {X : Type 0} (o : Option X) → is_some o ≡ false → o ≡ None
+is_some-false None e = refl
+is_some-false (Some x) e = cc
+
+place-same : (s t o u : ℕ) → s ≡ t → o ≡ u → let p : Place = record { section = s; offset = o } in let q : Place = record { section = t; offset = u } in p ≡ q
+place-same s t o u e f = rw (e, f) refl
+
+pub is_place-same : (p q : Place) → is_place p q ≡ true → p ≡ q
+is_place-same p q e =
+    let both = and-true _ _ e in
+    place-same p.section q.section p.offset q.offset (eqb-is _ _ both.0) (eqb-is _ _ both.1)
+
+-- the one more element of a search
+find-more : {X : Type 0} (test : X → Bool) (xs : List X) (x : X) → find test (xs ++ x ∷ []) ≡ option_or (find test xs) (if test x then Some x else None)
+find-more test xs x = find-append test xs (x ∷ [])
+
+-- no head stands where a relocation with an effect comes next
+no_head : (object : Object) (earlier : List Reloc) (reloc : Reloc) → place_fault object earlier reloc ≡ None → has_effect (kind_of reloc.kind) ≡ true
+    → head_at earlier (place_of reloc) ≡ None
+unfolding place_fault
+no_head object earlier reloc none effect =
+    let last = (then_of-none _ _ (then_of-none _ _ (then_of-none _ _ none).1).1).0 in
+    is_some-false _ (and-rest_false _ _ (fault_if-none _ _ last) effect)
+
+-- one more relocation with an effect
+pub AreHeads-more : (object : Object) (earlier : List Reloc) (reloc : Reloc) (heads heads' : Heads) → AreHeads object.symbols earlier heads
+    → place_fault object earlier reloc ≡ None → has_effect (kind_of reloc.kind) ≡ true
+    → ((q : Place) → head_in heads' q ≡ (if is_place (place_of reloc) q then Some (head_of object.symbols reloc) else head_in heads q))
+    → AreHeads object.symbols (earlier ++ reloc ∷ []) heads'
+AreHeads-more object earlier reloc heads heads' are none effect puts q = elim (cases_bool (is_place (place_of reloc) q)) [
+  | inl same ↦
+      let free : head_at earlier q ≡ None = subst (λ (p : Place). head_at earlier p ≡ None) (is_place-same (place_of reloc) q same) (no_head object earlier reloc none effect) in
+      rw (puts q, find-more (is_head q) earlier reloc, free, effect, same) refl
+  | inr other ↦
+      let old = are q in
+      rw (puts q, find-more (is_head q) earlier reloc, effect, other, option_or-none (head_at earlier q)) old
+]
+
+-- one more relocation with no effect
+pub AreHeads-passed : (symbols : List Symbol) (earlier : List Reloc) (reloc : Reloc) (heads : Heads) → AreHeads symbols earlier heads
+    → has_effect (kind_of reloc.kind) ≡ false → AreHeads symbols (earlier ++ reloc ∷ []) heads
+AreHeads-passed symbols earlier reloc heads are effect q =
+    rw (find-more (is_head q) earlier reloc, effect, option_or-none (head_at earlier q)) (are q)
+
+-- a type without effect is no PCREL_HI20
+no_effect-no_high : (kind : Option Kind) → has_effect kind ≡ false → is_pcrel_high kind ≡ false
+no_effect-no_high None e = refl
+no_effect-no_high (Some Passed) e = refl
+no_effect-no_high (Some Jump) e = cc
+no_effect-no_high (Some Call) e = cc
+no_effect-no_high (Some PcrelHigh) e = cc
+no_effect-no_high (Some High) e = cc
+no_effect-no_high (Some Low) e = cc
+no_effect-no_high (Some PcrelLow) e = cc
+
+-- each PCREL_HI20 is the head at its place: one more relocation
+highs-more : (object : Object) (earlier : List Reloc) (reloc : Reloc) (q : Place) → high_at earlier q ≡ high_of (head_at earlier q)
+    → place_fault object earlier reloc ≡ None → high_at (earlier ++ reloc ∷ []) q ≡ high_of (head_at (earlier ++ reloc ∷ []) q)
+highs-more object earlier reloc q are none = elim (cases_bool (is_place (place_of reloc) q)) [
+  | inr other ↦
+      rw (
+        find-more (is_high q) earlier reloc,
+        find-more (is_head q) earlier reloc,
+        other,
+        and-false (is_pcrel_high (kind_of reloc.kind)),
+        and-false (has_effect (kind_of reloc.kind)),
+        option_or-none (high_at earlier q),
+        option_or-none (head_at earlier q),
+      ) are
+  | inl same ↦ elim (cases_bool (has_effect (kind_of reloc.kind))) [
+    | inr effect ↦
+        rw (
+          find-more (is_high q) earlier reloc,
+          find-more (is_head q) earlier reloc,
+          effect,
+          no_effect-no_high (kind_of reloc.kind) effect,
+          option_or-none (high_at earlier q),
+          option_or-none (head_at earlier q),
+        ) are
+    | inl effect ↦
+        let free : head_at earlier q ≡ None = subst (λ (p : Place). head_at earlier p ≡ None) (is_place-same (place_of reloc) q same) (no_head object earlier reloc none effect) in
+        let low : high_at earlier q ≡ None = are ∙ ap high_of free in
+        rw (find-more (is_high q) earlier reloc, find-more (is_head q) earlier reloc, free, low, effect, same, and-true_right (is_pcrel_high (kind_of reloc.kind))) refl
+  ]
+]
+
+-- of all relocations
+pub highs-are_heads : (object : Object) (q : Place) → places_fault object ≡ None → (n : ℕ) → n ≤ length object.relocs
+    → high_at (take n object.relocs) q ≡ high_of (head_at (take n object.relocs) q)
+highs-are_heads object q none zero h = refl
+highs-are_heads object q none (suc n) h =
+    let more : take (suc n) object.relocs ≡ take n object.relocs ++ reloc_by object n ∷ [] = ap (λ (k : ℕ). take k object.relocs) (sym (add-one n)) ∙ take_more object.relocs n no_reloc (omega arith) in
+    let fault : place_fault object (take n object.relocs) (reloc_by object n) ≡ None =
+    none_at (λ (i : ℕ). place_fault object (take i object.relocs) (reloc_by object i)) (length object.relocs) n none (omega arith) in
+    rw more (highs-more object (take n object.relocs) (reloc_by object n) q (highs-are_heads object q none n (omega arith)) fault)
+
+-- all heads are held once all relocations are read
+pub holds_all : (object : Object) (heads : Heads) (n : ℕ) → length object.relocs ≤ n → places_fault object ≡ None
+    → AreHeads object.symbols (take n object.relocs) heads → HoldAll object heads
+holds_all object heads n h none are =
+    let all : take n object.relocs ≡ object.relocs = take_all n object.relocs h in
+    let whole : take (length object.relocs) object.relocs ≡ object.relocs = take_all (length object.relocs) object.relocs (omega arith) in
+    record {
+      are_heads = subst (λ (relocs : List Reloc). AreHeads object.symbols relocs heads) all are;
+      highs = λ q. subst (λ (relocs : List Reloc). high_at relocs q ≡ high_of (head_at relocs q)) whole (highs-are_heads object q none (length object.relocs) (omega arith));
+    }
+
+-- What heads mean.
+
+some-mapped : {X Y : Type 0} (f : X → Y) (o : Option X) → is_some (option_map f o) ≡ is_some o
+some-mapped f None = refl
+some-mapped f (Some x) = refl
+
+low-mapped : (symbols : List Symbol) (o : Option Reloc) → option_and_then low_of_head (option_map (head_of symbols) o) ≡ option_map low_of (high_of o)
+low-mapped symbols None = refl
+low-mapped symbols (Some reloc) = elim (cases_bool (is_pcrel_high (kind_of reloc.kind))) [ inl e ↦ rw e refl | inr e ↦ rw e refl ]
+
+-- what the low bits are at a place
+pub low-held : (object : Object) (heads : Heads) (place : Place) → HoldAll object heads → low_in heads place ≡ option_map low_of (high_at object.relocs place)
+low-held object heads place all =
+    ap (option_and_then low_of_head) (all.are_heads place) ∙ low-mapped object.symbols (head_at object.relocs place) ∙ ap (option_map low_of) (sym (all.highs place))
+
+-- whether a PCREL_HI20 stands there
+pub some-held : (object : Object) (heads : Heads) (place : Place) → HoldAll object heads → is_some (low_in heads place) ≡ is_some (high_at object.relocs place)
+some-held object heads place all = ap is_some (low-held object heads place all) ∙ some-mapped low_of (high_at object.relocs place)
+
+-- whether a head stands there
+pub some-head : (symbols : List Symbol) (relocs : List Reloc) (heads : Heads) (place : Place) → AreHeads symbols relocs heads
+    → is_some (head_in heads place) ≡ is_some (head_at relocs place)
+some-head symbols relocs heads place are = ap is_some (are place) ∙ some-mapped (head_of symbols) (head_at relocs place)
+
+meaning-held : (object : Object) (heads : Heads) (reloc : Reloc) (kind : Option Kind) → HoldAll object heads
+    → meaning_in heads kind (head_of object.symbols reloc) ≡ meaning object.symbols object.relocs kind reloc
+meaning-held object heads reloc None all = refl
+meaning-held object heads reloc (Some Passed) all = refl
+meaning-held object heads reloc (Some Jump) all = refl
+meaning-held object heads reloc (Some Call) all = refl
+meaning-held object heads reloc (Some PcrelHigh) all = refl
+meaning-held object heads reloc (Some High) all = refl
+meaning-held object heads reloc (Some Low) all = refl
+meaning-held object heads reloc (Some PcrelLow) all = low-held object heads (symbol_place object.symbols reloc.symbol) all
+
+links-held : (object : Object) (heads : Heads) (head : Option Reloc) → HoldAll object heads
+    → option_and_then (λ head. meaning_in heads (kind_of head.reloc.kind) head) (option_map (head_of object.symbols) head)
+    ≡ option_and_then (λ reloc. meaning object.symbols object.relocs (kind_of reloc.kind) reloc) head
+links-held object heads None all = refl
+links-held object heads (Some reloc) all = meaning-held object heads reloc (kind_of reloc.kind) all
+
+-- the element that a search finds stands in the list
+pub find-found : {X : Type 0} (test : X → Bool) (xs : List X) (x d : X) → find test xs ≡ Some x → (i : ℕ) × (i < length xs) × (get_or xs i d ≡ x) × (test x ≡ true)
+find-found test [] x d e = cc
+find-found test (y ∷ ys) x d e = elim (cases_bool (test y)) [
+  | inl pass ↦
+      let found : Some y ≡ Some x = rw pass at e in
+      let same : y ≡ x = cc in
+      (0, omega arith, same, rw (← same) pass)
+  | inr fail ↦
+      let rest : find test ys ≡ Some x = rw fail at e in
+      let deeper = find-found test ys x d rest in
+      (suc deeper.0, omega (arith, deeper.1), deeper.2, deeper.3)
+]
+
+-- a relocation with an effect means something where no check fails
+meaning-some : (object : Object) (reloc : Reloc) (kind : Option Kind) → has_effect kind ≡ true
+    → (is_pcrel_low kind ≡ true → is_some (high_at object.relocs (symbol_place object.symbols reloc.symbol)) ≡ true)
+    → is_some (meaning object.symbols object.relocs kind reloc) ≡ true
+meaning-some object reloc None effect low = cc
+meaning-some object reloc (Some Passed) effect low = cc
+meaning-some object reloc (Some Jump) effect low = refl
+meaning-some object reloc (Some Call) effect low = refl
+meaning-some object reloc (Some PcrelHigh) effect low = refl
+meaning-some object reloc (Some High) effect low = refl
+meaning-some object reloc (Some Low) effect low = refl
+meaning-some object reloc (Some PcrelLow) effect low = some-mapped low_of (high_at object.relocs (symbol_place object.symbols reloc.symbol)) ∙ low refl
+
+partner : (object : Object) (reloc : Reloc) → partner_fault object reloc ≡ None → is_pcrel_low (kind_of reloc.kind) ≡ true
+    → is_some (high_at object.relocs (symbol_place object.symbols reloc.symbol)) ≡ true
+unfolding partner_fault
+partner object reloc none low = not-false _ (and-rest_false _ _ (fault_if-none _ _ (then_of-none _ _ none).0) low)
+
+link-some : (object : Object) (place : Place) (head : Option Reloc) → head_at object.relocs place ≡ head → partners_fault object ≡ None
+    → is_some (option_and_then (λ reloc. meaning object.symbols object.relocs (kind_of reloc.kind) reloc) head) ≡ is_some head
+link-some object place None e none = refl
+link-some object place (Some reloc) e none =
+    let found = find-found (is_head place) object.relocs reloc no_reloc e in
+    let fault : partner_fault object (reloc_by object found.0) ≡ None =
+    none_at (λ (i : ℕ). partner_fault object (reloc_by object i)) (length object.relocs) found.0 none found.1 in
+    let fault' : partner_fault object reloc ≡ None = rw found.2 at fault in
+    meaning-some object reloc (kind_of reloc.kind) (and-true _ _ found.3).0 (partner object reloc fault')
+
+-- the links of all heads are the object's
+pub are_links : (object : Object) (links : Links) → HoldAll object links.heads → partners_fault object ≡ None → AreLinksOf object links
+unfolding link_in
+are_links object links all none = record {
+  same = λ section offset.
+      let place : Place = record { section = section; offset = offset } in
+      ap (option_and_then (λ head. meaning_in links.heads (kind_of head.reloc.kind) head)) (all.are_heads place) ∙ links-held object links.heads (head_at object.relocs place) all;
+  complete = λ section offset.
+      let place : Place = record { section = section; offset = offset } in
+      ap is_some (ap (option_and_then (λ head. meaning_in links.heads (kind_of head.reloc.kind) head)) (all.are_heads place) ∙ links-held object links.heads (head_at object.relocs place) all)
+      ∙ link-some object place (head_at object.relocs place) refl none;
+}
+
+-- the next relocation joins those before it
+pub AreHeads-next : (object : Object) (n : ℕ) (reloc : Reloc) (heads : Heads) → n < length object.relocs → reloc ≡ reloc_by object n
+    → AreHeads object.symbols (take n object.relocs ++ reloc ∷ []) heads → AreHeads object.symbols (take (n + 1) object.relocs) heads
+AreHeads-next object n reloc heads there is are =
+    let more : take (n + 1) object.relocs ≡ take n object.relocs ++ reloc ∷ [] = take_more object.relocs n no_reloc there ∙ ap (λ (r : Reloc). take n object.relocs ++ r ∷ []) (sym is) in
+    subst (λ (relocs : List Reloc). AreHeads object.symbols relocs heads) (sym more) are

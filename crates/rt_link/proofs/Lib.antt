@@ -1,0 +1,4 @@
+pub mod Checking
+pub mod Held
+pub mod Linked
+pub mod Pairs

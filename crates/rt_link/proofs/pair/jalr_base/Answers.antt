@@ -1,0 +1,6 @@
+use Rattle.std.proofs.Common.{arith}
+use Rattle.rt_link.proofs.Pairs.{no_jalr}
+use Rattle.rt_link.proofs.pair.jalr_base.Goals as goal
+
+pub returns-in_default-2 : goal.returns-in_default-2
+returns-in_default-2 c = no_jalr c.args.word (omega arith) c.decode.result c.in_default.is c.decode.ensures.only

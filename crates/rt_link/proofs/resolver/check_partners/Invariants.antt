@@ -1,0 +1,8 @@
+use Rattle.std.proofs.Common.{ℕ, length}
+use Rattle.rt_link.specs.Checks.{partner_fault, reloc_by, partners_fault}
+use Rattle.rt_link.proofs.Checking.{IsChecking}
+use Rattle.rt_link.proofs.resolver.check_partners.Given as goal
+
+abbrev pub invariant-loop-index : goal.invariant-loop-index
+invariant-loop-index l =
+    IsChecking (λ (i : ℕ). partner_fault l.object (reloc_by l.object i)) (length l.object.relocs) l.index (partners_fault l.object)

@@ -1,0 +1,3 @@
+/* clang 14 --target=riscv32 -march=rv32im -mabi=ilp32 -O1 -c source.c -o object.o */
+struct pair { int first; int second; };
+int get(struct pair *p) { return p->second; }

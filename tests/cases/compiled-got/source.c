@@ -1,0 +1,3 @@
+/* clang 14 --target=riscv32 -march=rv32im -mabi=ilp32 -O1 -fPIC -c source.c -o object.o */
+extern int count;
+int *where(void) { return &count; }
