@@ -9,7 +9,7 @@ LOCAL, GLOBAL = 0, 1
 NOTYPE, OBJECT, FUNC = 0, 1, 2
 # R_RISCV_32 and others
 WORD, CALL_PLT, PCREL_HI20, PCREL_LO12_I, ADD32, SUB32, RELAX = 1, 19, 23, 24, 35, 39, 51
-A0, RETURN = 10, 0x00008067
+RA, SP, A0, RETURN = 1, 2, 10, 0x00008067
 
 
 class Section(NamedTuple):
@@ -45,6 +45,11 @@ def lw(rd, rs1, imm):
 
 def sw(rs1, rs2, imm):
     return (imm >> 5 & 0x7F) << 25 | rs2 << 20 | rs1 << 15 | 2 << 12 | (imm & 0x1F) << 7 | 0x23
+
+
+def beq(rs1, rs2, distance):
+    return ((distance >> 12 & 1) << 31 | (distance >> 5 & 0x3F) << 25 | rs2 << 20 | rs1 << 15 | (distance >> 1 & 0xF) << 8
+            | (distance >> 11 & 1) << 7 | 0x63)
 
 
 def reloc(offset, symbol, kind, addend=0):

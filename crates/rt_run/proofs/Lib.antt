@@ -1,5 +1,5 @@
 mod Lined
 mod Reported
+mod Straightened
 pub mod Appending
-pub mod Coded
 pub mod Refusing

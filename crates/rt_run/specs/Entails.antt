@@ -5,7 +5,7 @@ use Rattle.rt_entail.specs.Entailment.{IsRefusal, IsAnswer}
 use Rattle.rt_run.specs.declared.no_text.NoText.{NoText}
 use Rattle.rt_run.specs.declared.no_text.NoText.TheVariants.{Refused, Memory}
 use Rattle.rt_run.specs.declared.refusal.Refusal.{Refusal}
-use Rattle.rt_run.specs.declared.refusal.Refusal.TheVariants.{Object, Link, NotYet, TextTooLarge, BadLine, BadJudgement}
+use Rattle.rt_run.specs.declared.refusal.Refusal.TheVariants.{Object, Link, Code, NotYet, TextTooLarge, BadLine, BadJudgement}
 
 -- why a text and a judgement are refused: the text is too long, else for what stands in it, else for the judgement
 abbrev pub IsEntailRefused : List ℕ → List ℕ → Refusal → Type 0
@@ -15,6 +15,7 @@ IsEntailRefused judgement text (BadLine place) = (length text ≤ 1048576) × Is
 IsEntailRefused judgement text BadJudgement = (length text ≤ 1048576) × IsRefusal text judgement IsBadJudgement
 IsEntailRefused judgement text (Object number offset) = ⊥
 IsEntailRefused judgement text (Link number section offset) = ⊥
+IsEntailRefused judgement text (Code number section offset) = ⊥
 
 -- whether the judgement is derivable from the lines of the text
 abbrev pub IsEntailText : List ℕ → List ℕ → List ℕ → Type 0

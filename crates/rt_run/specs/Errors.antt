@@ -2,9 +2,9 @@
 use Rattle.std.specs.Prelude.{ℕ, List, ◌++◌, codes, decimal, if◌then◌else◌, ◌==◌}
 use Rattle.rt_scheme.specs.NameTexts.{name_text}
 use Rattle.rt_run.specs.declared.refusal.Refusal.{Refusal}
-use Rattle.rt_run.specs.declared.refusal.Refusal.TheVariants.{Object, Link, NotYet, TextTooLarge, BadLine, BadJudgement}
+use Rattle.rt_run.specs.declared.refusal.Refusal.TheVariants.{Object, Link, Code, NotYet, TextTooLarge, BadLine, BadJudgement}
 
--- the name of a check of the object or of its relocations that fails, by its number
+-- the name of a check of the object, of its relocations or of its code that fails, by its number
 abbrev pub check_name : ℕ → List ℕ
 check_name number =
     if number == 1 then codes "Short" else
@@ -27,7 +27,11 @@ check_name number =
     if number == 21 then codes "RelocPlace" else
     if number == 22 then codes "TwoRelocs" else
     if number == 23 then codes "LoneLow" else
-    if number == 24 then codes "CallPair" else codes "Unknown"
+    if number == 24 then codes "CallPair" else
+    if number == 30 then codes "Illegal" else
+    if number == 31 then codes "BadTarget" else
+    if number == 32 then codes "FallsOff" else
+    if number == 33 then codes "IndirectJump" else codes "Unknown"
 
 -- the number and the name of a check
 abbrev pub check_text : ℕ → List ℕ
@@ -53,6 +57,7 @@ place_text section offset = section_text section ++ offset_text offset
 abbrev pub refusal_line : Refusal → List ℕ
 refusal_line (Object number offset) = check_text number ++ byte_text offset
 refusal_line (Link number section offset) = check_text number ++ place_text section offset
+refusal_line (Code number section offset) = check_text number ++ place_text section offset
 refusal_line NotYet = codes "error 90 NotYet\n"
 refusal_line TextTooLarge = codes "error 63 TextTooLarge\n"
 refusal_line (BadLine place) = codes "error 61 BadText" ++ byte_text place

@@ -2,12 +2,12 @@
 #![tactic(auto)]
 
 mod entail;
-mod function;
 mod no_text;
 mod put;
 mod refusal;
 mod schemes;
 mod stop;
+mod straight;
 #[cfg(test)]
 mod tests;
 mod top;

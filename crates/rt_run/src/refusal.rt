@@ -14,6 +14,8 @@ pub enum Refusal {
     Object(u8, u32),
     /// A check of the object's relocations fails: its number, and the section and the offset of the relocation.
     Link(u8, u16, u32),
+    /// The object's code has a fault: its number, and the section and the offset of the place.
+    Code(u8, u16, u32),
     /// The object is not of the form that this build reads, or the text has what it doesn't.
     NotYet,
     /// The text of `entail` is too long.
@@ -24,7 +26,7 @@ pub enum Refusal {
     BadJudgement,
 }
 
-// The name of a check of the object or of its relocations, by its number.
+// The name of a check of the object, of its relocations or of its code, by its number.
 fn check_name(number: u8) -> &'static str
     ensures { result.now ≡ check_name number }
 {
@@ -50,6 +52,10 @@ fn check_name(number: u8) -> &'static str
         22 => "TwoRelocs",
         23 => "LoneLow",
         24 => "CallPair",
+        30 => "Illegal",
+        31 => "BadTarget",
+        32 => "FallsOff",
+        33 => "IndirectJump",
         _ => "Unknown",
     }
 }
@@ -109,8 +115,8 @@ fn push_object(number: u8, byte: u32, line: &mut Vec<u8>) -> Result<(), Memory>
     push_byte(byte, line)
 }
 
-// Adds the line of a check of its relocations.
-fn push_link(number: u8, section: u16, offset: u32, line: &mut Vec<u8>) -> Result<(), Memory>
+// Adds the line of a check of its relocations or of its code.
+fn push_at(number: u8, section: u16, offset: u32, line: &mut Vec<u8>) -> Result<(), Memory>
     ensures { OnOk result (line.new.items ≡ line.old.items ++ refusal_line (Refusal.Link number section offset)) }
 {
     push_check(number, line)?;
@@ -131,7 +137,9 @@ fn push_refusal(refusal: Refusal, line: &mut Vec<u8>) -> Result<(), Memory>
 {
     match refusal {
         Refusal::Object(number, offset) => push_object(number, offset, line),
-        Refusal::Link(number, section, offset) => push_link(number, section, offset, line),
+        Refusal::Link(number, section, offset) | Refusal::Code(number, section, offset) => {
+            push_at(number, section, offset, line)
+        }
         Refusal::NotYet => line.extend_from_slice(b"error 90 NotYet\n"),
         Refusal::TextTooLarge => line.extend_from_slice(b"error 63 TextTooLarge\n"),
         Refusal::BadLine(place) => push_bad_line(place, line),

@@ -1,34 +1,26 @@
 // The text that `schemes` writes.
-ghost use Rattle.std.specs.Prelude.{◌≡◌, ◌⊎◌, ◌≤◌, ◌+◌, ◌%◌, ℕ, List, [], None, All, IfErr, IfOk, OnOk, IsTrue, MatchResult, length};
-ghost use Rattle.rt_terms.specs.declared.variable.Base.{Base};
-ghost use Rattle.rt_terms.specs.declared.variable.Base.TheVariants.{Proc, Exist};
+ghost use Rattle.std.specs.Prelude.{◌≡◌, ◌⊎◌, ℕ, List, None, All, IfErr, IfOk, OnOk};
 ghost use Rattle.rt_terms.specs.Lines.{HasConstantsBelow};
-ghost use Rattle.rt_rules.specs.Laws.{NamesBase};
 ghost use Rattle.rt_elf.specs.Checks.{first_fault};
-ghost use Rattle.rt_elf.specs.Object.{IsObject, IsInFile, IsLinkable, section_of};
-ghost use Rattle.rt_elf.specs.Sections.{is_code_section};
+ghost use Rattle.rt_elf.specs.Object.{IsObject, IsInFile, IsLinkable};
 ghost use Rattle.rt_link.specs.Checks.{link_fault};
 ghost use Rattle.rt_link.specs.Links.{AreLinksOf};
-ghost use Rattle.rt_insn.specs.declared.insn.Insn.{Insn};
-ghost use Rattle.rt_table.specs.Straight.{straight_lines};
-ghost use Rattle.rt_run.specs.Readable.{IsCodeAt, IsFunction, IsReadable, words_from};
-ghost use Rattle.rt_run.specs.Schemes.{IsChecked, IsNoText, IsRightFor, IsSchemesText, function_report};
-ghost use Rattle.rt_scheme.specs.Reports.{AllConstantsBelow};
+ghost use Rattle.rt_proc.specs.Faults.{HasNoFault};
+ghost use Rattle.rt_proc.specs.Procs.{AreProcs};
+ghost use Rattle.rt_run.specs.Readable.{AreStraightBy, link_by};
+ghost use Rattle.rt_run.specs.Schemes.{AreRightEntries, IsNoText, IsLinked, IsRightEntry, IsSchemesText};
 
-use crate::function::{first_function, has_word, is_only_place, is_unlinked, rest};
 use crate::no_text::NoText;
 use crate::refusal::Refusal;
-use rt_base::{Bytes, Memory};
-use rt_elf::{ElfFault, Object, Symbol};
+use crate::straight::straight_insns;
+use rt_elf::{ElfFault, Object};
 use rt_link::{LinkFault, Links, resolve};
+use rt_proc::{CodeFault, Proc, Procs, find};
 use rt_scheme::{Entries, Entry, Globals, Place2, Report, print_report};
 use rt_solve::settle;
-use rt_table::{StraightFault, straight_lines_of};
-use rt_terms::{Lines, Names};
+use rt_table::straight_lines_of;
+use rt_terms::Names;
 use std::alloc::Global;
-
-// The refusal of an object that is not of the form that is read so far.
-const OTHER_FORM: NoText = NoText::Refused(Refusal::NotYet);
 
 // The object of the bytes.
 fn read_object(alloc: Global, bytes: &[u8]) -> Result<Object, NoText>
@@ -70,81 +62,85 @@ fn links_of(alloc: Global, object: &Object) -> Result<Links, NoText>
     }
 }
 
-// The lines of the code at the place of the function.
-fn function_lines(
-    alloc: Global,
-    object: &Object,
-    links: &Links,
-    function: &Symbol,
-) -> Result<Lines, NoText>
+// The object's procedures.
+fn procs_of(alloc: Global, object: &Object, links: &Links) -> Result<Procs, NoText>
+    requires is_linked { IsLinked object.now.bytes object.now }
     requires in_file { IsInFile object.now }
-    requires is_code { IsTrue (is_code_section (section_of object.now function.now.section)) }
+    requires linkable { IsLinkable object.now }
     requires links { AreLinksOf object.now links.now }
-    ensures found { IfOk result (λ lines. (insns : List Insn) × IsCodeAt object.now function.now.section function.now.value insns × (lines ≡ straight_lines 0 insns)) }
-    ensures constants { IfOk result (λ lines. All (HasConstantsBelow 0) lines) }
-    ensures bases { IfOk result (λ lines. (b : Base) → NamesBase lines b → (b ≡ Proc 0) ⊎ ((n : ℕ) × (b ≡ Exist n))) }
-    ensures refused { IfErr result (λ e. (e ≡ NoText.Memory) ⊎ ((e ≡ NoText.Refused Refusal.NotYet) × ((insns : List Insn) → IsCodeAt object.now function.now.section function.now.value insns → ⊥))) }
+    ensures refused { IfErr result (IsNoText object.now.bytes) }
+    ensures is_sound { OnOk result (HasNoFault object.now) }
+    ensures found { IfOk result (AreProcs object.now) }
 {
-    let (section, offset) = (function.section, function.value);
-    if !has_word(object, section, offset) {
-        return Err(OTHER_FORM);
-    }
-    let words = object.words(alloc, section)?;
-    let code = rest(&words, offset as usize / 4);
-    if !is_unlinked(links, section, offset, code) {
-        return Err(OTHER_FORM);
-    }
-    match straight_lines_of(alloc, code, 0) {
-        Ok(lines) => Ok(lines),
-        Err(StraightFault::NotStraight) => Err(OTHER_FORM),
-        Err(StraightFault::Memory) => Err(NoText::Memory),
+    match find(alloc, object, links) {
+        Ok(procs) => Ok(procs),
+        Err(CodeFault::Bad { number, place }) => Err(NoText::Refused(Refusal::Code(
+            number,
+            place.section,
+            place.offset,
+        ))),
+        Err(CodeFault::Memory) => Err(NoText::Memory),
     }
 }
 
-// The report of one function.
-fn function_report(alloc: Global, function: &Symbol, lines: Lines) -> Result<Report, Memory>
-    ensures { IfOk result (λ report. report ≡ function_report function.now lines) }
+// The entry for a procedure of a number.
+fn entry_of(
+    alloc: Global,
+    links: &Links,
+    names: &Names,
+    number: u32,
+    proc: &Proc,
+) -> Result<Entry, NoText>
+    ensures straight { OnOk result (AreStraightBy (link_by links.now) proc.now.sites) }
+    ensures right { IfOk result (IsRightEntry number proc.now) }
+    ensures constants { IfOk result (λ entry. All (HasConstantsBelow 0) entry.lines) }
+    ensures refused { IfErr result (λ e. (e ≡ NoText.Memory) ⊎ ((e ≡ NoText.Refused Refusal.NotYet) × (AreStraightBy (link_by links.now) proc.now.sites → ⊥))) }
 {
-    let mut entries = Entries::new(alloc);
-    entries.push(Entry {
-        number: 0,
+    let insns = match straight_insns(alloc, links, proc.sites.items()) {
+        Ok(insns) => insns,
+        Err(fault) => return Err(fault),
+    };
+    if u32::try_from(insns.items().len()).is_err() {
+        return Err(NoText::Memory);
+    }
+    let lines = straight_lines_of(alloc, insns.items(), number)?;
+    let scheme = settle(alloc, lines, names)?;
+    let name = proc.name.copy()?;
+    Ok(Entry {
+        number,
         place: Place2 {
-            section: function.section,
-            offset: function.value,
+            section: proc.entry.section,
+            offset: proc.entry.offset,
         },
-        name: function.name.copy()?,
-        lines,
-    })?;
-    Ok(Report {
-        globals: Globals::new(alloc),
-        entries,
+        name,
+        lines: scheme,
     })
 }
 
-// The report of an object of the form that is read so far.
-fn report_of(alloc: Global, object: &Object, links: &Links, names: &Names) -> Result<Report, NoText>
-    requires in_file { IsInFile object.now }
-    requires links { AreLinksOf object.now links.now }
-    ensures right { IfOk result (IsRightFor object.now) }
-    ensures constants { IfOk result (AllConstantsBelow 0) }
-    ensures refused { IfErr result (λ e. (e ≡ NoText.Memory) ⊎ ((e ≡ NoText.Refused Refusal.NotYet) × (IsReadable object.now → ⊥))) }
+// The entries for procedures, in the order of their numbers.
+fn entries_of(
+    alloc: Global,
+    links: &Links,
+    names: &Names,
+    procs: &[Proc],
+) -> Result<Entries, NoText>
+    ensures straight { OnOk result (All (λ proc. AreStraightBy (link_by links.now) proc.sites) procs.now) }
+    ensures right { IfOk result (AreRightEntries procs.now) }
+    ensures constants { IfOk result (λ entries. All (λ entry. All (HasConstantsBelow 0) entry.lines) entries) }
+    ensures refused { IfErr result (λ e. (e ≡ NoText.Memory) ⊎ ((e ≡ NoText.Refused Refusal.NotYet) × (All (λ proc. AreStraightBy (link_by links.now) proc.sites) procs.now → ⊥))) }
 {
-    let Some(index) = first_function(object) else {
-        return Ok(Report {
-            globals: Globals::new(alloc),
-            entries: Entries::new(alloc),
-        });
-    };
-    let function = &object.symbols.items()[index];
-    if !is_only_place(object, function) {
-        return Err(OTHER_FORM);
+    let mut entries = Entries::new(alloc);
+    for (number, proc) in procs.iter().enumerate() {
+        let Ok(number) = u32::try_from(number) else {
+            return Err(NoText::Memory);
+        };
+        let entry = match entry_of(alloc, links, names, number, proc) {
+            Ok(entry) => entry,
+            Err(fault) => return Err(fault),
+        };
+        entries.push(entry)?;
     }
-    let lines = match function_lines(alloc, object, links, function) {
-        Ok(lines) => lines,
-        Err(fault) => return Err(fault),
-    };
-    let scheme = settle(alloc, lines, names)?;
-    Ok(function_report(alloc, function, scheme)?)
+    Ok(entries)
 }
 
 /// The text that `schemes` writes for the object of the bytes, or why there is none.
@@ -154,10 +150,15 @@ pub fn schemes_text(alloc: Global, bytes: &[u8]) -> Result<Vec<u8>, NoText>
 {
     let object = read_object(alloc, bytes)?;
     let links = links_of(alloc, &object)?;
+    let procs = procs_of(alloc, &object, &links)?;
     let names = Names::new(alloc);
-    let report = match report_of(alloc, &object, &links, &names) {
-        Ok(report) => report,
+    let entries = match entries_of(alloc, &links, &names, procs.items()) {
+        Ok(entries) => entries,
         Err(fault) => return Err(fault),
+    };
+    let report = Report {
+        globals: Globals::new(alloc),
+        entries,
     };
     Ok(print_report(alloc, &report, &names)?)
 }

@@ -121,12 +121,15 @@ fn loads_and_stores(rt: HostRuntime) -> Result<(), Fail> {
 }
 
 // A byte of the object, what is put there, and the line that is wanted.
-const CHANGES: [(usize, u8, &str); 5] = [
+const CHANGES: [(usize, u8, &str); 8] = [
     (0, 0x00, "error 2 Magic at 0\n"),
     (16, 0x02, "error 5 Kind at 16\n"),
     (36, 0x01, "error 7 Flags at 36\n"),
     (145, 0x08, "error 15 Compressed at 144\n"),
-    (52, 0x73, "error 90 NotYet\n"),
+    (52, 0x73, "error 30 Illegal at section 1 offset 0\n"),
+    (56, 0x73, "error 30 Illegal at section 1 offset 4\n"),
+    (56, 0x13, "error 32 FallsOff at section 1 offset 4\n"),
+    (53, 0x22, "error 90 NotYet\n"),
 ];
 
 #[test]

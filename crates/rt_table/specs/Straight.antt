@@ -12,29 +12,23 @@ use Rattle.rt_terms.specs.declared.line.Line.TheVariants.{Var, Sub}
 use Rattle.rt_rules.specs.Rules.{extended}
 use Rattle.rt_insn.specs.declared.insn.Insn.{Insn}
 use Rattle.rt_insn.specs.declared.insn.Insn.TheVariants.{Addi, Lw, Sw}
-use Rattle.rt_insn.specs.Table.{IsCode}
 use Rattle.rt_table.specs.declared.held.Source.{Source}
 use Rattle.rt_table.specs.declared.held.Source.TheVariants.{Entry, Load}
 use Rattle.rt_table.specs.declared.held.Held.{Held}
 use Rattle.rt_numbering.specs.Numbering.{deduplicated, numbered}
 
--- Which code is straight.
+-- Which instructions stand in straight code, before its return.
 
 -- one of the registers a0 to a7
 abbrev pub IsArgument : ℕ → Type 0
 IsArgument r = (10 ≤ r) × (r ≤ 17)
 
 -- an addition of a number, a load or a store of a word, among the registers a0 to a7
-abbrev pub IsPlain : Insn → Type 0
-IsPlain (Addi rd rs1 imm) = IsArgument rd × IsArgument rs1
-IsPlain (Lw rd rs1 imm) = IsArgument rd × IsArgument rs1
-IsPlain (Sw rs1 rs2 imm) = IsArgument rs1 × IsArgument rs2
-IsPlain _ = ⊥
-
--- the code words are those of the instructions, a return, `jalr x0, 0(ra)`, and whatever comes after it
-pub data IsStraight : List ℕ → List Insn → Type 0 where
-  returns : {words : List ℕ} → IsStraight (0x00008067 ∷ words) []
-  goes_on : {word : ℕ} {words : List ℕ} {insn : Insn} {insns : List Insn} → IsCode word insn → IsPlain insn → IsStraight words insns → IsStraight (word ∷ words) (insn ∷ insns)
+abbrev pub IsStraight : Insn → Type 0
+IsStraight (Addi rd rs1 imm) = IsArgument rd × IsArgument rs1
+IsStraight (Lw rd rs1 imm) = IsArgument rd × IsArgument rs1
+IsStraight (Sw rs1 rs2 imm) = IsArgument rs1 × IsArgument rs2
+IsStraight _ = ⊥
 
 -- What the registers hold. Register a0 stands first.
 

@@ -1,7 +1,7 @@
 // The lines of one instruction and of a return.
 ghost use Rattle.std.specs.Prelude.{◌≡◌, ◌++◌, ◌⊎◌, IfOk, OnOk, ◌≤◌};
 ghost use Rattle.rt_table.specs.Sources.{IsSource};
-ghost use Rattle.rt_table.specs.Straight.{IsPlain, flow_line, lines_at, result_lines, side_of, source_variable, word_through};
+ghost use Rattle.rt_table.specs.Straight.{IsStraight, flow_line, lines_at, result_lines, side_of, source_variable, word_through};
 
 use crate::held::{Held, Source, wrapping_sum};
 use crate::registers::Registers;
@@ -25,7 +25,7 @@ impl Procedure {
         insn: &Insn,
         lines: &mut Lines,
     ) -> Result<(), AllocError>
-        requires { IsPlain insn.now }
+        requires { IsStraight insn.now }
         ensures { OnOk result (lines.new ≡ lines.old ++ lines_at self.number site registers.now insn.now) }
     {
         match *insn {

@@ -2,7 +2,7 @@
 ghost use Rattle.std.specs.Prelude.{◌≡◌, ◌+ℤ◌, pos, true, false};
 ghost use Rattle.std.specs.Int.{int_wrap, w32};
 ghost use Rattle.rt_table.specs.Sources.{IsSource};
-ghost use Rattle.rt_table.specs.Straight.{IsArgument, IsPlain, after, at_entry, held_in, with_register};
+ghost use Rattle.rt_table.specs.Straight.{IsArgument, IsStraight, after, at_entry, held_in, with_register};
 
 use crate::held::{Held, Source, wrapping_sum};
 use rt_insn::Insn;
@@ -64,7 +64,7 @@ impl Registers {
 
     // Follows the instruction at a site.
     pub(crate) fn step(&mut self, site: u32, insn: &Insn)
-        requires { IsPlain insn.now }
+        requires { IsStraight insn.now }
         ensures { self.new ≡ after site self.old insn.now }
     {
         match *insn {

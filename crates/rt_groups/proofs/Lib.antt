@@ -1,0 +1,16 @@
+pub mod Numbers
+pub mod Reaching
+pub mod Entering
+pub mod Merging
+pub mod Closing
+pub mod Leaving
+pub mod Advancing
+pub mod Stepping
+pub mod Numbering
+pub mod Members
+pub mod Keys
+pub mod Settling
+pub mod Taking
+pub mod Ending
+pub mod Arranging
+pub mod Unique

@@ -1,0 +1,78 @@
+-- Places inserted one after the other.
+use Rattle.std.proofs.Common.{◌≡◌, zero, suc, ◌⊎◌, ◌↔◌, inl, inr, List, [], ◌∷◌, ◌++◌, Contains, refl, sym, ap, subst, ◌∙◌, arith, append_assoc, append-nil}
+use Rattle.std.specs.List.{list_any}
+use Rattle.std.proofs.lemmas.List.Elements.{Contains-append_left, Contains-push_cases}
+use Rattle.indexmap.specs.IndexSet.{insert_key, insert_all}
+use Rattle.indexmap.proofs.CallerLemmas.{Contains-insert_key}
+use Rattle.rt_elf.proofs.Booleans.{cases_bool}
+use Rattle.rt_link.specs.Effects.{is_place}
+use Rattle.rt_link.specs.declared.place.Place.{Place}
+use Rattle.rt_proc.proofs.PlaceLaws.{is_place-same}
+
+pub Contains-none : {X : Type 0} (x : X) → Contains [] x → ⊥
+Contains-none x h = let lt = h.1 in omega arith
+
+pub Contains-here : {X : Type 0} (x : X) (xs : List X) → Contains (x ∷ xs) x
+Contains-here x xs = (0, omega arith, refl)
+
+pub Contains-there : {X : Type 0} (y : X) (xs : List X) (x : X) → Contains xs x → Contains (y ∷ xs) x
+Contains-there y xs x h = let lt = h.1 in (suc h.0, omega arith, h.2)
+
+pub Contains-cons_cases : {X : Type 0} (y : X) (xs : List X) (x : X) → Contains (y ∷ xs) x → (y ≡ x) ⊎ Contains xs x
+Contains-cons_cases y xs x (zero, h, e) = inl e
+Contains-cons_cases y xs x (suc k, h, e) = inr (k, omega arith, e)
+
+-- the places that were there stay in front
+insert-front : (ks : List Place) (k : Place) → (rest : List Place) × (insert_key is_place ks k ≡ ks ++ rest)
+insert-front ks k = elim (cases_bool (list_any (is_place k) ks)) [
+  | inl there ↦ ([], rw (there, append-nil) refl)
+  | inr new ↦ (k ∷ [], rw new refl)
+]
+
+pub inserted-front : (xs ks : List Place) → (rest : List Place) × (insert_all is_place ks xs ≡ ks ++ rest)
+inserted-front [] ks = ([], rw append-nil refl)
+inserted-front (x ∷ xs) ks =
+    let one = insert-front ks x in
+    let more = inserted-front xs (insert_key is_place ks x) in
+    (one.0 ++ more.0, more.1 ∙ ap (λ (front : List Place). front ++ more.0) one.1 ∙ rw append_assoc refl)
+
+insert-source : (ks : List Place) (k p : Place) → Contains (insert_key is_place ks k) p → Contains ks p ⊎ (k ≡ p)
+insert-source ks k p h = elim (cases_bool (list_any (is_place k) ks)) [
+  | inl there ↦ inl (rw there at h)
+  | inr new ↦ Contains-push_cases ks k p (rw new at h)
+]
+
+-- each place was there or was inserted
+pub inserted-source : (xs ks : List Place) (p : Place) → Contains (insert_all is_place ks xs) p → Contains ks p ⊎ Contains xs p
+inserted-source [] ks p h = inl h
+inserted-source (x ∷ xs) ks p h = elim (inserted-source xs (insert_key is_place ks x) p h) [
+  | inl first ↦ elim (insert-source ks x p first) [
+    | inl old ↦ inl old
+    | inr e ↦ inr (subst (Contains (x ∷ xs)) e (Contains-here x xs))
+  ]
+  | inr later ↦ inr (Contains-there x xs p later)
+]
+
+-- the places that were there stay
+pub inserted-stays : (xs ks : List Place) (p : Place) → Contains ks p → Contains (insert_all is_place ks xs) p
+inserted-stays xs ks p h =
+    let front = inserted-front xs ks in
+    subst (λ (places : List Place). Contains places p) (sym front.1) (Contains-append_left ks front.0 p h)
+
+-- each place that is inserted is there
+pub inserted-has : (xs ks : List Place) (p : Place) → Contains xs p → Contains (insert_all is_place ks xs) p
+inserted-has [] ks p h = absurd (Contains-none p h)
+inserted-has (x ∷ xs) ks p h = elim (Contains-cons_cases x xs p h) [
+  | inl e ↦ inserted-stays xs (insert_key is_place ks x) p (subst (Contains (insert_key is_place ks x)) e (Contains-insert_key is_place is_place-same ks x))
+  | inr later ↦ inserted-has xs (insert_key is_place ks x) p later
+]
+
+-- places that are inserted among none
+pub inserted-all : (ks xs found : List Place) → ks ≡ [] → found ≡ insert_all is_place ks xs → (p : Place) → Contains found p ↔ Contains xs p
+inserted-all ks xs found none is p = (
+  (λ h. elim (inserted-source xs ks p (subst (λ (places : List Place). Contains places p) is h)) [
+    | inl old ↦ absurd (Contains-none p (subst (λ (places : List Place). Contains places p) none old))
+    | inr new ↦ new
+  ]),
+  λ h. subst (λ (places : List Place). Contains places p) (sym is) (inserted-has xs ks p h),
+)

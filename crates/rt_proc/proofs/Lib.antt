@@ -1,0 +1,14 @@
+pub mod Called
+pub mod Collected
+pub mod EntrySets
+pub mod Faulty
+pub mod Forms
+pub mod FunctionLists
+pub mod Inserted
+pub mod Naming
+pub mod Numbered
+pub mod OneFault
+pub mod PlaceLaws
+pub mod Staying
+pub mod Walking
+pub mod Whole

@@ -1,0 +1,103 @@
+-- Steps that stay in a body.
+use Rattle.std.proofs.Common.{◌≡◌, ◌↔◌, inl, inr, Bool, true, false, not, Result, Ok, Err, List, [], ◌∷◌, All, Contains, filter, get_or, refl, sym, ap, subst, ◌∙◌}
+use Rattle.std.proofs.lemmas.List.Elements.{All-filter, All-contains, Contains-get_or}
+use Rattle.std.proofs.lemmas.List.Folds.{list_any_at}
+use Rattle.rt_elf.specs.declared.object.Object.{Object}
+use Rattle.rt_elf.proofs.Booleans.{cases_bool}
+use Rattle.rt_link.specs.Effects.{is_place}
+use Rattle.rt_link.specs.declared.place.Place.{Place}
+use Rattle.rt_control.specs.declared.fault.SiteFault.{SiteFault}
+use Rattle.rt_control.specs.declared.form.Form.{Form}
+use Rattle.rt_control.specs.Laws.{IsGood, IsGoodForm}
+use Rattle.rt_control.specs.Sites.{IsAt}
+use Rattle.rt_proc.specs.Bodies.{StepsTo}
+use Rattle.rt_proc.specs.Entries.{IsEntry}
+use Rattle.rt_proc.specs.Sites.{is_entry, is_other, next_of}
+use Rattle.rt_proc.specs.Steps.{steps}
+use Rattle.rt_proc.proofs.Forms.{good-steps, one_form}
+use Rattle.rt_proc.proofs.Inserted.{Contains-none, Contains-here, Contains-there, Contains-cons_cases}
+use Rattle.rt_proc.proofs.PlaceLaws.{is_place-same, is_place-self}
+
+-- an element that passes is kept
+pub filter-has : {X : Type 0} (test : X → Bool) (xs : List X) (x : X) → Contains xs x → test x ≡ true → Contains (filter test xs) x
+filter-has test [] x h e = absurd (Contains-none x h)
+filter-has test (y ∷ ys) x h e = elim (Contains-cons_cases y ys x h) [
+  | inl same ↦ let pass : test y ≡ true = ap test same ∙ e in rw pass (subst (Contains (y ∷ filter test ys)) same (Contains-here y (filter test ys)))
+  | inr later ↦ elim (cases_bool (test y)) [
+    | inl pass ↦ rw pass (Contains-there y (filter test ys) x (filter-has test ys x later e))
+    | inr fail ↦ rw fail (filter-has test ys x later e)
+  ]
+]
+
+-- what is kept is an element that passes
+pub filter-source : {X : Type 0} (test : X → Bool) (xs : List X) (x : X) → Contains (filter test xs) x → Contains xs x × (test x ≡ true)
+filter-source test [] x h = absurd (Contains-none x h)
+filter-source test (y ∷ ys) x h = elim (cases_bool (test y)) [
+  | inl pass ↦ elim (Contains-cons_cases y (filter test ys) x (rw pass at h)) [
+    | inl same ↦ (subst (Contains (y ∷ ys)) same (Contains-here y ys), ap test (sym same) ∙ pass)
+    | inr later ↦ let rest = filter-source test ys x later in (Contains-there y ys x rest.0, rest.1)
+  ]
+  | inr fail ↦ let rest = filter-source test ys x (rw fail at h) in (Contains-there y ys x rest.0, rest.1)
+]
+
+-- the test of entries says which places are among them
+pub is_entry-has : (entries : List Place) (p : Place) → Contains entries p → is_entry entries p ≡ true
+is_entry-has entries p h = list_any_at (λ q. is_place q p) entries h.0 p h.1 (rw h.2 (is_place-self p))
+
+pub is_entry-source : (entries : List Place) (p : Place) → is_entry entries p ≡ true → Contains entries p
+is_entry-source [] p e = cc
+is_entry-source (q ∷ qs) p e = elim (cases_bool (is_place q p)) [
+  | inl same ↦ subst (Contains (q ∷ qs)) (is_place-same q p same) (Contains-here q qs)
+  | inr apart ↦ Contains-there q qs p (is_entry-source qs p (rw apart at e))
+]
+
+-- a place stays in the body of `own` exactly if it isn't the entry of another procedure
+module _ (object : Object) (entries : List Place) (own : Place) (same : (p : Place) → Contains entries p ↔ IsEntry object p) where
+  pub stays : (to : Place) → not (is_other entries own to) ≡ true → IsEntry object to → to ≡ own
+  stays to e entry = elim (cases_bool (is_place to own)) [
+    | inl one ↦ is_place-same to own one
+    | inr apart ↦ let f : false ≡ true = rw (is_entry-has entries to ((same to).1 entry), apart) at e in cc
+  ]
+
+  pub stays-test : (to : Place) → (IsEntry object to → to ≡ own) → not (is_other entries own to) ≡ true
+  stays-test to h = elim (cases_bool (is_entry entries to)) [
+    | inr out ↦ rw out refl
+    | inl entry ↦
+        let one : is_place to own ≡ true = rw (h ((same to).0 (is_entry-source entries to entry))) (is_place-self own) in
+        rw (entry, one) refl
+  ]
+
+  module _ (place : Place) (form : Form) (result : Result Form SiteFault) (is : result ≡ Ok form) (is_at : IsAt object place result) (only : (other : Result Form SiteFault) → IsAt object place other → other ≡ result) where
+    pub stepped : (items : List Place) → items ≡ next_of entries own form → (to : Place) → Contains items to ↔ StepsTo object own place to
+    stepped items e to = (
+      (λ h.
+          let kept = filter-source (λ p. not (is_other entries own p)) (steps form) to (subst (λ (places : List Place). Contains places to) e h) in
+          record { form = form; is_at = subst (IsAt object place) is is_at; steps = kept.0; stays = stays to kept.1 }
+          ),
+      λ h. subst (λ (places : List Place). Contains places to) (sym e)
+          (filter-has (λ p. not (is_other entries own p)) (steps form) to
+          (subst (λ (f : Form). Contains (steps f) to) (one_form object place form result is is_at only h.form h.is_at) h.steps) (stays-test to h.stays)),
+    )
+
+pub good-next : (object : Object) (entries : List Place) (own : Place) (form : Form) (items : List Place) → IsGoodForm object form → items ≡ next_of entries own form → All (IsGood object) items
+good-next object entries own form items h e =
+    subst (All (IsGood object)) (sym e) (All-filter (λ p. not (is_other entries own p)) (IsGood object) (steps form) (good-steps object form h))
+
+-- a site with a fault steps nowhere
+pub unstepped : (object : Object) (own place : Place) (fault : SiteFault) (result : Result Form SiteFault) → result ≡ Err fault → ((other : Result Form SiteFault) → IsAt object place other → other ≡ result)
+    → (items : List Place) → items ≡ [] → (to : Place) → Contains items to ↔ StepsTo object own place to
+unstepped object own place fault result is only items none to = (
+  (λ h. absurd (Contains-none to (subst (λ (places : List Place). Contains places to) none h))),
+  λ h. let e : ◌≡◌ {A = Result Form SiteFault} (Ok h.form) (Err fault) = only (Ok h.form) h.is_at ∙ is in cc,
+)
+
+-- where a body starts
+pub one-place : (own p : Place) → Contains (own ∷ []) p ↔ (p ≡ own)
+one-place own p = (
+  (λ h. elim (Contains-cons_cases own [] p h) [ inl e ↦ sym e | inr none ↦ absurd (Contains-none p none) ]),
+  λ e. subst (Contains (own ∷ [])) (sym e) (Contains-here own []),
+)
+
+-- what holds of a list's places holds of those of one that has no others
+pub All-same_places : (P : Place → Type 0) (xs ys : List Place) → ((p : Place) → Contains xs p → Contains ys p) → All P ys → All P xs
+All-same_places P xs ys h all = λ k d within. All-contains P ys (get_or xs k d) all (h (get_or xs k d) (Contains-get_or xs k d within))

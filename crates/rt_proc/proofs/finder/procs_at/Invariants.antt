@@ -1,0 +1,5 @@
+use Rattle.rt_proc.proofs.Collected.{AreFirst}
+use Rattle.rt_proc.proofs.finder.procs_at.Given as goal
+
+abbrev pub invariant-loop-entry : goal.invariant-loop-entry
+invariant-loop-entry l = AreFirst l.object l.entries l.entry-index l.procs

@@ -1,0 +1,10 @@
+pub mod Bodies
+pub mod Entries
+pub mod Faults
+pub mod Laws
+pub mod Order
+pub mod Procs
+pub mod Ready
+pub mod Sites
+pub mod Steps
+pub mod Walks

@@ -1,0 +1,61 @@
+// The names of functions.
+ghost use Rattle.std.specs.Prelude.{◌≡◌, IfOk, OnOk};
+ghost use Rattle.std.specs.Option.{option_or};
+ghost use Rattle.std.specs.HashMap.{get};
+ghost use Rattle.rt_link.specs.Effects.{is_place};
+ghost use Rattle.rt_proc.specs.Procs.{name_at, name_of_first, name_there};
+
+use crate::functions::{is_function, place_of};
+use rt_base::Bytes;
+use rt_control::Place;
+use rt_elf::{Object, Symbol};
+use std::alloc::{AllocError, Global};
+use std::collections::HashMap;
+
+// Adds the name of a symbol, if it is a function and the first one at its place.
+fn note(
+    object: &Object,
+    symbol: &Symbol,
+    names: &mut HashMap<Place, Bytes>,
+) -> Result<(), AllocError>
+    ensures { OnOk result ((place : Place)
+        → get is_place names.new place ≡ option_or (get is_place names.old place) (name_there object.now symbol.now place)) }
+{
+    if !is_function(object, symbol) {
+        return Ok(());
+    }
+    let place = place_of(symbol);
+    if names.contains_key(&place) {
+        return Ok(());
+    }
+    names.insert(place, symbol.name.copy()?)?;
+    Ok(())
+}
+
+// At each place of a function the name of the first one there.
+pub(crate) fn names(alloc: Global, object: &Object) -> Result<HashMap<Place, Bytes>, AllocError>
+    ensures { IfOk result (λ names. (place : Place) → get is_place names place ≡ name_of_first object.now object.now.symbols place) }
+{
+    let mut names = HashMap::new(alloc);
+    for symbol in object.symbols.items() {
+        note(object, symbol, &mut names)?;
+    }
+    Ok(names)
+}
+
+// The name at a place.
+pub(crate) fn name_at(
+    alloc: Global,
+    object: &Object,
+    names: &HashMap<Place, Bytes>,
+    place: Place,
+) -> Result<Bytes, AllocError>
+    requires { (place : Place) → get is_place names.now place ≡ name_of_first object.now object.now.symbols place }
+    ensures { IfOk result (λ name. name ≡ name_at object.now place) }
+{
+    let _ = object;
+    match names.get(&place) {
+        Some(name) => name.copy(),
+        None => Ok(Bytes::new(alloc)),
+    }
+}

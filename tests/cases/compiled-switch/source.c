@@ -1,0 +1,11 @@
+/* clang 14 --target=riscv32 -march=rv32im -mabi=ilp32 -O1 -c source.c -o object.o */
+void a(void), b(void), c(void), d(void), e(void);
+void choose(int n) {
+    switch (n) {
+    case 0: a(); break;
+    case 1: b(); break;
+    case 2: c(); break;
+    case 3: d(); break;
+    case 4: e(); break;
+    }
+}
