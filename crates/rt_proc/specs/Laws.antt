@@ -1,5 +1,5 @@
 -- What the entries, the bodies and the faults of an object's code have in common.
-use Rattle.std.specs.Prelude.{◌≡◌, ◌≢◌, ◌↔◌, ℕ, ◌<◌, IsTrue, Bool, All, Contains, List, length}
+use Rattle.std.specs.Prelude.{◌≡◌, ◌≢◌, ◌↔◌, ℕ, ◌<◌, IsTrue, Bool, Ok, All, Contains, List, length}
 use Rattle.rt_elf.specs.declared.object.Object.{Object}
 use Rattle.rt_elf.specs.Object.{IsLinkable}
 use Rattle.rt_insn.specs.Range.{HasRange}
@@ -7,7 +7,6 @@ use Rattle.rt_link.specs.declared.place.Place.{Place}
 use Rattle.rt_control.specs.declared.form.Form.{Form}
 use Rattle.rt_control.specs.Laws.{IsGood, IsUndefined}
 use Rattle.rt_control.specs.Sites.{IsAt}
-use Rattle.std.specs.Prelude.{Ok}
 use Rattle.rt_proc.specs.declared.proc.Proc.{Proc}
 use Rattle.rt_proc.specs.declared.site.Callee.{Callee}
 use Rattle.rt_proc.specs.declared.site.Callee.TheVariants as callee

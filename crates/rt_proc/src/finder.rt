@@ -16,7 +16,7 @@ use crate::bodies::body;
 use crate::entries::entries;
 use crate::fault::CodeFault;
 use crate::functions::functions;
-use crate::names::{name_at, names};
+use crate::names::{name_in, names};
 use crate::proc::{Proc, Procs};
 use crate::reach::reach;
 use crate::site::Sites;
@@ -83,7 +83,7 @@ fn proc_at(
 {
     let body = body(alloc, object, links, entries, own)?;
     let sites = sites(alloc, object, links, entries, own, &body)?;
-    let name = name_at(alloc, object, names, own)?;
+    let name = name_in(alloc, names, own)?;
     Ok(Proc {
         entry: own,
         name,

@@ -1,9 +1,9 @@
 // The names of functions.
-ghost use Rattle.std.specs.Prelude.{◌≡◌, IfOk, OnOk};
+ghost use Rattle.std.specs.Prelude.{◌≡◌, [], unwrap_or, IfOk, OnOk};
 ghost use Rattle.std.specs.Option.{option_or};
 ghost use Rattle.std.specs.HashMap.{get};
 ghost use Rattle.rt_link.specs.Effects.{is_place};
-ghost use Rattle.rt_proc.specs.Procs.{name_at, name_of_first, name_there};
+ghost use Rattle.rt_proc.specs.Procs.{name_of_first, name_there};
 
 use crate::functions::{is_function, place_of};
 use rt_base::Bytes;
@@ -43,17 +43,14 @@ pub(crate) fn names(alloc: Global, object: &Object) -> Result<HashMap<Place, Byt
     Ok(names)
 }
 
-// The name at a place.
-pub(crate) fn name_at(
+// The name that is held for a place, and the empty name where there is none.
+pub(crate) fn name_in(
     alloc: Global,
-    object: &Object,
     names: &HashMap<Place, Bytes>,
     place: Place,
 ) -> Result<Bytes, AllocError>
-    requires { (place : Place) → get is_place names.now place ≡ name_of_first object.now object.now.symbols place }
-    ensures { IfOk result (λ name. name ≡ name_at object.now place) }
+    ensures { IfOk result (λ name. name ≡ unwrap_or (get is_place names.now place) []) }
 {
-    let _ = object;
     match names.get(&place) {
         Some(name) => name.copy(),
         None => Ok(Bytes::new(alloc)),

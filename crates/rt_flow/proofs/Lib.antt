@@ -1,0 +1,15 @@
+mod Walking
+mod Answering
+mod Arriving
+mod Blockwise
+mod Classing
+mod Definitions
+mod Dividing
+mod Filling
+mod Grouping
+mod Marking
+mod Numbered
+mod Pushed
+mod Ranges
+mod Tabled
+mod Targeting

@@ -1,0 +1,6 @@
+pub mod Bodies
+pub mod Blocks
+pub mod Spreading
+pub mod Locations
+pub mod Tables
+pub mod Reaching

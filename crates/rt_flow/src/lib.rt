@@ -1,0 +1,48 @@
+//! Which definitions of a location reach a site of a body: reaching definitions over a graph of sites.
+#![tactic(auto)]
+
+ghost use Rattle.std.specs.Prelude.{IfOk};
+ghost use Rattle.rt_flow.specs.Reaching.{IsReachOf};
+
+mod blocks;
+mod def;
+mod graph;
+mod lasts;
+mod lists;
+mod locations;
+mod reach;
+mod rows;
+mod tables;
+mod targets;
+#[cfg(test)]
+mod tests;
+
+use blocks::Blocks;
+pub use def::Def;
+pub use graph::Graph;
+use lists::Lists;
+pub use reach::Reach;
+use rt_base::Memory;
+use std::alloc::Global;
+
+/// Which definitions reach the sites of a graph. The answer's size is linear in sites, edges and definitions, and in classes
+/// of locations times blocks of sites; the time also in how many definitions reach each block. The error is want of memory.
+pub fn reaching(alloc: Global, graph: &Graph) -> Result<Reach, Memory>
+    ensures { IfOk result (IsReachOf graph.now) }
+{
+    let blocks = Blocks::of(alloc, graph)?;
+    let targets = targets::targets(alloc, graph, &blocks)?;
+    let (locations, classes) = locations::classes(alloc, graph)?;
+    let entry = blocks.block(graph.entry());
+    let mut sets = Lists::new(alloc);
+    let tables = tables::tables(alloc, &blocks, &targets, entry, &classes, &mut sets)?;
+    let own = reach::own(alloc, graph.sites())?;
+    Ok(Reach {
+        blocks,
+        locations,
+        classes,
+        tables,
+        sets,
+        own,
+    })
+}

@@ -1,0 +1,14 @@
+pub mod Joined
+pub mod Meeting
+pub mod Filling
+pub mod Known
+pub mod Closing
+pub mod Spelled
+pub mod Gathering
+pub mod Keys
+pub mod Faulty
+pub mod Sameness
+pub mod Completed
+pub mod Unique
+pub mod Parsed
+pub mod StandardOrder

@@ -1,0 +1,10 @@
+pub mod Roles
+pub mod Bounds
+pub mod Searches
+pub mod Spelling
+pub mod Files
+pub mod Closures
+pub mod Grids
+pub mod Lattices
+pub mod Faults
+pub mod Standard
