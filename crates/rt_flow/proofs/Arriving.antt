@@ -8,7 +8,7 @@ use Rattle.rt_flow.specs.declared.def.Def.TheVariants.{Entry, At}
 use Rattle.rt_flow.specs.Bodies.{Precedes}
 use Rattle.rt_flow.specs.Blocks.{Run, Arrives}
 use Rattle.rt_flow.specs.Spreading.{AreRising, AreRows, Spreads}
-use Rattle.rt_flow.proofs.Targeting.{nothing_in, nothing_replicated, replicated_none}
+use Rattle.rt_flow.proofs.Targeting.{nothing_replicated, replicated_none}
 
 module _ (targets : List (List ℕ)) (lasts : List (Option ℕ)) (entry : ℕ) where
   -- Entry, or the last definition of one of the first blocks, so many

@@ -5,9 +5,9 @@ use Rattle.std.specs.List.Sorted.{IsStrictlyIncreasing}
 use Rattle.std.specs.Map.{lookup}
 use Rattle.std.specs.Ordering.{int_eq}
 use Rattle.std.proofs.lemmas.List.{take_more, take_all}
-use Rattle.std.proofs.lemmas.List.Elements.{All-get_or, Contains-get_or, Contains-push_cases}
+use Rattle.std.proofs.lemmas.List.Elements.{Contains-get_or, Contains-push_cases}
 use Rattle.rt_flow.specs.Bodies.{Body, Defines}
-use Rattle.rt_flow.specs.Locations.{sites_at, class_at, AreSitesOf, AreClasses}
+use Rattle.rt_flow.specs.Locations.{sites_at, AreSitesOf, AreClasses}
 use Rattle.rt_flow.proofs.Grouping.{int_equal, int_self}
 use Rattle.rt_flow.proofs.Numbered.{kept, longer, all_more}
 use Rattle.rt_flow.proofs.Targeting.{nothing_in}

@@ -6,11 +6,10 @@ use Rattle.std.proofs.lemmas.List.{get_or_append_left, get_or_past, get_or_push,
 use Rattle.std.proofs.lemmas.List.Elements.{All-contains, All-from_get_or}
 use Rattle.rt_flow.specs.declared.def.Def.{Def}
 use Rattle.rt_flow.specs.Bodies.{Body, IsBody, Precedes}
-use Rattle.rt_flow.specs.Blocks.{AreBlocks, AreTargets, AreLasts, IsLastOf, IsLastWithin, Arrives}
+use Rattle.rt_flow.specs.Blocks.{AreBlocks, AreTargets, AreLasts, IsLastOf, IsLastWithin}
 use Rattle.rt_flow.specs.Spreading.{AreRising, AreRows, AreWithin}
 use Rattle.rt_flow.specs.Tables.{Grows, AreNumbers, IsTable}
 use Rattle.rt_flow.proofs.Numbered.{kept, longer}
-use Rattle.rt_flow.proofs.Targeting.{nothing_in}
 
 module _ {X : Type 0} where
   pub grows_none : (lists : List (List X)) → Grows lists lists

@@ -4,7 +4,7 @@ use Rattle.std.specs.Prelude.{Contains, slice_index, slice_index_or}
 use Rattle.std.proofs.lemmas.List.{get_or_read, take_more, take_all, length-replicate, length-set}
 use Rattle.std.proofs.lemmas.List.Elements.{Contains-get_or, Contains-push_cases}
 use Rattle.rt_flow.specs.Bodies.{Body, Steps}
-use Rattle.rt_flow.specs.Blocks.{AreBlocks, AreTargets}
+use Rattle.rt_flow.specs.Blocks.{AreTargets}
 use Rattle.rt_flow.proofs.Pushed.{pushed, pushed_kept, pushed_here, pushed_cases}
 
 -- a list that contains nothing

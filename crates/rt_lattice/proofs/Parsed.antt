@@ -52,7 +52,7 @@ says_standard table is =
 
 -- the lattice that the text says is that of the file
 pub standard_in : (lattice : NamedOrder) → IsLatticeIn text lattice → IsLatticeOf standard_file lattice
-standard_in lattice says = subst (λ (f : File). IsLatticeOf f lattice) (one_file says.members says.file standard_file says.says (says_standard says.members says.table)) says.says_lattice
+standard_in lattice says = subst (λ (f : File). IsLatticeOf f lattice) (one_file says.table says.file standard_file says.says (says_standard says.table says.is_table)) says.says_lattice
 
 short : length text ≤ 65536
 short = lit≤ tt

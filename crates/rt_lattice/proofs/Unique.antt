@@ -171,11 +171,11 @@ no_missing file roles =
 
 -- a text that says a lattice has none
 pub no_fault : (text : List ℕ) (lattice : NamedOrder) (f : LatFault) → IsLatticeIn text lattice → IsFirstFault text f → ⊥
-no_fault text lattice _ says (is_too_long p) = omega (arith, says.table.short)
-no_fault text lattice _ says (is_not_toml short p) = p says.members says.table
-no_fault text lattice _ says (is_of_form n g table q) = let e = form_in says.members n (one_table text says.members n says.table table) in let g = says.form in cc
+no_fault text lattice _ says (is_too_long p) = omega (arith, says.is_table.short)
+no_fault text lattice _ says (is_not_toml short p) = p says.table says.is_table
+no_fault text lattice _ says (is_of_form n g table q) = let e = form_in says.table n (one_table text says.table n says.is_table table) in let g = says.form in cc
 no_fault text lattice _ says (is_of_file n file f table form tells p) =
-    let same : file ≡ says.file = file_in n says.members file says.file (one_table text n says.members table says.table) tells says.says in
+    let same : file ≡ says.file = file_in n says.table file says.file (one_table text n says.table table says.is_table) tells says.says in
     let are = says.says_lattice.are_lattice in
     no_file_fault says.file f says.known
     (record { no_cycle = no_cycle_from (IsUnderIn says.file) (length says.file.names) are.antisymmetric; top = are.top; bottom = are.bottom; joins = are.joins })
@@ -196,13 +196,13 @@ exact text (Ok lattice) g says may p = absurd (no_fault text lattice g says p)
 exact text (Err f) g says may p = exact_error text (Err f) f g refl may p
 
 -- what the lattice of a file is in its text
-pub lattice_in : (text : List ℕ) (members : Members) (file : File) (result : Result NamedOrder LatFault) → IsTable text members → form_fault members ≡ None → SaysFile members file
+pub lattice_in : (text : List ℕ) (table : Members) (file : File) (result : Result NamedOrder LatFault) → IsTable text table → form_fault table ≡ None → SaysFile table file
     → OnOk result (unknown_name file ≡ None) → IfOk result (IsLatticeOf file) → IfOk result (IsLatticeIn text)
 lattice_in text table file (Ok lattice) is form says known h =
-    record { members = table; file = file; table = is; form = form; says = says; known = known; says_lattice = h }
+    record { table = table; file = file; is_table = is; form = form; says = says; known = known; says_lattice = h }
 lattice_in text table file (Err f) is form says known h = tt
 
-pub fault_in : (text : List ℕ) (members : Members) (file : File) (result : Result NamedOrder LatFault) → IsTable text members → form_fault members ≡ None → SaysFile members file
+pub fault_in : (text : List ℕ) (table : Members) (file : File) (result : Result NamedOrder LatFault) → IsTable text table → form_fault table ≡ None → SaysFile table file
     → IfErr result (λ f. f ≢ Memory → IsFileFault file f) → IfErr result (λ f. f ≢ Memory → IsFirstFault text f)
 fault_in text table file (Ok lattice) is form says h = tt
 fault_in text table file (Err f) is form says h = λ m. is_of_file table file f is form says (h m)

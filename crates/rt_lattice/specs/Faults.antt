@@ -28,11 +28,11 @@ names_fault (Some names) = first_of (
 
 -- the first fault of the form of a table
 abbrev pub form_fault : Members → Option LatFault
-form_fault members = first_of (
-    names_fault (names_at members)
-    ∷ fault_if (is_none (below_at members)) (Shape (codes "below"))
-    ∷ fault_if (is_none (roles_at members)) (Shape (codes "roles"))
-    ∷ option_map Shape (other_key members)
+form_fault table = first_of (
+    names_fault (names_at table)
+    ∷ fault_if (is_none (below_at table)) (Shape (codes "below"))
+    ∷ fault_if (is_none (roles_at table)) (Shape (codes "roles"))
+    ∷ option_map Shape (other_key table)
     ∷ [])
 
 -- a name has a partner, and no earlier one
@@ -81,16 +81,16 @@ IsJoinFault R names _ = ⊥
 -- the first fault of a text
 pub data IsFirstFault (text : List ℕ) : LatFault → Type 0 where
   is_too_long : 65536 < length text → IsFirstFault text TooMany
-  is_not_toml : length text ≤ 65536 → ((members : Members) → IsTable text members → ⊥) → IsFirstFault text NotToml
-  is_of_form : (members : Members) (fault : LatFault) → IsTable text members → form_fault members ≡ Some fault → IsFirstFault text fault
-  is_of_file : (members : Members) (file : File) (fault : LatFault) → IsTable text members → form_fault members ≡ None → SaysFile members file → IsFileFault file fault → IsFirstFault text fault
+  is_not_toml : length text ≤ 65536 → ((table : Members) → IsTable text table → ⊥) → IsFirstFault text NotToml
+  is_of_form : (table : Members) (fault : LatFault) → IsTable text table → form_fault table ≡ Some fault → IsFirstFault text fault
+  is_of_file : (table : Members) (file : File) (fault : LatFault) → IsTable text table → form_fault table ≡ None → SaysFile table file → IsFileFault file fault → IsFirstFault text fault
 
 -- the lattice that a text says, which has no fault
 pub record IsLatticeIn (text : List ℕ) (lattice : NamedOrder) : Type 0 where
-  pub members : Members
+  pub table : Members
   pub file : File
-  pub table : IsTable text members
-  pub form : form_fault members ≡ None
-  pub says : SaysFile members file
+  pub is_table : IsTable text table
+  pub form : form_fault table ≡ None
+  pub says : SaysFile table file
   pub known : unknown_name file ≡ None
   pub says_lattice : IsLatticeOf file lattice

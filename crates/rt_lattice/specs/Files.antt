@@ -1,4 +1,4 @@
--- What a lattice file says, and the first fault of its form.
+-- What a lattice file says: its table, and in it names, pairs of names and roles.
 use Rattle.std.specs.Prelude.{◌≡◌, ℕ, ◌≤◌, Bool, ◌||◌, if◌then◌else◌, Option, Some, None, option_map, List, ◌∷◌, [], length, codes, IsUtf8}
 use Rattle.std.specs.Option.{option_and_then}
 use Rattle.std.specs.Ordering.{nat_cmp, match_ordering}
@@ -11,10 +11,10 @@ use Rattle.rt_lattice.specs.declared.file.RoleName.{RoleName}
 use Rattle.rt_lattice.specs.declared.file.File.{File}
 
 -- the table that a text is: the text has at most 65,536 bytes, is UTF-8, and writes the table in TOML
-pub record IsTable (text : List ℕ) (members : Members) : Type 0 where
+pub record IsTable (text : List ℕ) (table : Members) : Type 0 where
   pub short : length text ≤ 65536
   pub utf8 : IsUtf8 text
-  pub parsed : parse_document text ≡ Some members
+  pub parsed : parse_document text ≡ Some table
 
 -- what the items of an array give, where each gives something
 abbrev pub each_in : {X : Type 0} → (Data → Option X) → Items → Option (List X)
@@ -41,13 +41,13 @@ role_names_in (member k d ms) = option_and_then (λ s. option_map (λ rs. record
 
 -- what stands at the three keys of a lattice file
 abbrev pub names_at : Members → Option (List (List ℕ))
-names_at members = option_and_then strings_in (option_and_then as_array (get_member (codes "names") members))
+names_at table = option_and_then strings_in (option_and_then as_array (get_member (codes "names") table))
 
 abbrev pub below_at : Members → Option (List Pair)
-below_at members = option_and_then pairs_in (option_and_then as_array (get_member (codes "below") members))
+below_at table = option_and_then pairs_in (option_and_then as_array (get_member (codes "below") table))
 
 abbrev pub roles_at : Members → Option (List RoleName)
-roles_at members = option_and_then role_names_in (option_and_then as_table (get_member (codes "roles") members))
+roles_at table = option_and_then role_names_in (option_and_then as_table (get_member (codes "roles") table))
 
 abbrev pub is_known_key : List ℕ → Bool
 is_known_key key = bytes_eq key (codes "names") || bytes_eq key (codes "below") || bytes_eq key (codes "roles")
@@ -63,7 +63,7 @@ other_key no_members = None
 other_key (member k d ms) = if is_known_key k then other_key ms else Some (lesser_key k (other_key ms))
 
 -- the file that a table says, where its form is right
-pub record SaysFile (members : Members) (file : File) : Type 0 where
-  pub names : names_at members ≡ Some file.names
-  pub below : below_at members ≡ Some file.below
-  pub roles : roles_at members ≡ Some file.roles
+pub record SaysFile (table : Members) (file : File) : Type 0 where
+  pub names : names_at table ≡ Some file.names
+  pub below : below_at table ≡ Some file.below
+  pub roles : roles_at table ≡ Some file.roles

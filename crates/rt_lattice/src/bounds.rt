@@ -1,5 +1,5 @@
 // The bounds of all pairs of an order.
-ghost use Rattle.std.specs.Prelude.{◌≡◌, ◌≢◌, ℕ, OnOk, IfOk, IfErr, length};
+ghost use Rattle.std.specs.Prelude.{◌≡◌, ◌≢◌, OnOk, IfOk, IfErr, length};
 ghost use Rattle.rt_terms.specs.Orders.{IsAtOrBelow};
 ghost use Rattle.rt_terms.specs.OrderFacts.{IsTransitive};
 ghost use Rattle.rt_lattice.specs.declared.fault.LatFault.TheVariants.{Memory};

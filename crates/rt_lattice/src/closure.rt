@@ -1,5 +1,5 @@
 // The order of a file's names.
-ghost use Rattle.std.specs.Prelude.{◌≡◌, ◌<◌, [], ◌∷◌, None, true, IfOk, OnOk, IfErr, length};
+ghost use Rattle.std.specs.Prelude.{◌≡◌, ◌<◌, [], ◌∷◌, None, IfOk, OnOk, IfErr, length};
 ghost use Rattle.rt_terms.specs.Names.{AreNames, HasName};
 ghost use Rattle.rt_lattice.specs.Closures.{Closes, AddsPair, IsUnknownIn, first_unknown, unknown_name, names_in};
 

@@ -1,5 +1,5 @@
 // A lattice file from a document of TOML.
-ghost use Rattle.std.specs.Prelude.{◌≡◌, ◌↔◌, None, Some, is_none, option_map, option_copied, codes, IsTrue, OnOk, IfOk, IfErr};
+ghost use Rattle.std.specs.Prelude.{◌≡◌, None, Some, is_none, option_map, option_copied, codes, OnOk, IfOk, IfErr};
 ghost use Rattle.std.specs.Option.{option_and_then};
 ghost use Rattle.toml.specs.Data.{as_array, as_table, get_member};
 ghost use Rattle.toml.specs.View.{view, items_view, table_view};

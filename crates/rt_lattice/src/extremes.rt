@@ -1,5 +1,5 @@
 // Tops, bottoms and cycles of an order.
-ghost use Rattle.std.specs.Prelude.{◌≡◌, ◌↔◌, ◌<◌, IsTrue, MatchOption};
+ghost use Rattle.std.specs.Prelude.{◌↔◌, ◌<◌, IsTrue, MatchOption};
 ghost use Rattle.rt_terms.specs.Orders.{IsAtOrBelow};
 ghost use Rattle.rt_terms.specs.OrderFacts.{IsTransitive};
 ghost use Rattle.rt_lattice.specs.Bounds.{IsTop, IsBottom, HasPartner, HasTop, HasBottom, HasNoCycle, IsFirstOnCycle};

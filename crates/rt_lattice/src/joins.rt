@@ -1,5 +1,5 @@
 // Least upper bounds.
-ghost use Rattle.std.specs.Prelude.{◌≡◌, ◌↔◌, ◌+◌, ◌<◌, ℕ, IsTrue, MatchOption, OnOk, IfOk, IfErr, length};
+ghost use Rattle.std.specs.Prelude.{◌≡◌, ◌↔◌, ◌+◌, ◌<◌, IsTrue, MatchOption, OnOk, IfOk, IfErr, length};
 ghost use Rattle.rt_terms.specs.Orders.{IsAtOrBelow};
 ghost use Rattle.rt_terms.specs.OrderFacts.{IsTransitive};
 ghost use Rattle.rt_lattice.specs.Bounds.{IsTop, IsLeastUpper, HaveJoin, IsFirstWithoutJoin};

@@ -1,5 +1,5 @@
 // Greatest lower bounds.
-ghost use Rattle.std.specs.Prelude.{◌≡◌, ◌↔◌, ◌+◌, ◌<◌, IsTrue, OnOk, IfOk};
+ghost use Rattle.std.specs.Prelude.{◌↔◌, ◌+◌, ◌<◌, IsTrue, OnOk, IfOk};
 ghost use Rattle.rt_terms.specs.Orders.{IsAtOrBelow};
 ghost use Rattle.rt_lattice.specs.Bounds.{IsBottom, IsLeastUpper, IsGreatestLower};
 ghost use Rattle.rt_lattice.specs.Grids.{IsFilledTo};

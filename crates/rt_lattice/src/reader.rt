@@ -37,7 +37,7 @@ fn table_of(alloc: Global, text: &[u8]) -> Result<Table, LatFault>
 /// The lattice that a file says. A fault is the first one of the text, in the order of [`LatFault`]; want of memory may
 /// come in its place.
 ///
-/// Time is cubic in the number of names, of which there are at most 256, and linear in the length of the text.
+/// There are at most 256 names. Time is at most cubic in their number, and for each pair of `below` at most square.
 pub fn read(alloc: Global, text: &[u8]) -> Result<Lattice, LatFault>
     ensures lattice { IfOk result (IsLatticeIn text.now) }
     ensures fault { IfErr result (λ fault. fault ≢ Memory → IsFirstFault text.now fault) }

@@ -1,4 +1,4 @@
-use Rattle.std.proofs.Common.{rules, ℕ, arith}
+use Rattle.std.proofs.Common.{rules, ℕ}
 use Rattle.std.specs.Prelude.{nat_lt}
 use Rattle.std.proofs.lemmas.List.Sorted.{IsPartitionPoint-from_clause, IsPartitionedBy-ltb}
 use Rattle.rt_flow.proofs.Ranges.{non_decreasing, none_before, none_behind, found}

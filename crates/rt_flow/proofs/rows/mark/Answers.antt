@@ -1,5 +1,5 @@
-use Rattle.std.proofs.Common.{◌≡◌, ◌⊎◌, List, [], sym, subst}
-use Rattle.std.specs.Prelude.{AllPairs, Contains, slice_index_or}
+use Rattle.std.proofs.Common.{◌≡◌, ◌⊎◌, List, sym, subst}
+use Rattle.std.specs.Prelude.{AllPairs, Contains}
 use Rattle.rt_flow.specs.declared.def.Def.{Def}
 use Rattle.rt_flow.specs.Bodies.{Precedes}
 use Rattle.rt_flow.proofs.Marking.{row_read}

@@ -1,6 +1,5 @@
-use Rattle.std.proofs.Common.{◌≡◌, ◌+◌, ℕ, List, [], None, sym, ap, subst, ◌∙◌}
+use Rattle.std.proofs.Common.{◌+◌, ℕ, List, None, sym, ap, subst, ◌∙◌}
 use Rattle.std.specs.Prelude.{Contains, slice_index_or}
-use Rattle.rt_flow.specs.declared.def.Def.{Def}
 use Rattle.rt_flow.proofs.Arriving.{IsDone, starts, none, some, comes_before, ends}
 use Rattle.rt_flow.proofs.Filling.{none_if}
 use Rattle.rt_flow.proofs.Marking.{row_read}

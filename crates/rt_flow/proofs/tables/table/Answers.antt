@@ -1,6 +1,5 @@
 use Rattle.std.proofs.Common.{List, ℕ, Option, sym, subst}
 use Rattle.std.proofs.lemmas.Result.{IfOk-weaker}
-use Rattle.rt_flow.specs.Blocks.{AreLasts}
 use Rattle.rt_flow.specs.Spreading.{AreRising, AreRows}
 use Rattle.rt_flow.proofs.Tabled.{targets_within, lasts_rise, table_of}
 use Rattle.rt_flow.proofs.tables.table.Goals as goal

@@ -8,7 +8,7 @@ returns-then-text-gt65536-clause-fault c = λ _. is_too_long c.if-text-gt65536.t
 pub returns-else-is_memory-clause-fault : goal.returns-else-is_memory-clause-fault
 returns-else-is_memory-clause-fault c =
     λ _. is_not_toml c.if-text-gt65536.false
-    (λ members table.
+    (λ _ table.
     let none = c.in-Err.ensures.refused (λ m. let t = c.is_memory.ensures.1 m in cc) table.utf8 in
     let both = sym none ∙ table.parsed in
     cc)

@@ -1,4 +1,4 @@
-use Rattle.std.proofs.Common.{Global, List, [], Vec, map, sym, ap, ◌∙◌}
+use Rattle.std.proofs.Common.{[], map, sym, ap, ◌∙◌}
 use Rattle.std.specs.Prelude.{slice_index_or}
 use Rattle.std.specs.Cmp.Lexicographic.{pointwise}
 use Rattle.rt_flow.proofs.Numbered.{pointwise_equal, listed_at, added}
