@@ -1,5 +1,5 @@
 -- Judgements that a variable exists.
-use Rattle.std.proofs.Common.{◌≡◌, ℕ, List, [], ◌⊎◌, inl, inr, length, subst, sym, ◌∙◌}
+use Rattle.std.proofs.Common.{◌≡◌, ℕ, List, ◌⊎◌, inl, inr, length, sym, ◌∙◌}
 use Rattle.rt_terms.specs.declared.line.Judge.TheVariants.{Var}
 use Rattle.rt_texts.specs.declared.fault.TextFault.{TextFault}
 use Rattle.rt_texts.specs.declared.fault.TextFault.TheVariants.{BadText, Memory}
@@ -9,9 +9,9 @@ use Rattle.rt_texts.specs.Texts.{judge_text}
 use Rattle.rt_entail.specs.Entailment.{var_text}
 
 -- what is no judgement's text is none of a variable's existence
-no_var_text : (text : List ℕ) → IsNoText (IsJudge (length {A = List ℕ} [])) (judge_text []) text → IsNoText IsDtv var_text text
-no_var_text text none x good is = none (Var x) good is
+no_var_text : (names : List (List ℕ)) (text : List ℕ) → IsNoText (IsJudge (length names)) (judge_text names) text → IsNoText IsDtv var_text text
+no_var_text names text none x good is = none (Var x) good is
 
-pub no_var : (names : List (List ℕ)) (text : List ℕ) (fault : TextFault) (place : ℕ) → names ≡ [] → fault ≡ BadText place → (fault ≡ Memory) ⊎ ((fault ≡ BadText 0) × IsNoText (IsJudge (length names)) (judge_text names) text) → IsNoText IsDtv var_text text
-no_var names text fault place e is (inl memory) = let h : Memory ≡ BadText place = sym memory ∙ is in cc
-no_var names text fault place e is (inr (bad, none)) = no_var_text text (subst (λ n. IsNoText (IsJudge (length n)) (judge_text n) text) e none)
+pub no_var : (names : List (List ℕ)) (text : List ℕ) (fault : TextFault) (place : ℕ) → fault ≡ BadText place → (fault ≡ Memory) ⊎ ((fault ≡ BadText 0) × IsNoText (IsJudge (length names)) (judge_text names) text) → IsNoText IsDtv var_text text
+no_var names text fault place is (inl memory) = let h : Memory ≡ BadText place = sym memory ∙ is in cc
+no_var names text fault place is (inr (bad, none)) = no_var_text names text none

@@ -1,5 +1,5 @@
 -- Texts of lines that are read from the front.
-use Rattle.std.proofs.Common.{◌≡◌, ◌≢◌, ℕ, ◌+◌, ◌==◌, false, ◌⊎◌, List, [], ◌∷◌, ◌++◌, All, length, take, drop, ◌-◌, refl, sym, ◌∙◌, ap, arith, append_assoc, append-nil}
+use Rattle.std.proofs.Common.{◌≡◌, ℕ, ◌==◌, false, List, [], ◌∷◌, ◌++◌, All, length, take, drop, ◌-◌, refl, sym, ◌∙◌, ap, arith, append_assoc, append-nil}
 use Rattle.std.specs.List.{flat_map}
 use Rattle.std.proofs.lemmas.List.Elements.{All-push}
 use Rattle.std.proofs.lemmas.Grind.{flat_map-append}
@@ -7,7 +7,7 @@ use Rattle.std.proofs.lemmas.Bool.Decides.{nat_tests}
 use Rattle.std.proofs.lemmas.List.{take_all}
 use Rattle.rt_terms.specs.declared.line.Line.{Line}
 use Rattle.rt_texts.specs.Goods.{IsLine}
-use Rattle.rt_texts.specs.Readings.{IsCut, StopsAt}
+use Rattle.rt_texts.specs.Readings.{IsCut}
 use Rattle.rt_texts.specs.Texts.{line_text, lines_text}
 
 -- good lines stand before the rest of the text

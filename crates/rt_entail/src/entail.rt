@@ -1,5 +1,5 @@
 // Whether a judgement is derivable.
-ghost use Rattle.std.specs.Prelude.{◌≡◌, ◌<◌, ◌^◌, [], ◌⊎◌, IfErr, IfOk, MatchResult, length};
+ghost use Rattle.std.specs.Prelude.{◌≡◌, ◌<◌, ◌^◌, ◌⊎◌, IfErr, IfOk, MatchResult, length};
 ghost use Rattle.rt_texts.specs.Goods.{IsDtv};
 ghost use Rattle.rt_texts.specs.Readings.{IsNoText};
 ghost use Rattle.rt_entail.specs.Entailment.{IsRefusal, IsAnswer, var_text};
@@ -13,7 +13,6 @@ use std::alloc::Global;
 
 // The variable of a judgement that it exists.
 fn read_var(alloc: Global, judgement: &[u8], names: &Names) -> Result<Dtv, EntailFault>
-    requires { names.now ≡ [] }
     ensures { MatchResult result (λ x. IsDtv x × (var_text x ≡ judgement.now))
         (λ e. (e ≡ EntailFault.Memory) ⊎ ((e ≡ EntailFault.BadJudgement) × IsNoText IsDtv var_text judgement.now)) }
 {
@@ -31,26 +30,26 @@ fn read_var(alloc: Global, judgement: &[u8], names: &Names) -> Result<Dtv, Entai
 }
 
 /// Whether the judgement is derivable from the lines of the text, for every order of constants. The first of these that
-/// holds is the error; want of memory may come in place of each but the first.
+/// holds is the error; want of memory may come in its place.
 ///
-/// - The text has a constant.
-/// - The text has a bad line; each line has a line end.
+/// - The text has a bad line: each line has a line end, and its constant is one of the names.
 /// - The judgement is not of the form `var X`.
-pub fn entails(alloc: Global, text: &[u8], judgement: &[u8]) -> Result<bool, EntailFault>
+pub fn entails(
+    alloc: Global,
+    text: &[u8],
+    judgement: &[u8],
+    names: &Names,
+) -> Result<bool, EntailFault>
     requires { length text.now < 2 ^ 32 }
-    ensures refused { IfErr result (IsRefusal text.now judgement.now) }
-    ensures answered { IfOk result (IsAnswer text.now judgement.now) }
+    ensures refused { IfErr result (IsRefusal names.now text.now judgement.now) }
+    ensures answered { IfOk result (IsAnswer names.now text.now judgement.now) }
 {
-    if text.contains(&b'#') {
-        return Err(EntailFault::NotYet);
-    }
-    let names = Names::new(alloc);
-    let lines = match read_file(alloc, text, &names) {
+    let lines = match read_file(alloc, text, names) {
         Ok(lines) => lines,
         Err(TextFault::BadText(place)) => return Err(EntailFault::BadLine(place)),
         Err(TextFault::Memory) => return Err(EntailFault::Memory),
     };
-    let x = match read_var(alloc, judgement, &names) {
+    let x = match read_var(alloc, judgement, names) {
         Ok(x) => x,
         Err(fault) => return Err(fault),
     };

@@ -7,8 +7,6 @@ use std::alloc::AllocError;
 /// Why it isn't said whether a judgement is derivable.
 #[derive(Clone, Copy, Debug, PartialEq, Eq)]
 pub enum EntailFault {
-    /// The text has constants, which are not read yet.
-    NotYet,
     /// A line of the text is bad. The number is that of the byte at which the first bad line begins, from 0.
     BadLine(u32),
     /// The judgement is none that is read, which are those of the form `var X`.

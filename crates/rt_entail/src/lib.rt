@@ -4,6 +4,8 @@
 mod entail;
 mod fault;
 mod file;
+#[cfg(test)]
+mod tests;
 
 pub use entail::entails;
 pub use fault::EntailFault;

@@ -2,9 +2,8 @@
 use Rattle.std.proofs.Common.{◌≡◌, ◌+◌, ◌<◌, ◌≤◌, ◌⊎◌, ◌↔◌, inl, inr, ℕ, zero, suc, ℤ, List, [], ◌∷◌, length, Option, refl, sym, ap, subst, ◌∙◌, arith}
 use Rattle.std.specs.Prelude.{AllPairs, Contains, slice_index, slice_index_or}
 use Rattle.std.proofs.lemmas.Bool.{cases_lt}
-use Rattle.std.proofs.lemmas.List.{get_or_read}
 use Rattle.rt_flow.specs.declared.def.Def.{Def}
-use Rattle.rt_flow.specs.declared.def.Def.TheVariants.{Entry, At}
+use Rattle.rt_flow.specs.declared.def.Def.TheVariants.{At}
 use Rattle.rt_flow.specs.declared.reach.Reach.{Reach}
 use Rattle.rt_flow.specs.Bodies.{Body, IsBody, Defines, Precedes, Reaches, AreReaching}
 use Rattle.rt_flow.specs.Blocks.{AreBlocks, AreTargets, NoneWithin, IsLastWithin, AreLasts, Arrives}
@@ -12,7 +11,6 @@ use Rattle.rt_flow.specs.Locations.{class_at}
 use Rattle.rt_flow.specs.Tables.{IsTable}
 use Rattle.rt_flow.specs.Reaching.{sites_of, IsReachOf}
 use Rattle.rt_flow.proofs.Blockwise.{Answers, answers_reach, reaching_answers}
-use Rattle.rt_flow.proofs.Marking.{row_read}
 
 module _ (body : Body) (is_body : IsBody body) (block firsts : List ℕ) (are : AreBlocks body block firsts) (targets : List (List ℕ)) (are_targets : AreTargets body block firsts targets) (loc : ℤ)
     (sites : List ℕ) (defines : (k : ℕ) → Contains sites k ↔ Defines body k loc) (lasts : List (Option ℕ)) (are_lasts : AreLasts firsts sites lasts) (site : ℕ) (less : site < body.sites) where
@@ -76,26 +74,17 @@ module _ (body : Body) (reach : Reach) (is : IsReachOf body reach) (site : ℕ) 
   first_at = first_is ∙ ap (slice_index reach.blocks.firsts.items) block_is
 
   -- the last definition in the block
-  pub told_own : (d : ℕ) → IsLastWithin list first site d → (own : Def) → own ≡ slice_index_or reach.own.items d own → (defs : List Def) → defs ≡ own ∷ [] → AreReaching body loc site defs
-  told_own d last own own_is defs defs_is =
-      let inside : d < body.sites = omega (arith, less, last.within.1) in
-      let in_own : d < length reach.own.items = subst (λ n. d < n) (sym is.own_each) inside in
-      let at_d : own ≡ At d = get_or_read reach.own.items d own in_own own_is Entry ∙ is.own_at d inside in
-      subst (AreReaching body loc site) (sym (defs_is ∙ ap (λ x. x ∷ []) at_d))
-      (single body is.is_body reach.blocks.block.items reach.blocks.firsts.items is.are_blocks is.are_tables.0 is.are_tables.1 loc list defines table.arriving.0 table.arriving.1 site less d
-      (subst (λ n. IsLastWithin list n site d) first_at last))
+  pub told_own : (d : ℕ) → IsLastWithin list first site d → AreReaching body loc site (At d ∷ [])
+  told_own d last =
+      single body is.is_body reach.blocks.block.items reach.blocks.firsts.items is.are_blocks is.are_tables.0 is.are_tables.1 loc list defines table.arriving.0 table.arriving.1 site less d
+      (subst (λ n. IsLastWithin list n site d) first_at last)
 
   -- what arrives at the block
-  pub told_stored : NoneWithin list first site → (row items : List ℕ) → row ≡ slice_index_or reach.tables.items class row → items ≡ row
-      → (defs : List Def) → defs ≡ slice_index_or reach.sets (slice_index items block) [] → AreReaching body loc site defs
-  told_stored none row items row_is items_is defs defs_is =
-      let in_tables : class < length reach.tables.items = subst (λ n. class < n) (sym reach.each_class) within in
+  pub told_stored : NoneWithin list first site → AreReaching body loc site (slice_index_or reach.sets (slice_index (slice_index_or reach.tables.items class []) block) [])
+  told_stored none =
       let in_firsts : block + 1 < length reach.blocks.firsts.items = subst (λ n. n + 1 < length reach.blocks.firsts.items) (sym block_is) (is.are_blocks.within site less) in
-      let same : items ≡ slice_index_or reach.tables.items class [] = row_read reach.tables.items class row items in_tables row_is items_is in
       let in_table : block < length (slice_index_or reach.tables.items class []) = omega (arith, in_firsts, table.each) in
-      let told : defs ≡ slice_index_or reach.sets (slice_index (slice_index_or reach.tables.items class []) block) [] = defs_is ∙ ap (λ (xs : List ℕ). slice_index_or reach.sets (slice_index xs block) []) same in
       let entry = slice_index reach.blocks.block.items body.entry in
-      subst (AreReaching body loc site) (sym told)
-      (stored body is.is_body reach.blocks.block.items reach.blocks.firsts.items is.are_blocks is.are_tables.0 is.are_tables.1 loc list defines table.arriving.0 table.arriving.1 site less
+      stored body is.is_body reach.blocks.block.items reach.blocks.firsts.items is.are_blocks is.are_tables.0 is.are_tables.1 loc list defines table.arriving.0 table.arriving.1 site less
       (subst (λ n. NoneWithin list n site) first_at none) (slice_index_or reach.sets (slice_index (slice_index_or reach.tables.items class []) block) []) (table.order block in_table)
-      (λ x. subst (λ b. Contains (slice_index_or reach.sets (slice_index (slice_index_or reach.tables.items class []) block) []) x ↔ Arrives is.are_tables.0 table.arriving.0 entry x b) block_is (table.arriving.2 block x in_table)))
+      (λ x. subst (λ b. Contains (slice_index_or reach.sets (slice_index (slice_index_or reach.tables.items class []) block) []) x ↔ Arrives is.are_tables.0 table.arriving.0 entry x b) block_is (table.arriving.2 block x in_table))

@@ -9,7 +9,8 @@ mod Filling
 mod Grouping
 mod Marking
 mod Numbered
-mod Pushed
+pub mod Pushed
 mod Ranges
+mod Sourcing
 mod Tabled
 mod Targeting

@@ -4,3 +4,4 @@ pub mod Spreading
 pub mod Locations
 pub mod Tables
 pub mod Reaching
+pub mod Sources

@@ -1,6 +1,5 @@
 -- What a `Reach` tells, and of which body.
 use Rattle.std.specs.Prelude.{◌≡◌, ◌<◌, ℕ, List, [], length, slice_index, slice_index_or}
-use Rattle.rt_flow.specs.declared.def.Def.TheVariants.{Entry, At}
 use Rattle.rt_flow.specs.declared.reach.Reach.{Reach}
 use Rattle.rt_flow.specs.Bodies.{Body, IsBody}
 use Rattle.rt_flow.specs.Blocks.{AreBlocks, AreTargets}
@@ -19,5 +18,3 @@ pub record IsReachOf (body : Body) (reach : Reach) : Type 0 where
   pub are_classes : AreClasses body reach.locations.known.entries reach.locations.none reach.classes
   pub are_tables : (targets : List (List ℕ)) × AreTargets body reach.blocks.block.items reach.blocks.firsts.items targets
       × ((c : ℕ) → c < length reach.classes → IsTable reach.blocks.firsts.items targets (slice_index reach.blocks.block.items body.entry) (slice_index_or reach.classes c []) reach.sets (slice_index_or reach.tables.items c []))
-  pub own_each : length reach.own.items ≡ body.sites
-  pub own_at : (s : ℕ) → s < body.sites → slice_index_or reach.own.items s Entry ≡ At s

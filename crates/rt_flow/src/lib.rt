@@ -12,6 +12,7 @@ mod lists;
 mod locations;
 mod reach;
 mod rows;
+mod source;
 mod tables;
 mod targets;
 #[cfg(test)]
@@ -23,6 +24,7 @@ pub use graph::Graph;
 use lists::Lists;
 pub use reach::Reach;
 use rt_base::Memory;
+pub use source::Source;
 use std::alloc::Global;
 
 /// Which definitions reach the sites of a graph. The answer is linear in sites and definitions, in classes of locations times

@@ -1,5 +1,5 @@
 // Which definitions reach each site.
-ghost use Rattle.std.specs.Prelude.{◌≡◌, ℕ, ℤ, ◌+◌, ◌<◌, All, IfOk, length, slice_index_or};
+ghost use Rattle.std.specs.Prelude.{◌≡◌, ℕ, ℤ, ◌+◌, ◌^◌, ◌<◌, All, IfOk, length, slice_index_or};
 ghost use Rattle.std.specs.List.Sorted.{IsStrictlyIncreasing};
 ghost use Rattle.rt_flow.specs.declared.def.Def.TheVariants.{At, Entry};
 ghost use Rattle.rt_flow.specs.Locations.{class_at};
@@ -9,6 +9,7 @@ use crate::def::Def;
 use crate::lasts::last_within;
 use crate::lists::Lists;
 use crate::locations::Locations;
+use crate::source::Source;
 use rt_base::{Memory, Sequence};
 use std::alloc::Global;
 use std::slice;
@@ -34,6 +35,8 @@ pub struct Reach {
     ghost each_block: { All (λ table. length table + 1 ≡ length blocks.firsts.items) tables.items },
     ghost in_sets: { All (λ table. All (λ number. number < length sets) table) tables.items },
     ghost each_site: { length own.items ≡ length blocks.block.items },
+    ghost few: { length own.items < 2 ^ 32 },
+    ghost at_each: { (s : ℕ) → s < length own.items → slice_index_or own.items s Entry ≡ At s },
 }
 
 // The definition at each site.
@@ -51,22 +54,56 @@ pub(crate) fn own(alloc: Global, sites: u32) -> Result<Vec<Def>, Memory>
 impl Reach {
     ghost use Rattle.rt_flow.specs.Bodies.{Body, AreReaching};
     ghost use Rattle.rt_flow.specs.Reaching.{sites_of, IsReachOf};
+    ghost use Rattle.rt_flow.specs.Sources.{defs_in, shared_count_of, shared_in, source_in, IsSourceIn};
+
+    /// How many sites there are.
+    pub fn sites(&self) -> u32
+        ensures value { result ≡ sites_of self.now }
+        ensures reaching { (body : Body) → IsReachOf body self.now → (site : ℕ) (loc : ℤ) → site < sites_of self.now → AreReaching body loc site (defs_in self.now site loc) }
+    {
+        self.own.len() as u32
+    }
 
     /// Exactly the definitions of a location that reach a site: Entry first, then sites rising. It takes no memory, and time
     /// logarithmic in how many sites define the location. A location is named by its number: 1 to 31 are registers, and
     /// 4,294,967,296 + k is the byte of the frame at offset k.
     pub fn defs(&self, site: u32, loc: i64) -> &[Def]
         requires { site < sites_of self.now }
-        ensures { (body : Body) → IsReachOf body self.now → AreReaching body loc site result.now }
+        ensures value { result.now ≡ defs_in self.now site loc }
+        ensures reaching { (body : Body) → IsReachOf body self.now → AreReaching body loc site result.now }
+    {
+        match self.source(site, loc) {
+            Source::Own(def) => slice::from_ref(&self.own[def as usize]),
+            Source::Shared(number) => self.shared(number),
+        }
+    }
+
+    /// Where the list stands that `defs` lends. It takes no memory, and time logarithmic in how many sites define the location.
+    pub fn source(&self, site: u32, loc: i64) -> Source
+        requires { site < sites_of self.now }
+        ensures value { result ≡ source_in self.now site loc }
+        ensures within { IsSourceIn self.now result }
     {
         let block = self.blocks.block(site);
         let class = self.locations.class(loc) as usize;
         match last_within(self.classes.list(class), self.blocks.first(block), site) {
-            Some(def) => slice::from_ref(&self.own[def as usize]),
-            None => {
-                let number = self.tables[class].items()[block as usize];
-                self.sets.list(number as usize)
-            }
+            Some(def) => Source::Own(def),
+            None => Source::Shared(self.tables[class].items()[block as usize]),
         }
+    }
+
+    /// How many lists sites and locations share. They are numbered from 0.
+    pub fn shared_count(&self) -> usize
+        ensures { result ≡ shared_count_of self.now }
+    {
+        self.sets.len()
+    }
+
+    /// The shared list of a number, without memory.
+    pub fn shared(&self, number: u32) -> &[Def]
+        requires { number < shared_count_of self.now }
+        ensures { result.now ≡ shared_in self.now number }
+    {
+        self.sets.list(number as usize)
     }
 }

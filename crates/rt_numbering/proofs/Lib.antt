@@ -1,4 +1,4 @@
-mod Places
+pub mod Places
 pub mod Distinct
 pub mod Deduplicating
 pub mod Numbers

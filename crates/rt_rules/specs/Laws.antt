@@ -8,7 +8,7 @@ use Rattle.rt_terms.specs.declared.line.Line.{Line}
 use Rattle.rt_terms.specs.Orders.{Below}
 use Rattle.rt_rules.specs.Rules.{HasSide, Derivable}
 use Rattle.rt_rules.specs.Alike.{Alike, IsOutside, map_line}
-use Rattle.rt_rules.specs.Put.{put_lines, put_each, IsOnlyUse, IsPutting}
+use Rattle.rt_rules.specs.Put.{put_lines, put_each, IsFollowing, IsOnlyUse, IsPutting}
 
 -- the only definition, or the only consumer, may take an inside existential's place
 abbrev pub SubstitutionLaw : Type 0
@@ -21,6 +21,13 @@ abbrev pub PuttingLaw : Type 0
 PuttingLaw =
     (order : Below) (inside : Base → Bool) (lines : List Line) (place : ℕ → Option Dtv) →
     IsPutting place lines → ((n : ℕ) (z : Dtv) → place n ≡ Some z → inside (Exist n) ≡ true) →
+    Alike order inside lines (map (map_line (put_each place)) lines)
+
+-- each of many inside existentials may give its place to what all of its definitions become
+abbrev pub FollowingLaw : Type 0
+FollowingLaw =
+    (order : Below) (inside : Base → Bool) (lines : List Line) (place : ℕ → Option Dtv) →
+    IsFollowing place lines → ((n : ℕ) (z : Dtv) → place n ≡ Some z → inside (Exist n) ≡ true) →
     Alike order inside lines (map (map_line (put_each place)) lines)
 
 -- lists alike stay alike under more lines of the outside

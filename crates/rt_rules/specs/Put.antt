@@ -9,7 +9,8 @@ use Rattle.rt_terms.specs.declared.variable.Dtv.{Dtv}
 use Rattle.rt_terms.specs.declared.line.Line.{Line}
 use Rattle.rt_terms.specs.declared.line.Line.TheVariants.{Var, Same, Sub, Low, Up}
 use Rattle.rt_terms.specs.Words.{variance_of_word, times}
-use Rattle.rt_rules.specs.Rules.{extended}
+use Rattle.rt_terms.specs.Orders.{Below}
+use Rattle.rt_rules.specs.Rules.{extended, Derivable}
 use Rattle.rt_rules.specs.Alike.{map_line}
 
 -- the existential with no letter
@@ -70,3 +71,12 @@ put_each place x = put_each_at place x.base x.word
 pub record IsPutting (place : ℕ → Option Dtv) (lines : List Line) : Type 0 where
   pub only : (n : ℕ) (z : Dtv) → place n ≡ Some z → IsOnlyUse Co n z lines
   pub apart : (n : ℕ) (z : Dtv) (m : ℕ) → place n ≡ Some z → z.base ≡ Exist m → place m ≡ None
+
+-- the line defines the existential n by what becomes z, so that it becomes one of z alone
+abbrev pub BecomesSelf : (ℕ → Option Dtv) → ℕ → Dtv → Line → Type 0
+BecomesSelf place n z l = (w : Dtv) × (l ≡ Sub w (exist n)) × (put_each place w ≡ z)
+
+-- what is in the place of an existential lies below it, and is what each of its definitions becomes
+pub record IsFollowing (place : ℕ → Option Dtv) (lines : List Line) : Type 0 where
+  pub below : (n : ℕ) (z : Dtv) → place n ≡ Some z → (order : Below) → Derivable order lines (Sub z (exist n))
+  pub becomes : (n : ℕ) (z : Dtv) (l : Line) → place n ≡ Some z → Contains lines l → BecomesSelf place n z l ⊎ (HasUse Co n l → ⊥)

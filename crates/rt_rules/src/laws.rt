@@ -1,11 +1,17 @@
 // The laws of derivations: functions that do nothing, each for the law that it ensures.
-ghost use Rattle.rt_rules.specs.Laws.{DropLaw, PuttingLaw, RenamingLaw, SubstitutionLaw, UnionLaw};
+ghost use Rattle.rt_rules.specs.Laws.{DropLaw, FollowingLaw, PuttingLaw, RenamingLaw, SubstitutionLaw, UnionLaw};
 ghost use Rattle.rt_rules.specs.Paper.{WithoutSameLow, WithoutSameSub, WithoutSameUp, WithoutSameVar};
 
 /// Each of many inside existentials may give its place to its only definition, all at once: the outside can derive the
 /// same from the lines before and after.
 pub fn putting()
     ensures { PuttingLaw }
+{}
+
+/// Each of many inside existentials may give its place to what all of its definitions become when this is done, where that
+/// lies below it: the outside can derive the same from the lines before and after.
+pub fn following()
+    ensures { FollowingLaw }
 {}
 
 /// The only definition of an inside existential, or its only consumer, may take its place: the outside can derive the

@@ -1,5 +1,6 @@
 mod Lined
-mod Reported
-mod Straightened
+mod Naming
+mod Reporting
+mod Telling
 pub mod Appending
 pub mod Refusing

@@ -7,7 +7,7 @@ use Rattle.rt_elf.specs.Checks.{first_fault}
 use Rattle.rt_elf.specs.Header.{header_fault, size_fault}
 use Rattle.rt_run.specs.declared.refusal.Refusal.{Refusal}
 use Rattle.rt_run.specs.declared.refusal.Refusal.TheVariants.{Object}
-use Rattle.rt_run.specs.Schemes.{IsRefused}
+use Rattle.rt_run.specs.Objects.{IsRefused}
 
 -- bytes that are too many are refused first
 is_too_long : (bytes : List ℕ) → 16777216 < length bytes → first_fault bytes ≡ Some (Bad 16 16777216)

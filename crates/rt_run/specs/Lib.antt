@@ -2,6 +2,8 @@ pub mod Words
 pub mod Meant
 pub mod Errors
 pub mod Readable
-pub mod Schemes
+pub mod Objects
+pub mod Globals
+pub mod Reports
 pub mod Entails
 pub mod Status

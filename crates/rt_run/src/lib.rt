@@ -1,13 +1,17 @@
 //! The program's work behind its words: what it reads, what it writes, and with which status it ends.
 #![tactic(auto)]
 
+mod calls;
+mod content;
 mod entail;
+mod entries;
+mod globals;
 mod no_text;
+mod objects;
 mod put;
 mod refusal;
-mod schemes;
+mod reports;
 mod stop;
-mod straight;
 #[cfg(test)]
 mod tests;
 mod top;

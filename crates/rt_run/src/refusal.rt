@@ -16,7 +16,7 @@ pub enum Refusal {
     Link(u8, u16, u32),
     /// The object's code has a fault: its number, and the section and the offset of the place.
     Code(u8, u16, u32),
-    /// The object is not of the form that this build reads, or the text has what it doesn't.
+    /// The object is not of the form that this build reads.
     NotYet,
     /// The text of `entail` is too long.
     TextTooLarge,

@@ -29,8 +29,8 @@ const LOAD: [u8; 296] = [
     0x04, 0x00, 0x00, 0x00, 0x0C, 0x00, 0x00, 0x00,
 ];
 
-// `sw a1,0(a0)`
-const STORE_WORD: [u8; 4] = [0x23, 0x20, 0xB5, 0x00];
+// `jal ra,f`
+const CALL: [u8; 4] = [0xEF, 0x00, 0x00, 0x00];
 
 // What must come of a run.
 #[derive(Clone, Copy)]
@@ -108,20 +108,71 @@ fn check_told(
     check_failing(rt, alloc, words, content, &[], outcome)
 }
 
+// The object with other code, of which these are the relocations.
+fn object_of(alloc: Global, code: [u8; 12], relocs: [u8; 24]) -> Result<Vec<u8>, AllocError> {
+    let mut object = LOAD.to_vec(alloc)?;
+    // The code stands at byte 296, and its relocations at byte 308.
+    object[152..154].copy_from_slice(&[0x28, 0x01]);
+    object[156] = 12;
+    object[272..274].copy_from_slice(&[0x34, 0x01]);
+    object[276] = 24;
+    object.extend_from_slice(&code)?;
+    object.extend_from_slice(&relocs)?;
+    Ok(object)
+}
+
+// `lw a0,0(a0)`, `bnez a0,f`, `ret`
+const LOOP: [u8; 12] = [
+    0x03, 0x25, 0x05, 0x00, 0xE3, 0x1E, 0x05, 0xFE, 0x67, 0x80, 0x00, 0x00,
+];
+
+// `lui a5,0`, `lw a0,0(a5)`, `ret`
+const GLOBAL: [u8; 12] = [
+    0xB7, 0x07, 0x00, 0x00, 0x03, 0xA5, 0x07, 0x00, 0x67, 0x80, 0x00, 0x00,
+];
+
+// R_RISCV_HI20 and R_RISCV_LO12_I of symbol 0 for the first two words
+const ADDRESS: [u8; 24] = [
+    0x00, 0x00, 0x00, 0x00, 0x1A, 0x00, 0x00, 0x00, 0x00, 0x00, 0x00, 0x00, 0x04, 0x00, 0x00, 0x00,
+    0x1B, 0x00, 0x00, 0x00, 0x00, 0x00, 0x00, 0x00,
+];
+
 #[test]
-fn loads_and_stores(rt: HostRuntime) -> Result<(), Fail> {
+fn writes_reports(rt: HostRuntime) -> Result<(), Fail> {
     let alloc = rt.alloc();
+    let load =
+        "proc f0 section 1 offset 0 name f\nf0.in_a0.load.s32@0 <= t0\nt0 <= f0.out_a0\nend\n";
+    check_written(&rt, alloc, &["constraints", "file"], &LOAD, load)?;
     let load = "proc f0 section 1 offset 0 name f\nf0.in_a0.load.s32@0 <= f0.out_a0\nend\n";
     check_written(&rt, alloc, &["schemes", "file"], &LOAD, load)?;
-    let mut object = LOAD;
-    object[52..56].copy_from_slice(&STORE_WORD);
-    let store = "proc f0 section 1 offset 0 name f\nf0.in_a1 <= f0.in_a0.store.s32@0\nend\n";
-    check_written(&rt, alloc, &["schemes", "file"], &object, store)?;
+    let object = object_of(alloc, LOOP, [0; 24])?;
+    let list =
+        "proc f0 section 1 offset 0 name f\nf0.in_a0 <= t0\nt1 <= t0\nt0.load.s32@0 <= t1\nt1 <= f0.out_a0\nend\n";
+    check_written(
+        &rt,
+        alloc,
+        &["constraints", "file"],
+        object.as_slice(),
+        list,
+    )?;
+    let list =
+        "proc f0 section 1 offset 0 name f\nf0.in_a0 <= t0\nt0.load.s32@0 <= f0.out_a0\nt0.load.s32@0 <= t0\nend\n";
+    check_written(&rt, alloc, &["schemes", "file"], object.as_slice(), list)?;
+    let object = object_of(alloc, GLOBAL, ADDRESS)?;
+    let global =
+        "global g0 name -\nproc f0 section 1 offset 0 name f\ng0.load.s32@0 <= t0\nt0 <= f0.out_a0\nend\n";
+    check_written(
+        &rt,
+        alloc,
+        &["constraints", "file"],
+        object.as_slice(),
+        global,
+    )?;
     Ok(())
 }
 
 // A byte of the object, what is put there, and the line that is wanted.
-const CHANGES: [(usize, u8, &str); 8] = [
+const CHANGES: [(usize, u8, &str); 7] = [
     (0, 0x00, "error 2 Magic at 0\n"),
     (16, 0x02, "error 5 Kind at 16\n"),
     (36, 0x01, "error 7 Flags at 36\n"),
@@ -129,7 +180,6 @@ const CHANGES: [(usize, u8, &str); 8] = [
     (52, 0x73, "error 30 Illegal at section 1 offset 0\n"),
     (56, 0x73, "error 30 Illegal at section 1 offset 4\n"),
     (56, 0x13, "error 32 FallsOff at section 1 offset 4\n"),
-    (53, 0x22, "error 90 NotYet\n"),
 ];
 
 #[test]
@@ -142,6 +192,10 @@ fn refuses_objects(rt: HostRuntime) -> Result<(), Fail> {
         object[byte] = value;
         check_told(&rt, alloc, &["schemes", "file"], &object, 1, line)?;
     }
+    let mut object = LOAD;
+    object[52..56].copy_from_slice(&CALL);
+    let call = "error 90 NotYet\n";
+    check_told(&rt, alloc, &["constraints", "file"], &object, 1, call)?;
     Ok(())
 }
 
@@ -174,6 +228,8 @@ fn entails(rt: HostRuntime) -> Result<(), Fail> {
         list,
         "no\n",
     )?;
+    let bound = b"#none <= x0.load\n".as_slice();
+    check_written(&rt, alloc, &["entail", "file", "var x0"], bound, "yes\n")?;
     Ok(())
 }
 
@@ -183,8 +239,8 @@ fn refuses_texts(rt: HostRuntime) -> Result<(), Fail> {
     let words = ["entail", "file", "var x0"];
     let late = b"var x0\nx0 <= x01\n".as_slice();
     check_told(&rt, alloc, &words, late, 1, "error 61 BadText at 7\n")?;
-    let constant = b"#int32 <= x0\n".as_slice();
-    check_told(&rt, alloc, &words, constant, 1, "error 90 NotYet\n")?;
+    let unknown = b"var x0\n#int64 <= x0\n".as_slice();
+    check_told(&rt, alloc, &words, unknown, 1, "error 61 BadText at 7\n")?;
     let words = ["entail", "file", "same x0 x0"];
     check_told(&rt, alloc, &words, b"".as_slice(), 1, "error 62 BadText\n")?;
     Ok(())

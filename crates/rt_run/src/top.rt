@@ -3,16 +3,20 @@ ghost use Rattle.std.specs.Prelude.{◌≡◌, ◌≢◌, ◌≤◌, ◌⊎◌, 
 ghost use Rattle.std.specs.String.{string_bytes};
 ghost use Rattle.std.specs.Io.KnownBytes.{Appends};
 ghost use Rattle.rt_base.specs.Outside.{Rose, AppendsFront, Tells};
-ghost use Rattle.rt_run.specs.Words.{Schemes, Entail, command_of, file_of};
+ghost use Rattle.rt_run.specs.Words.{command_of, file_of};
 ghost use Rattle.rt_run.specs.Meant.{meaning};
+ghost use Rattle.rt_run.specs.Objects.{IsRefused};
+ghost use Rattle.rt_run.specs.Reports.{IsReportText};
+ghost use Rattle.rt_run.specs.Entails.{IsEntailRefused, IsEntailText};
 ghost use Rattle.rt_run.specs.Errors.{usage_line, read_line, write_line, memory_line, refusal_line};
 ghost use Rattle.rt_run.specs.Status.{Ends, Stops, Writes, IsRefusedBy, IsTextOf};
 
+use crate::content::Content;
 use crate::entail::entail_text;
 use crate::no_text::NoText;
 use crate::put::{put_all, tell};
 use crate::refusal::{Refusal, read_line, refusal_line};
-use crate::schemes::schemes_text;
+use crate::reports::report_text;
 use crate::stop::{Ending, Stop};
 use crate::words::{Request, read_words};
 use rt_outside::{FileFault, Files, Sink};
@@ -24,11 +28,16 @@ const OBJECT_LIMIT: u64 = 16_777_216;
 /// The greatest length of the text of `entail`, in bytes.
 const TEXT_LIMIT: u64 = 1_048_576;
 
-// The text that `schemes` writes for the object of a name.
-fn schemes<F: Files>(alloc: Global, object: &str, files: &mut F) -> Result<Vec<u8>, Stop>
+// The text of a report of the object of a name.
+fn report<F: Files>(
+    alloc: Global,
+    content: Content,
+    object: &str,
+    files: &mut F,
+) -> Result<Vec<u8>, Stop>
     ensures { MatchResult result
-        (λ text. IfSome (F.content files.old object.now) (λ bytes. IsTextOf (Schemes object.now) bytes text.items))
-        (Stops (Schemes object.now) (F.content files.old object.now) (F.faults files.old object.now) (F.faults files.new object.now)) }
+        (λ text. IfSome (F.content files.old object.now) (λ bytes. IsReportText content bytes text.items))
+        (Stops IsRefused (F.content files.old object.now) (F.faults files.old object.now) (F.faults files.new object.now)) }
 {
     let bytes = match files.read(alloc, object, OBJECT_LIMIT) {
         Ok(bytes) => bytes,
@@ -36,7 +45,7 @@ fn schemes<F: Files>(alloc: Global, object: &str, files: &mut F) -> Result<Vec<u
         Err(FileFault::Longer) => return Err(Stop::Refused(Refusal::Object(16, 16_777_216))),
         Err(FileFault::Memory) => return Err(Stop::NoMemory),
     };
-    match schemes_text(alloc, bytes.as_slice()) {
+    match report_text(alloc, content, bytes.as_slice()) {
         Ok(text) => Ok(text),
         Err(NoText::Refused(refusal)) => Err(Stop::Refused(refusal)),
         Err(NoText::Memory) => Err(Stop::NoMemory),
@@ -51,8 +60,8 @@ fn entail<F: Files>(
     files: &mut F,
 ) -> Result<Vec<u8>, Stop>
     ensures { MatchResult result
-        (λ text. IfSome (F.content files.old file.now) (λ bytes. IsTextOf (Entail file.now judgement.now) bytes text.items))
-        (Stops (Entail file.now judgement.now) (F.content files.old file.now) (F.faults files.old file.now) (F.faults files.new file.now)) }
+        (λ text. IfSome (F.content files.old file.now) (λ bytes. IsEntailText judgement.now bytes text.items))
+        (Stops (IsEntailRefused judgement.now) (F.content files.old file.now) (F.faults files.old file.now) (F.faults files.new file.now)) }
 {
     let bytes = match files.read(alloc, file, TEXT_LIMIT) {
         Ok(bytes) => bytes,
@@ -71,10 +80,11 @@ fn entail<F: Files>(
 fn text_of<F: Files>(alloc: Global, request: Request<'_>, files: &mut F) -> Result<Vec<u8>, Stop>
     ensures { let file = file_of (meaning request.entry) in MatchResult result
         (λ text. IfSome (F.content files.old file) (λ bytes. IsTextOf (meaning request.entry) bytes text.items))
-        (Stops (meaning request.entry) (F.content files.old file) (F.faults files.old file) (F.faults files.new file)) }
+        (Stops (IsRefusedBy (meaning request.entry)) (F.content files.old file) (F.faults files.old file) (F.faults files.new file)) }
 {
     match request {
-        Request::Schemes { object } => schemes(alloc, object, files),
+        Request::Constraints { object } => report(alloc, Content::Constraints, object, files),
+        Request::Schemes { object } => report(alloc, Content::Schemes, object, files),
         Request::Entail { file, judgement } => entail(alloc, file, judgement, files),
     }
 }
@@ -138,8 +148,8 @@ fn tell_unread<E: Sink>(alloc: Global, name: &str, err: &mut E) -> u8
 /// Reads what the words name, writes what it gives, and answers the status: 0 written, 1 an input is refused, 2 the words
 /// aren't of the grammar, 3 a read failed, 4 a write failed, 5 no memory. At each status but 0 one line on `err` tells why.
 ///
-/// `schemes OBJECT` writes, for each procedure of the object, a scheme that tells whoever calls it the same as the lines of
-/// its instructions. `entail FILE JUDGEMENT` writes whether the judgement is derivable from the lines of the file. The text is
+/// `constraints OBJECT` writes, for each procedure of the object, the lines of its instructions, and `schemes OBJECT` a scheme
+/// that tells whoever calls it the same. `entail FILE JUDGEMENT` writes whether the judgement is derivable from the lines of the file. The text is
 /// made whole before it is put.
 pub fn run<F: Files, O: Sink, E: Sink>(
     alloc: Global,

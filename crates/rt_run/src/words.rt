@@ -1,12 +1,17 @@
 // The words after the program's name.
 ghost use Rattle.std.specs.Prelude.{◌≡◌, MatchOption, Some, None, map};
 ghost use Rattle.std.specs.String.{string_bytes};
-ghost use Rattle.rt_run.specs.Words.{command_of, file_of, is_argument};
+ghost use Rattle.rt_run.specs.Words.{command_of, file_of, is_argument, object_command};
 ghost use Rattle.rt_run.specs.Meant.{meaning};
 
 /// What the words ask for.
 #[derive(Clone, Copy, Debug)]
 pub enum Request<'a> {
+    /// The constraints of an object.
+    Constraints {
+        /// The object's name.
+        object: &'a str,
+    },
     /// The schemes of an object.
     Schemes {
         /// The object's name.
@@ -27,9 +32,21 @@ impl<'a> Request<'a> {
         ensures { result.now ≡ file_of (meaning self.now) }
     {
         match self {
-            Request::Schemes { object } => object,
+            Request::Constraints { object } | Request::Schemes { object } => object,
             Request::Entail { file, .. } => file,
         }
+    }
+}
+
+// What a word asks for about an object.
+fn about_object<'a>(word: &str, object: &'a str) -> Option<Request<'a>>
+    ensures { MatchOption result (object_command word.now object.now ≡ None)
+        (λ request. object_command word.now object.now ≡ Some (meaning request)) }
+{
+    match word {
+        "constraints" => Some(Request::Constraints { object }),
+        "schemes" => Some(Request::Schemes { object }),
+        _ => None,
     }
 }
 
@@ -51,8 +68,8 @@ pub fn read_words(words: &[String]) -> Option<Request<'_>>
     match words {
         [command, object] => {
             let object = object.as_str();
-            if command.as_str() == "schemes" && may_be_argument(object) {
-                Some(Request::Schemes { object })
+            if may_be_argument(object) {
+                about_object(command.as_str(), object)
             } else {
                 None
             }

@@ -10,3 +10,4 @@ pub mod Staying
 pub mod Tidying
 pub mod Numbering
 pub mod Sorting
+mod Followed

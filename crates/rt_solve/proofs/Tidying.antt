@@ -80,7 +80,7 @@ sub_weight-without_self (Sub x y) = sub_weight-cond x y (variable_eq x y)
 sub_weight-without_self (Low k x) = omega arith
 sub_weight-without_self (Up x k) = omega arith
 
-sub_count-without_self : (lines : List Line) → sub_count (map without_self lines) ≤ sub_count lines
+pub sub_count-without_self : (lines : List Line) → sub_count (map without_self lines) ≤ sub_count lines
 sub_count-without_self [] = omega arith
 sub_count-without_self (l ∷ lines) = omega (arith, sub_weight-without_self l, sub_count-without_self lines)
 

@@ -21,12 +21,14 @@ use Rattle.rt_rules.specs.Laws.{NamesBase}
 use Rattle.rt_rules.proofs.Lists.{Contains-map, Contains-map_source, All-from_contains}
 use Rattle.rt_rules.proofs.Carry.{given}
 use Rattle.rt_rules.proofs.Covering.{exchange, Alike-refl, Alike-trans}
-use Rattle.rt_rules.proofs.Putting.{putting_lem}
+use Rattle.rt_rules.proofs.Putting.{following_lem, putting_lem}
 use Rattle.rt_numbering.specs.Numbering.{deduplicated, numbered}
 use Rattle.rt_numbering.proofs.Deduplicating.{deduplicated-has, deduplicated-source}
 use Rattle.rt_numbering.proofs.Numbers.{numbering_lem, numbered-constants, numbered-bases}
+use Rattle.rt_solve.specs.Sources.{AreSources}
 use Rattle.rt_solve.specs.Told.{IsExist, TellsSame}
 use Rattle.rt_solve.specs.Tidy.{without_self}
+use Rattle.rt_solve.proofs.Followed.{sources_following}
 
 pub TellsSame-refl : (lines : List Line) → TellsSame lines lines
 TellsSame-refl lines = record {
@@ -108,6 +110,25 @@ TellsSame-putting place lines putting = record {
   alike = λ order p. putting_lem order (is_inside_for p) lines place putting (λ n z e. refl);
   constants = λ count all. constants-map count (put_each place) lines all;
   bases = bases-map (put_each place) lines (λ l x c h. inr (put_each_at-base place lines putting x.base x.word (l, x, c, h, refl)));
+}
+
+-- what existentials follow is of bases that the lines name
+put_found-named : (place : ℕ → Option Dtv) (lines : List Line) → AreSources place lines → (found : Option Dtv) (n : ℕ) (w : List Label) → place n ≡ found → NamesBase lines (Exist n) → NamesBase lines (put_found found (Exist n) w).base
+put_found-named place lines sources None n w e names = names
+put_found-named place lines sources (Some z) n w e names = sources.are_below.named n z e
+
+put_each_at-named : (place : ℕ → Option Dtv) (lines : List Line) → AreSources place lines → (b : Base) (w : List Label) → NamesBase lines b → NamesBase lines (put_each_at place b w).base
+put_each_at-named place lines sources (Exist n) w names = put_found-named place lines sources (place n) n w refl names
+put_each_at-named place lines sources (Proc n) w names = names
+put_each_at-named place lines sources (Global n) w names = names
+put_each_at-named place lines sources (Outer n) w names = names
+
+-- lines tell the same with what existentials follow in their places
+pub TellsSame-sources : (place : ℕ → Option Dtv) (lines : List Line) → AreSources place lines → TellsSame lines (map (map_line (put_each place)) lines)
+TellsSame-sources place lines sources = record {
+  alike = λ order p. following_lem order (is_inside_for p) lines place (sources_following place lines sources) (λ n z e. refl);
+  constants = λ count all. constants-map count (put_each place) lines all;
+  bases = bases-map (put_each place) lines (λ l x c h. inr (put_each_at-named place lines sources x.base x.word (l, x, c, h, refl)));
 }
 
 -- a variable that lies below itself

@@ -20,11 +20,11 @@ use Rattle.rt_solve.proofs.Distinct.{distinct_permutation}
 use Rattle.rt_solve.specs.declared.uses.Use.{Use}
 use Rattle.rt_solve.specs.Uses.{DefinesLeft, DefinesRight, IsUseIn, AreUsesBelow, AreUses, IsAlone, IsFirst, IsLast}
 
-some_number : (m n : ℕ) → Some m ≡ Some n → m ≡ n
+pub some_number : (m n : ℕ) → Some m ≡ Some n → m ≡ n
 some_number m n e = cc
 
 -- a line defines an existential on its left or on its right
-left_or_right : (n : ℕ) (l : Line) → HasUse Co n l → DefinesLeft n l ⊎ DefinesRight n l
+pub left_or_right : (n : ℕ) (l : Line) → HasUse Co n l → DefinesLeft n l ⊎ DefinesRight n l
 left_or_right n (Var x) h = absurd h
 left_or_right n (Same x y) h = absurd h
 left_or_right n (Sub x y) h = h

@@ -5,3 +5,4 @@ pub mod Choice
 pub mod Ranks
 pub mod Sides
 pub mod Told
+pub mod Sources

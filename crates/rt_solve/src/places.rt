@@ -1,5 +1,5 @@
 // The choice of the existentials that are put away together.
-ghost use Rattle.std.specs.Prelude.{◌≡◌, ◌≢◌, ◌⊎◌, ℕ, List, AllPairs, false, nat_eq, true, IfOk, OnOk, MatchOption};
+ghost use Rattle.std.specs.Prelude.{◌≡◌, ◌≢◌, ◌⊎◌, ℕ, [], List, AllPairs, false, nat_eq, true, IfOk, IfSome, OnOk, MatchOption};
 ghost use Rattle.std.specs.HashMap.{get, ContainsKey, IsEmpty};
 ghost use Rattle.std.specs.HashSet.{contains};
 ghost use Rattle.rt_terms.specs.declared.label.Variance.TheVariants.{Co};
@@ -18,8 +18,8 @@ use std::collections::{HashMap, HashSet};
 /// What is put in the places of existentials, by their numbers.
 pub type Places = HashMap<u32, Dtv>;
 
-// What the line puts in the place of the existential: Z of another base, where the line is Z <= v.
-fn definition_in(line: &Line, existential: u32) -> Option<&Dtv>
+/// What the line puts in the place of the existential: Z of another base, where the line is Z <= v.
+pub fn definition_in(line: &Line, existential: u32) -> Option<&Dtv>
     ensures { MatchOption result
         ((z : Dtv) → z.base ≢ Exist existential → line.now ≡ use_of Co existential z → ⊥)
         (λ z. (z.now.base ≢ Exist existential) × (line.now ≡ use_of Co existential z.now)) }
@@ -30,6 +30,18 @@ fn definition_in(line: &Line, existential: u32) -> Option<&Dtv>
     let base = Base::Exist(existential);
     if defined.base == base && defined.word.items().is_empty() && definition.base != base {
         Some(definition)
+    } else {
+        None
+    }
+}
+
+/// What the line puts in the place of the existential, where that has no letters.
+pub fn source_in(line: &Line, existential: u32) -> Option<&Dtv>
+    ensures { IfSome result (λ source. (source.now.word ≡ []) × (line.now ≡ use_of Co existential source.now)) }
+{
+    let source = definition_in(line, existential)?;
+    if source.word.items().is_empty() {
+        Some(source)
     } else {
         None
     }

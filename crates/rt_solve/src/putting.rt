@@ -10,8 +10,8 @@ use rt_base::{Memory, Sequence};
 use rt_terms::{Base, Dtv, Line, Lines};
 use std::alloc::Global;
 
-// The variable with what is in its existential's place.
-fn put(variable: &Dtv, places: &Places) -> Result<Dtv, Memory>
+/// The variable with what is in its existential's place. The error is want of memory.
+pub fn put(variable: &Dtv, places: &Places) -> Result<Dtv, Memory>
     ensures { IfOk result (λ r. r ≡ put_each (get nat_eq places.now) variable.now) }
 {
     let Base::Exist(n) = variable.base else {

@@ -14,6 +14,7 @@ ghost use Rattle.rt_solve.specs.Told.{IsExist, TellsSame};
 use crate::ordering::sort_lines;
 use crate::places::choose;
 use crate::putting::{put_in_lines, selves_to_vars};
+use crate::sources::sources;
 use crate::spare::without_spare;
 use rt_base::Memory;
 use rt_numbering::{deduplicate, number};
@@ -32,20 +33,36 @@ fn tidy(alloc: Global, lines: Lines) -> Result<Lines, Memory>
     without_spare(alloc, lines)
 }
 
+// The lines with what existentials follow in their places, which saves a round for each of them where one follows the other.
+fn put_sources(alloc: Global, lines: Lines) -> Result<Lines, Memory>
+    ensures same { IfOk result (TellsSame lines) }
+    ensures tidied { IsTidy lines → IfOk result IsTidy }
+    ensures fewer { IfOk result (λ put. sub_count put ≤ sub_count lines) }
+{
+    let places = sources(alloc, lines.items())?;
+    if places.is_empty() {
+        return Ok(lines);
+    }
+    let put = put_in_lines(alloc, lines.items(), &places)?;
+    tidy(alloc, put)
+}
+
 // The lines without the existentials that their only definitions can replace.
 fn put_away(alloc: Global, lines: Lines) -> Result<Lines, Memory>
     ensures same { IfOk result (TellsSame lines) }
     ensures tidied { IfOk result IsTidy }
     ensures solved { IfOk result IsSolved }
 {
-    let mut lines = tidy(alloc, lines)?;
+    let first = tidy(alloc, lines)?;
+    let mut lines = put_sources(alloc, first)?;
     loop {
         let places = choose(alloc, lines.items())?;
         if places.is_empty() {
             return Ok(lines);
         }
         let put = put_in_lines(alloc, lines.items(), &places)?;
-        lines = tidy(alloc, put)?;
+        let tidied = tidy(alloc, put)?;
+        lines = put_sources(alloc, tidied)?;
     }
 }
 

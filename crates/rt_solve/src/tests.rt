@@ -164,6 +164,25 @@ fn chain_text(alloc: Global, count: u32) -> Result<Vec<u8>, Memory> {
     Ok(text)
 }
 
+// A ladder of so many existentials from the argument to the result: each is defined by the one before it and the one after it.
+fn ladder(alloc: Global, count: u32) -> Result<Lines, Memory>
+    ensures { IfOk result (All (HasConstantsBelow 0)) }
+{
+    let mut lines = Lines::new(alloc);
+    push_sub(&mut lines, argument(alloc, 0)?, existential(alloc, 0))?;
+    for i in 1..count {
+        let one_before = existential(alloc, i - 1);
+        push_sub(&mut lines, one_before, existential(alloc, i))?;
+        push_sub(&mut lines, existential(alloc, i), existential(alloc, i - 1))?;
+    }
+    push_sub(
+        &mut lines,
+        existential(alloc, count.saturating_sub(1)),
+        returned(alloc)?,
+    )?;
+    Ok(lines)
+}
+
 #[test]
 fn puts_definitions_in_place(rt: HostRuntime) -> Result<(), Fail> {
     let alloc = rt.alloc();
@@ -196,5 +215,13 @@ fn puts_away_long_chains(rt: HostRuntime) -> Result<(), Fail> {
     let alloc = rt.alloc();
     let text = scheme_text(alloc, chain(alloc, 1001)?)?;
     assert_eq!(rt; text.as_slice(), chain_text(alloc, 1001)?.as_slice());
+    Ok(())
+}
+
+#[test]
+fn puts_away_long_ladders(rt: HostRuntime) -> Result<(), Fail> {
+    let alloc = rt.alloc();
+    let text = scheme_text(alloc, ladder(alloc, 10001)?)?;
+    assert_eq!(rt; text.as_slice(), b"f0.in_a0 <= f0.out_a0\n".as_slice());
     Ok(())
 }

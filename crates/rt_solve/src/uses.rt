@@ -33,8 +33,8 @@ fn existential_at(variable: &Dtv, sign: Variance) -> Option<u32>
     }
 }
 
-// The existential that the line defines on its left.
-fn defined_left(line: &Line) -> Option<u32>
+/// The existential that the line defines on its left.
+pub fn defined_left(line: &Line) -> Option<u32>
     ensures { (n : ℕ) → (result ≡ Some n) ↔ DefinesLeft n line.now }
 {
     match line {
@@ -44,8 +44,8 @@ fn defined_left(line: &Line) -> Option<u32>
     }
 }
 
-// The existential that the line defines on its right.
-fn defined_right(line: &Line) -> Option<u32>
+/// The existential that the line defines on its right.
+pub fn defined_right(line: &Line) -> Option<u32>
     ensures { (n : ℕ) → (result ≡ Some n) ↔ DefinesRight n line.now }
 {
     match line {

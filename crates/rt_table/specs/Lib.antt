@@ -1,2 +1,6 @@
-pub mod Straight
-pub mod Sources
+pub mod Table
+pub mod Named
+pub mod Told
+pub mod Writing
+pub mod Facts
+pub mod Lists

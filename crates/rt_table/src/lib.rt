@@ -1,14 +1,24 @@
-//! From instructions to lines: what each instruction says of the types of what it reads and writes.
+//! From instructions to lines: what each instruction of a procedure says of the types of what it reads and writes.
 #![tactic(auto)]
 
-mod held;
-mod lines;
-mod registers;
-mod straight;
-mod straightness;
+mod computations;
+mod context;
+mod facts;
+mod flows;
+mod lists;
+mod loads;
+mod merges;
+mod pointer;
+mod pointers;
+mod returns;
+mod side;
+mod sides;
+mod sites;
+mod stores;
 #[cfg(test)]
 mod tests;
+mod variables;
+mod words;
 
-pub use held::{Held, Source};
-pub use straight::straight_lines_of;
-pub use straightness::is_straight;
+pub use facts::{Facts, prepare};
+pub use lists::{Bodies, lines_of};

@@ -8,8 +8,8 @@ ghost use Rattle.rt_texts.specs.Readings.{Reads, IsCut};
 use itoa::Buffer;
 use std::str;
 
-// The text before the first place of the byte, and the text from there on, which is empty where the byte
-// is not there.
+/// The text before the first place of the byte, and the text from there on, which is empty where the byte
+/// is not there.
 pub fn split_before(text: &[u8], byte: u8) -> (&[u8], &[u8])
     ensures { IsCut byte text.now result.0.now result.1.now }
 {

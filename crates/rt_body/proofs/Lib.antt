@@ -1,0 +1,7 @@
+mod Within
+mod Firsts
+pub mod Numbering
+mod Ranging
+mod Operating
+mod Transferred
+mod Read

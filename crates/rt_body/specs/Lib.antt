@@ -1,0 +1,9 @@
+pub mod Symbols
+pub mod Lowest
+pub mod Actions
+pub mod Registers
+pub mod Readings
+pub mod Right
+pub mod Told
+pub mod Readable
+pub mod Parts

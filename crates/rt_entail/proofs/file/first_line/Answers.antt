@@ -1,5 +1,0 @@
-use Rattle.rt_texts.proofs.Cuts.{HasNo-take_more}
-use Rattle.rt_entail.proofs.file.first_line.Goals as goal
-
-pub loop-k-preserved : goal.loop-k-preserved
-loop-k-preserved c = HasNo-take_more _ _ _ _ c.loop-k-test.true c.if-byte-eq10.false c.loop-k.invariant

@@ -1,0 +1,36 @@
+-- A frame is that of its body.
+use Rattle.std.proofs.Common.{◌≡◌, ◌<◌, ◌↔◌, ℕ, ℤ, List, length, sym, ap, subst, ◌∙◌, arith}
+use Rattle.std.specs.Prelude.{Contains}
+use Rattle.std.proofs.lemmas.List.Elements.{All-contains}
+use Rattle.rt_flow.specs.declared.def.Def.TheVariants.{At}
+use Rattle.rt_flow.specs.declared.reach.Reach.{Reach}
+use Rattle.rt_flow.specs.Bodies.{Body, AreReaching}
+use Rattle.rt_flow.specs.Reaching.{IsReachOf, sites_of}
+use Rattle.rt_flow.specs.Sources.{defs_in}
+use Rattle.rt_body.specs.Readings.{Reading}
+use Rattle.rt_frame.specs.Frames.{AreRising, Layout, IsFrameOf, IsSaved, IsTaken, frame_body}
+
+module _ (graph : Body) (reach : Reach) (is : IsReachOf graph reach) (told : (site : ℕ) (loc : ℤ) → site < sites_of reach → AreReaching graph loc site (defs_in reach site loc)) where
+  pub within_sites : (site d : ℕ) (loc : ℤ) → site < sites_of reach → Contains (defs_in reach site loc) (At d) → d < sites_of reach
+  within_sites site d loc less in_list =
+      let reaches = ((told site loc less).reaching (At d)).0 in_list in
+      let below : d < graph.sites = All-contains (λ (e : ℕ × ℤ). e.0 < graph.sites) graph.defs (d, loc) is.is_body.defs_in reaches.0 in
+      subst (λ n. d < n) (sym is.sites) below
+
+  pub sites_framed : (reading : Reading) (layout : Layout) → graph ≡ frame_body reading layout → sites_of reach ≡ reading.body.sites
+  sites_framed reading layout graph_is = is.sites ∙ ap (λ (g : Body). g.sites) graph_is
+
+  pub framed : (reading : Reading) (layout : Layout) (taken saved : List ℤ) → graph ≡ frame_body reading layout → reading.body.sites ≡ length reading.actions
+      → layout.taken ≡ taken → AreRising layout.taken → ((k : ℤ) → Contains taken k ↔ IsTaken reading k)
+      → layout.saved ≡ saved → AreRising layout.saved → ((k : ℤ) → Contains saved k ↔ IsSaved reading k)
+      → IsFrameOf reading (record { layout = layout; reaching = λ site loc. defs_in reach site loc })
+  framed reading layout taken saved graph_is sites taken_is taken_rising are_taken saved_is saved_rising are_saved = record {
+    taken_rising = taken_rising;
+    taken = λ k. subst (λ xs. Contains xs k ↔ IsTaken reading k) (sym taken_is) (are_taken k);
+    saved_rising = saved_rising;
+    saved = λ k. subst (λ xs. Contains xs k ↔ IsSaved reading k) (sym saved_is) (are_saved k);
+    reaching = λ site loc less. subst (λ g. AreReaching g loc site (defs_in reach site loc)) graph_is (told site loc (inside site less));
+  }
+    where
+      inside : (site : ℕ) → site < length reading.actions → site < sites_of reach
+      inside site less = omega (arith, sites_framed reading layout graph_is)

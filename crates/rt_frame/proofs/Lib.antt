@@ -1,0 +1,9 @@
+mod Within
+mod Spots
+mod Inserted
+mod Gathered
+mod Takings
+mod Asking
+mod Savings
+mod Storing
+mod Framed

@@ -1,0 +1,10 @@
+// What additions add.
+
+/// What an addition of two registers adds: an index to a pointer, on which side, two indices, or what can't be told.
+#[derive(Clone, Copy, Debug, PartialEq, Eq)]
+pub enum Addition {
+    IndexLeft,
+    IndexRight,
+    Indices,
+    Untold,
+}

@@ -1,0 +1,159 @@
+//! Questions about the registers of a body: what the lines of its sites speak of.
+ghost use Rattle.std.specs.Prelude.{◌≡◌, ◌<◌, All};
+ghost use Rattle.std.specs.List.{list_any};
+ghost use Rattle.rt_body.specs.Registers.{HasAddressRegister};
+ghost use Rattle.rt_body.specs.Told.{reading_of, sites_in, IsDefWithin};
+ghost use Rattle.rt_frame.specs.Questions.{addition, address_value, def_value, is_const, is_at, is_index, is_kept, is_multi, is_real, is_scaled_by, reaches_itself, results, scales};
+
+use crate::addition::Addition;
+use rt_body::{Action, Address, Body, Operation};
+use rt_flow::Def;
+use rt_track::Value;
+
+/// The value of a definition of a register.
+pub fn def_value(body: &Body, register: u8, def: Def) -> Value
+    requires register { register < 32 }
+    requires def { IsDefWithin (sites_in body.now) def }
+    ensures { result ≡ def_value (reading_of body.now) register def }
+{
+    match def {
+        Def::Entry if register == 2 => Value::Frame(0),
+        Def::Entry => Value::Entry(register, 0),
+        Def::At(site) => body.value_of(site, register),
+    }
+}
+
+/// The value of the address of a load or a store at a site.
+pub fn address_value(body: &Body, site: u32, address: Address) -> Value
+    requires site { site < sites_in body.now }
+    requires register { HasAddressRegister address }
+    ensures { result ≡ address_value (reading_of body.now) site address }
+{
+    match address {
+        Address::Symbol(symbol, addend) => Value::Sym(symbol, addend),
+        Address::Register(register, immediate) => body.value_at(site, register).plus(immediate),
+    }
+}
+
+/// Whether several values may be there.
+pub fn is_multi(value: Value) -> bool
+    ensures { result ≡ is_multi value }
+{
+    matches!(value, Value::Multi)
+}
+
+// Whether it is a constant.
+fn is_const(value: Value) -> bool
+    ensures { result ≡ is_const value }
+{
+    matches!(value, Value::Const(_))
+}
+
+// Whether a definition is that of a site.
+fn is_at(site: u32, def: Def) -> bool
+    ensures { result ≡ is_at site def }
+{
+    match def {
+        Def::Entry => false,
+        Def::At(other) => other == site,
+    }
+}
+
+// Whether the site's own definition of a register reaches its use there.
+fn reaches_itself(body: &Body, site: u32, register: u8) -> bool
+    requires { site < sites_in body.now }
+    ensures { result ≡ reaches_itself (reading_of body.now) site register }
+{
+    body.reaching(site, register)
+        .iter()
+        .any(|def| is_at(site, *def))
+}
+
+/// Whether an addition of an immediate says what it adds to: it copies one of several values, or it steps through them in a
+/// loop.
+pub fn is_kept(body: &Body, site: u32, to: u8, from: u8, immediate: i32) -> bool
+    requires site { site < sites_in body.now }
+    requires to { to < 32 }
+    ensures { result ≡ is_kept (reading_of body.now) site to from immediate }
+{
+    to != 0
+        && is_multi(body.value_of(site, to))
+        && (immediate == 0 || (to == from && reaches_itself(body, site, from)))
+}
+
+// Whether a site scales.
+fn scales(action: Action) -> bool
+    ensures { result ≡ scales action }
+{
+    match action {
+        Action::Compute { operation, .. } => operation == Operation::Scale,
+        _ => false,
+    }
+}
+
+// Whether a definition is made by a site that scales: an index of an array.
+fn is_scaled_by(body: &Body, def: Def) -> bool
+    requires { IsDefWithin (sites_in body.now) def }
+    ensures { result ≡ is_scaled_by (reading_of body.now) def }
+{
+    match def {
+        Def::Entry => false,
+        Def::At(site) => scales(body.actions()[site as usize]),
+    }
+}
+
+/// Whether all definitions of a register that reach a site are made by scaling: SLL, SLLI or MUL.
+pub fn is_index(body: &Body, site: u32, register: u8) -> bool
+    requires { site < sites_in body.now }
+    ensures { result ≡ is_index (reading_of body.now) site register }
+{
+    for def in body.reaching(site, register) {
+        if !is_scaled_by(body, *def) {
+            return false;
+        }
+    }
+    true
+}
+
+/// What an addition of two registers adds.
+pub fn addition(body: &Body, site: u32, left: u8, right: u8) -> Addition
+    requires site { site < sites_in body.now }
+    requires left { left < 32 }
+    requires right { right < 32 }
+    ensures { result ≡ addition (reading_of body.now) site left right }
+{
+    if is_const(body.value_at(site, left)) || is_const(body.value_at(site, right)) {
+        return Addition::Untold;
+    }
+    match (is_index(body, site, left), is_index(body, site, right)) {
+        (true, true) => Addition::Indices,
+        (true, false) => Addition::IndexLeft,
+        (false, true) => Addition::IndexRight,
+        (false, false) => Addition::Untold,
+    }
+}
+
+// Whether an instruction of the procedure wrote a definition.
+fn is_real(def: Def) -> bool
+    ensures { result ≡ is_real def }
+{
+    matches!(def, Def::At(_))
+}
+
+// Whether one of definitions is real.
+fn has_real(defs: &[Def]) -> bool
+    ensures { result ≡ list_any is_real defs.now }
+{
+    defs.iter().any(|def| is_real(*def))
+}
+
+/// The definitions of a result that reach a return, Entry first and then sites rising; none if no instruction of the
+/// procedure wrote one of them. It takes no memory.
+pub fn results(body: &Body, site: u32, register: u8) -> &[Def]
+    requires { site < sites_in body.now }
+    ensures value { result.now ≡ results (reading_of body.now) site register }
+    ensures within { All (IsDefWithin (sites_in body.now)) result.now }
+{
+    let defs = body.reaching(site, register);
+    if has_real(defs) { defs } else { &[] }
+}

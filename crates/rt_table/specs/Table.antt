@@ -1,0 +1,365 @@
+-- The table: what each site says of types, by what it does.
+use Rattle.std.specs.Prelude.{◌≡◌, ℕ, ℤ, pos, ◌+◌, ◌-◌, ◌+ℤ◌, ◌<◌, ◌≤◌, ◌==◌, ◌%◌, ◌&&◌, nat_le, nat_lt, int_le, not, Bool, true, false, Option, Some, None, List, [], ◌∷◌, ◌++◌, map, flat_map, fold, if◌then◌else◌, length}
+use Rattle.std.specs.Ordering.{int_eq}
+use Rattle.std.specs.List.{list_any}
+use Rattle.std.specs.Int.{cast_unsigned, w32}
+use Rattle.rt_terms.specs.declared.label.Loc.TheVariants.{Arg, Stack}
+use Rattle.rt_terms.specs.declared.label.Label.{Label}
+use Rattle.rt_terms.specs.declared.label.Label.TheVariants as label
+use Rattle.rt_lattice.specs.declared.role.Role.{Role}
+use Rattle.rt_lattice.specs.declared.role.Role.TheVariants as role
+use Rattle.rt_flow.specs.declared.def.Def.{Def}
+use Rattle.rt_flow.specs.declared.def.Def.TheVariants.{Entry, At}
+use Rattle.rt_track.specs.declared.value.Value.{Value}
+use Rattle.rt_track.specs.declared.value.Value.TheVariants as value
+use Rattle.rt_body.specs.declared.action.Action.{Action}
+use Rattle.rt_body.specs.declared.action.Action.TheVariants as action
+use Rattle.rt_body.specs.declared.action.Address.{Address}
+use Rattle.rt_body.specs.declared.action.Address.TheVariants as address
+use Rattle.rt_body.specs.declared.action.Loaded.{Loaded}
+use Rattle.rt_body.specs.declared.action.Loaded.TheVariants as loaded
+use Rattle.rt_body.specs.declared.action.Operation.{Operation}
+use Rattle.rt_body.specs.declared.action.Operation.TheVariants as operation
+use Rattle.rt_body.specs.declared.action.Width.{Width}
+use Rattle.rt_body.specs.declared.action.Width.TheVariants as width
+use Rattle.rt_body.specs.Readings.{Reading, action_at}
+use Rattle.rt_frame.specs.declared.spot.Spot.{Spot}
+use Rattle.rt_frame.specs.declared.spot.Spot.TheVariants as spot
+use Rattle.rt_frame.specs.declared.addition.Addition.{Addition}
+use Rattle.rt_frame.specs.declared.addition.Addition.TheVariants.{IndexLeft, IndexRight, Indices, Untold}
+use Rattle.rt_frame.specs.Questions.{def_value, is_multi, is_kept, addition, results, address_value}
+use Rattle.rt_frame.specs.Frames.{Frame, spot_at, byte_at, is_frame}
+use Rattle.rt_rows.specs.declared.name.Name.{Name}
+use Rattle.rt_rows.specs.declared.name.Name.TheVariants as name
+use Rattle.rt_rows.specs.declared.row.Root.TheVariants as root
+use Rattle.rt_rows.specs.declared.row.Term.{Term}
+use Rattle.rt_rows.specs.declared.row.Row.{Row}
+use Rattle.rt_rows.specs.declared.row.Row.TheVariants as row
+use Rattle.rt_rows.specs.Terms.{named, along, row_names, names_of, name_eq}
+use Rattle.rt_table.specs.declared.side.Side.{Side}
+use Rattle.rt_table.specs.declared.side.Side.TheVariants.{Variable, Code}
+use Rattle.rt_table.specs.declared.pointer.Pointer.{Pointer}
+use Rattle.rt_table.specs.declared.pointer.Pointer.TheVariants.{Through, InFrame, Nowhere}
+
+-- what the table is read against: the number of a procedure, what is known of its registers and of its frame, which symbols
+-- lie in executable sections, and the constants of the roles
+pub record Context : Type 0 where
+  pub procedure : ℕ
+  pub reading : Reading
+  pub frame : Frame
+  pub is_code : ℕ → Bool
+  pub constant : Role → ℕ
+
+-- Variables.
+
+abbrev pub definition : Context → ℕ → ℕ → Term
+definition context site register = named (name.Definition context.procedure site register)
+
+abbrev pub merge_name : Context → ℕ → ℕ → Name
+merge_name context site register = name.Merge context.procedure site register
+
+abbrev pub object : Context → ℤ → Term
+object context start = named (name.Object context.procedure start)
+
+abbrev pub port : Context → Label → Term
+port context letter = record { root = root.Proc context.procedure; word = letter ∷ [] }
+
+-- an argument register, a0 to a7
+abbrev pub is_argument : ℕ → Bool
+is_argument register = nat_le 10 register && nat_le register 17
+
+abbrev pub argument : Context → ℕ → Term
+argument context register = port context (label.In (Arg (register - 10)))
+
+-- a word of the caller's frame in which an argument may be passed
+abbrev pub is_stack_word : ℤ → Bool
+is_stack_word k = int_le (pos 0) k && int_le k (pos 65532) && (cast_unsigned w32 k % 4 == 0)
+
+abbrev pub stack_argument : Context → ℤ → Term
+stack_argument context k = port context (label.In (Stack (cast_unsigned w32 k)))
+
+-- the address of a symbol: code, or a global
+abbrev pub symbol_side : Context → ℕ → Side
+symbol_side context symbol = if context.is_code symbol then Code else Variable (record { root = root.Global symbol; word = [] })
+
+-- the term of a value to which nothing was added, if it has one
+abbrev pub if_zero : ℤ → Side → Option Side
+if_zero offset side = if int_eq offset (pos 0) then Some side else None
+
+-- the side of what a register held at the entry, plus an offset: an argument
+abbrev pub entry_side : Context → ℕ → ℤ → Option Side
+entry_side context register offset = if is_argument register then if_zero offset (Variable (argument context register)) else None
+
+-- the side of a value; `own` stands for several values
+abbrev pub side_of : Context → Name → Value → Option Side
+side_of context own (value.Entry register offset) = entry_side context register offset
+side_of context own (value.At site register offset) = if_zero offset (Variable (definition context site register))
+side_of context own (value.Sym symbol offset) = if_zero offset (symbol_side context symbol)
+side_of context own (value.Frame k) = Some (Variable (object context k))
+side_of context own value.Multi = Some (Variable (named own))
+side_of context own (value.Const n) = None
+
+-- the side of the use of a register at a site
+abbrev pub use_side : Context → ℕ → ℕ → Option Side
+use_side context site register = side_of context (merge_name context site register) (context.reading.value_at site register)
+
+-- the side of a definition of a register
+abbrev pub def_own : Context → ℕ → Def → Name
+def_own context register Entry = name.Definition context.procedure 0 register
+def_own context register (At site) = name.Definition context.procedure site register
+
+abbrev pub def_side : Context → ℕ → Def → Option Side
+def_side context register def = side_of context (def_own context register def) (def_value context.reading register def)
+
+-- Rows.
+
+-- what flows into a term
+abbrev pub flow : Context → Option Side → Term → List Row
+flow context None y = []
+flow context (Some Code) y = row.Low (context.constant role.Code) y ∷ []
+flow context (Some (Variable x)) y = row.Sub x y ∷ []
+
+-- the same, or that the term exists where nothing does
+abbrev pub flow_or_exists : Context → Option Side → Term → List Row
+flow_or_exists context None y = row.Var y ∷ []
+flow_or_exists context side y = flow context side y
+
+-- the constant of a role above a side; code has none above it
+abbrev pub below : Context → Role → Option Side → List Row
+below context above None = []
+below context above (Some Code) = []
+below context above (Some (Variable x)) = row.Up x (context.constant above) ∷ []
+
+-- the constant of a role below what a site writes
+abbrev pub result_above : Context → Role → ℕ → ℕ → List Row
+result_above context role site to = if to == 0 then [] else row.Low (context.constant role) (definition context site to) ∷ []
+
+-- Addresses.
+
+abbrev pub through : Option Side → ℤ → Pointer
+through (Some (Variable x)) k = Through x k
+through other k = Nowhere
+
+abbrev pub spot_pointer : Context → Spot → Pointer
+spot_pointer context (spot.OnObject start distance) = Through (object context start) distance
+spot_pointer context (spot.Location k) = InFrame k
+
+-- where an address of one value leads: through the side of the same value with nothing added to it
+abbrev pub value_pointer : Context → Value → Pointer
+value_pointer context (value.Entry register offset) = if is_argument register then Through (argument context register) offset else Nowhere
+value_pointer context (value.At site register offset) = Through (definition context site register) offset
+value_pointer context (value.Sym symbol offset) = through (Some (symbol_side context symbol)) offset
+value_pointer context (value.Frame k) = spot_pointer context (spot_at context.frame.layout k)
+value_pointer context other = Nowhere
+
+-- where an address leads: where the register may hold several values, through all of them together at the immediate
+abbrev pub register_pointer : Context → ℕ → ℕ → ℤ → Pointer
+register_pointer context site register immediate =
+    if is_multi (context.reading.value_at site register) then Through (named (merge_name context site register)) immediate else
+    value_pointer context (address_value context.reading site (address.Register register immediate))
+
+abbrev pub pointer : Context → ℕ → Address → Pointer
+pointer context site (address.Symbol symbol addend) = value_pointer context (value.Sym symbol addend)
+pointer context site (address.Register register immediate) = register_pointer context site register immediate
+
+-- Loads and stores.
+
+-- so many bits
+abbrev pub loaded_bits : Loaded → ℕ
+loaded_bits loaded.Word = 32
+loaded_bits loaded.SignedHalf = 16
+loaded_bits loaded.Half = 16
+loaded_bits loaded.SignedByte = 8
+loaded_bits loaded.Byte = 8
+
+abbrev pub width_bits : Width → ℕ
+width_bits width.Word = 32
+width_bits width.Half = 16
+width_bits width.Byte = 8
+
+-- what a narrow load reads; a word may be anything
+abbrev pub loaded_role : Loaded → Option Role
+loaded_role loaded.Word = None
+loaded_role loaded.SignedHalf = Some role.Sint16
+loaded_role loaded.Half = Some role.Uint16
+loaded_role loaded.SignedByte = Some role.Sint8
+loaded_role loaded.Byte = Some role.Uint8
+
+-- what is read into a register, or that it exists where it is read into x0
+abbrev pub read_into : Context → ℕ → ℕ → Term → Row
+read_into context site to x = if to == 0 then row.Var x else row.Sub x (definition context site to)
+
+abbrev pub role_row : Context → Option Role → Term → List Row
+role_row context None x = []
+role_row context (Some above) x = row.Up x (context.constant above) ∷ []
+
+-- a load through a variable
+abbrev pub load_through : Context → ℕ → Loaded → ℕ → Term → ℤ → List Row
+load_through context site loaded to d k =
+    let x = along d (label.Load ∷ label.Field (loaded_bits loaded) k ∷ []) in
+    read_into context site to x ∷ role_row context (loaded_role loaded) x
+
+-- the definitions of the four bytes of a word of the frame that reach a site, each once, in order
+abbrev pub def_below : Def → Def → Bool
+def_below x Entry = false
+def_below Entry (At d) = true
+def_below (At c) (At d) = nat_lt c d
+
+abbrev pub merged : List Def → List Def → List Def
+merged xs [] = xs
+merged [] ys = ys
+merged (x ∷ xs) (y ∷ ys) =
+    if def_below x y then x ∷ merged xs (y ∷ ys) else
+    if def_below y x then y ∷ merged (x ∷ xs) ys else x ∷ merged xs ys
+
+abbrev pub byte_defs : Context → ℕ → ℤ → ℕ → List Def
+byte_defs context site k i = context.frame.reaching site (byte_at (k +ℤ pos i))
+
+abbrev pub word_defs : Context → ℕ → ℤ → List Def
+word_defs context site k =
+    merged (merged (byte_defs context site k 0) (byte_defs context site k 1)) (merged (byte_defs context site k 2) (byte_defs context site k 3))
+
+-- what a store of a word at an offset of the frame puts there; any other definition of its bytes is of no side
+abbrev pub stored_side : Context → ℤ → ℕ → Action → Option Side
+stored_side context k site (action.Store width.Word stored to) = if is_frame k (address_value context.reading site to) then use_side context site stored else None
+stored_side context k site other = None
+
+-- what a definition of a byte of the word at an offset brings into a variable: the argument that the caller passed there, or what
+-- was stored
+abbrev pub word_flow : Context → ℤ → Term → Def → List Row
+word_flow context k y Entry = if is_stack_word k then row.Sub (stack_argument context k) y ∷ [] else []
+word_flow context k y (At site) = flow context (stored_side context k site (action_at context.reading.actions site)) y
+
+-- a load from the frame itself: what was stored there
+abbrev pub load_word : Context → ℕ → ℕ → ℤ → List Row
+load_word context site to k = if to == 0 then [] else flat_map (word_flow context k (definition context site to)) (word_defs context site k)
+
+abbrev pub load_in_frame : Context → ℕ → Loaded → ℕ → ℤ → List Row
+load_in_frame context site loaded.Word to k = load_word context site to k
+load_in_frame context site narrow to k = []
+
+abbrev pub load_rows : Context → ℕ → Loaded → ℕ → Pointer → List Row
+load_rows context site loaded to (Through d k) = load_through context site loaded to d k
+load_rows context site loaded to (InFrame k) = load_in_frame context site loaded to k
+load_rows context site loaded to Nowhere = []
+
+-- a store through a variable: a word keeps what flows into it
+abbrev pub store_through : Context → ℕ → Width → ℕ → Term → ℤ → List Row
+store_through context site width.Word stored d k = flow_or_exists context (use_side context site stored) (along d (label.Store ∷ label.Field 32 k ∷ []))
+store_through context site narrow stored d k = row.Var (along d (label.Store ∷ label.Field (width_bits narrow) k ∷ [])) ∷ []
+
+abbrev pub store_rows : Context → ℕ → Width → ℕ → Pointer → List Row
+store_rows context site width stored (Through d k) = store_through context site width stored d k
+store_rows context site width stored other = []
+
+-- Computations.
+
+-- an index is a number, and what it is added to flows on
+abbrev pub indexed : Context → ℕ → ℕ → ℕ → ℕ → List Row
+indexed context site to other index =
+    (if to == 0 then [] else flow context (use_side context site other) (definition context site to))
+    ++ below context role.Num32 (use_side context site index)
+
+abbrev pub addition_rows : Context → ℕ → ℕ → ℕ → ℕ → Addition → List Row
+addition_rows context site to left right IndexLeft = indexed context site to right left
+addition_rows context site to left right IndexRight = indexed context site to left right
+addition_rows context site to left right Indices =
+    below context role.Num32 (use_side context site left) ++ below context role.Num32 (use_side context site right)
+    ++ result_above context role.Num32 site to
+addition_rows context site to left right Untold = []
+
+-- the roles of the operands of a computation, where it says something of them, and of its result
+abbrev pub left_role : Operation → Option Role
+left_role operation.Scale = Some role.Num32
+left_role operation.ShiftRight = Some role.Uint32
+left_role operation.ShiftRightSigned = Some role.Sint32
+left_role operation.Signed = Some role.Sint32
+left_role operation.Unsigned = Some role.Uint32
+left_role operation.SignedByUnsigned = Some role.Sint32
+left_role operation.LessSigned = Some role.Sint32
+left_role operation.LessUnsigned = None
+
+abbrev pub right_role : Operation → Option Role
+right_role operation.Scale = Some role.Num32
+right_role operation.ShiftRight = Some role.Num32
+right_role operation.ShiftRightSigned = Some role.Num32
+right_role operation.Signed = Some role.Sint32
+right_role operation.Unsigned = Some role.Uint32
+right_role operation.SignedByUnsigned = Some role.Uint32
+right_role operation.LessSigned = Some role.Sint32
+right_role operation.LessUnsigned = None
+
+abbrev pub result_role : Operation → Role
+result_role operation.Scale = role.Num32
+result_role operation.ShiftRight = role.Uint32
+result_role operation.ShiftRightSigned = role.Sint32
+result_role operation.Signed = role.Sint32
+result_role operation.Unsigned = role.Uint32
+result_role operation.SignedByUnsigned = role.Sint32
+result_role operation.LessSigned = role.Bool
+result_role operation.LessUnsigned = role.Bool
+
+-- an operand of a computation; an immediate is none
+abbrev pub operand_rows : Context → ℕ → Option ℕ → Option Role → List Row
+operand_rows context site (Some register) (Some above) = below context above (use_side context site register)
+operand_rows context site register above = []
+
+abbrev pub compute_rows : Context → ℕ → Operation → ℕ → ℕ → Option ℕ → List Row
+compute_rows context site operation to left right =
+    operand_rows context site (Some left) (left_role operation) ++ operand_rows context site right (right_role operation)
+    ++ result_above context (result_role operation) site to
+
+-- Returns.
+
+-- what flows into a result: the side of each definition of its register, or that the result exists where none has a side; nothing
+-- where there is no definition to tell
+abbrev pub exists_if_none : Term → List Row → List Row
+exists_if_none y [] = row.Var y ∷ []
+exists_if_none y rows = rows
+
+abbrev pub returned : Context → Term → ℕ → List Def → List Row
+returned context y register [] = []
+returned context y register defs = exists_if_none y (flat_map (λ def. flow context (def_side context register def) y) defs)
+
+abbrev pub result_rows : Context → ℕ → ℕ → List Row
+result_rows context site r = returned context (port context (label.Out r)) (10 + r) (results context.reading site (10 + r))
+
+-- The rows of a site.
+
+abbrev pub kept_rows : Context → ℕ → ℕ → ℕ → Bool → List Row
+kept_rows context site to from true = flow context (use_side context site from) (definition context site to)
+kept_rows context site to from false = []
+
+abbrev pub site_rows : Context → ℕ → Action → List Row
+site_rows context site (action.AddImmediate to from immediate) = kept_rows context site to from (is_kept context.reading site to from immediate)
+site_rows context site (action.Add to left right) = addition_rows context site to left right (addition context.reading site left right)
+site_rows context site (action.Load loaded to from) = load_rows context site loaded to (pointer context site from)
+site_rows context site (action.Store width stored to) = store_rows context site width stored (pointer context site to)
+site_rows context site (action.Compute operation to left right) = compute_rows context site operation to left right
+site_rows context site (action.Compare left right) = below context role.Sint32 (use_side context site left) ++ below context role.Sint32 (use_side context site right)
+site_rows context site action.Return = result_rows context site 0 ++ result_rows context site 1
+site_rows context site other = []
+
+-- the rows of sites, the first of which has number i
+abbrev pub rows_from : Context → ℕ → List Action → List Row
+rows_from context i [] = []
+rows_from context i (act ∷ actions) = site_rows context i act ++ rows_from context (i + 1) actions
+
+-- Definitions that reach a site together.
+
+-- what the merge of a register at a site takes from each definition that reaches the site
+abbrev pub merge_rows : Context → Name → List Row
+merge_rows context (name.Merge procedure site register) =
+    flat_map (λ def. flow context (def_side context register def) (named (name.Merge procedure site register))) (context.reading.reaching site register)
+merge_rows context other = []
+
+-- before the first row that names a merge stand the merge's own rows
+abbrev pub opened : Context → List Row → Name → List Row
+opened context rows name = if list_any (name_eq name) (names_of rows) then rows else rows ++ merge_rows context name
+
+abbrev pub written : Context → List Row → Row → List Row
+written context rows row = fold (opened context) rows (row_names row) ++ row ∷ []
+
+-- the rows of a procedure
+abbrev pub procedure_rows : Context → List Row
+procedure_rows context = fold (written context) [] (rows_from context 0 context.reading.actions)

@@ -1,0 +1,9 @@
+// Sides of rows.
+use rt_rows::Term;
+
+/// What a value is to a row: a variable, or the constant of code.
+#[derive(Drop)]
+pub(crate) enum Side {
+    Variable(Term),
+    Code,
+}

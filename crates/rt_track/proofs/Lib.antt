@@ -1,0 +1,12 @@
+mod Answering
+mod Changing
+mod Counting
+mod Entering
+mod Graphing
+mod Naming
+mod Noting
+mod Operating
+mod Solving
+mod Tracking
+mod Using
+mod Visiting

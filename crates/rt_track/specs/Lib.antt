@@ -1,0 +1,10 @@
+pub mod Values
+pub mod Candidates
+pub mod Placed
+pub mod Operations
+pub mod Nodes
+pub mod Changes
+pub mod Inputs
+pub mod Definitions
+pub mod Told
+pub mod Tracked
