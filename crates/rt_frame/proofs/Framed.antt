@@ -8,6 +8,7 @@ use Rattle.rt_flow.specs.Bodies.{Body, AreReaching}
 use Rattle.rt_flow.specs.Reaching.{IsReachOf, sites_of}
 use Rattle.rt_flow.specs.Sources.{defs_in}
 use Rattle.rt_body.specs.Readings.{Reading}
+use Rattle.rt_interface.specs.declared.call.Call.{Call}
 use Rattle.rt_frame.specs.Frames.{AreRising, Layout, IsFrameOf, IsSaved, IsTaken, frame_body}
 
 module _ (graph : Body) (reach : Reach) (is : IsReachOf graph reach) (told : (site : ℕ) (loc : ℤ) → site < sites_of reach → AreReaching graph loc site (defs_in reach site loc)) where
@@ -20,13 +21,13 @@ module _ (graph : Body) (reach : Reach) (is : IsReachOf graph reach) (told : (si
   pub sites_framed : (reading : Reading) (layout : Layout) → graph ≡ frame_body reading layout → sites_of reach ≡ reading.body.sites
   sites_framed reading layout graph_is = is.sites ∙ ap (λ (g : Body). g.sites) graph_is
 
-  pub framed : (reading : Reading) (layout : Layout) (taken saved : List ℤ) → graph ≡ frame_body reading layout → reading.body.sites ≡ length reading.actions
-      → layout.taken ≡ taken → AreRising layout.taken → ((k : ℤ) → Contains taken k ↔ IsTaken reading k)
+  pub framed : (reading : Reading) (calls : List (List Call)) (layout : Layout) (taken saved : List ℤ) → graph ≡ frame_body reading layout → reading.body.sites ≡ length reading.actions
+      → layout.taken ≡ taken → AreRising layout.taken → ((k : ℤ) → Contains taken k ↔ IsTaken reading calls k)
       → layout.saved ≡ saved → AreRising layout.saved → ((k : ℤ) → Contains saved k ↔ IsSaved reading k)
-      → IsFrameOf reading (record { layout = layout; reaching = λ site loc. defs_in reach site loc })
-  framed reading layout taken saved graph_is sites taken_is taken_rising are_taken saved_is saved_rising are_saved = record {
+      → IsFrameOf reading calls (record { layout = layout; reaching = λ site loc. defs_in reach site loc })
+  framed reading calls layout taken saved graph_is sites taken_is taken_rising are_taken saved_is saved_rising are_saved = record {
     taken_rising = taken_rising;
-    taken = λ k. subst (λ xs. Contains xs k ↔ IsTaken reading k) (sym taken_is) (are_taken k);
+    taken = λ k. subst (λ xs. Contains xs k ↔ IsTaken reading calls k) (sym taken_is) (are_taken k);
     saved_rising = saved_rising;
     saved = λ k. subst (λ xs. Contains xs k ↔ IsSaved reading k) (sym saved_is) (are_saved k);
     reaching = λ site loc less. subst (λ g. AreReaching g loc site (defs_in reach site loc)) graph_is (told site loc (inside site less));

@@ -4,6 +4,7 @@ mod Inserted
 mod Gathered
 mod Takings
 mod Asking
+mod Arguments
 mod Savings
 mod Storing
 mod Framed

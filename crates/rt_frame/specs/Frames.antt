@@ -13,6 +13,7 @@ use Rattle.rt_body.specs.declared.action.Address.{Address}
 use Rattle.rt_body.specs.declared.action.Width.{Width}
 use Rattle.rt_body.specs.declared.action.Width.TheVariants as width
 use Rattle.rt_body.specs.Readings.{Reading, action_at}
+use Rattle.rt_interface.specs.declared.call.Call.{Call}
 use Rattle.rt_frame.specs.declared.spot.Spot.{Spot}
 use Rattle.rt_frame.specs.declared.spot.Spot.TheVariants as spot
 use Rattle.rt_frame.specs.declared.question.Question.{Question}
@@ -27,11 +28,11 @@ IsOfFrame reading k (OfUse site register) =
 IsOfFrame reading k (OfDefinition def register) = def_value reading register def ≡ value.Frame k
 
 -- an object of the frame begins at an offset: a line speaks of it
-pub record IsTaken (reading : Reading) (k : ℤ) : Type 0 where
+pub record IsTaken (reading : Reading) (calls : List (List Call)) (k : ℤ) : Type 0 where
   pub site : ℕ
   pub within : site < length reading.actions
   pub question : Question
-  pub asked : Contains (questions reading site (action_at reading.actions site)) question
+  pub asked : Contains (questions reading calls site (action_at reading.actions site)) question
   pub is_of_frame : IsOfFrame reading k question
 
 -- the registers that are kept for the caller: ra, s0 to s11 (RISC-V psABI, "Integer Calling Convention")
@@ -135,10 +136,10 @@ pub record Frame : Type 0 where
 abbrev pub AreRising : List ℤ → Type 0
 AreRising offsets = AllPairs (λ a b. a <ℤ b) offsets
 
--- the frame is that of a procedure of which this is known
-pub record IsFrameOf (reading : Reading) (frame : Frame) : Type 0 where
+-- the frame is that of a procedure of which this is known, with these calls at its sites
+pub record IsFrameOf (reading : Reading) (calls : List (List Call)) (frame : Frame) : Type 0 where
   pub taken_rising : AreRising frame.layout.taken
-  pub taken : (k : ℤ) → Contains frame.layout.taken k ↔ IsTaken reading k
+  pub taken : (k : ℤ) → Contains frame.layout.taken k ↔ IsTaken reading calls k
   pub saved_rising : AreRising frame.layout.saved
   pub saved : (k : ℤ) → Contains frame.layout.saved k ↔ IsSaved reading k
   pub reaching : (site : ℕ) (loc : ℤ) → site < length reading.actions → AreReaching (frame_body reading frame.layout) loc site (frame.reaching site loc)

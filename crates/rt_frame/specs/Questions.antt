@@ -1,6 +1,6 @@
 -- Which variables the lines of a site speak of.
-use Rattle.std.specs.Prelude.{ℕ, ℤ, pos, ◌<◌, ◌==◌, ◌&&◌, ◌||◌, not, Bool, true, false, Option, Some, None, List, [], ◌∷◌, ◌++◌, map, if◌then◌else◌}
-use Rattle.std.specs.List.{list_any, list_all}
+use Rattle.std.specs.Prelude.{ℕ, ◌-◌, ℤ, pos, ◌<◌, nat_le, ◌==◌, ◌&&◌, ◌||◌, not, Bool, true, false, Option, Some, None, List, [], ◌∷◌, ◌++◌, map, flat_map, if◌then◌else◌, slice_index_or}
+use Rattle.std.specs.List.{filter, list_any, list_all}
 use Rattle.std.specs.Ordering.{int_eq}
 use Rattle.rt_flow.specs.declared.def.Def.{Def}
 use Rattle.rt_flow.specs.declared.def.Def.TheVariants.{Entry, At}
@@ -18,6 +18,10 @@ use Rattle.rt_body.specs.declared.action.Width.{Width}
 use Rattle.rt_body.specs.declared.action.Width.TheVariants as width
 use Rattle.rt_body.specs.Readings.{Reading, action_at}
 use Rattle.rt_body.specs.Told.{IsDefWithin}
+use Rattle.rt_proc.specs.declared.site.Callee.{Callee}
+use Rattle.rt_proc.specs.declared.site.Callee.TheVariants as callee
+use Rattle.rt_interface.specs.declared.call.Call.{Call}
+use Rattle.rt_interface.specs.Calls.{gives_result, taken_registers}
 use Rattle.rt_frame.specs.declared.addition.Addition.{Addition}
 use Rattle.rt_frame.specs.declared.addition.Addition.TheVariants.{IndexLeft, IndexRight, Indices, Untold}
 use Rattle.rt_frame.specs.declared.question.Question.{Question}
@@ -104,35 +108,66 @@ abbrev pub compute_questions : ℕ → Operation → ℕ → Option ℕ → List
 compute_questions site operation.LessUnsigned left right = []
 compute_questions site other left right = OfUse site left ∷ operand site right
 
--- a definition that an instruction of the procedure wrote
-abbrev pub is_real : Def → Bool
-is_real Entry = false
-is_real (At site) = true
+-- the calls that a site makes, or in which it goes on for good
+abbrev pub calls_at : List (List Call) → ℕ → List Call
+calls_at calls site = slice_index_or calls site []
 
--- the definitions of a result that reach a return, if one of them is real
-abbrev pub results : Reading → ℕ → ℕ → List Def
-results reading site register =
+-- an action is a call
+abbrev pub is_call_action : Action → Bool
+is_call_action (action.Call callee link) = true
+is_call_action other = false
+
+-- the callee of the first of some calls gives the result in a register
+abbrev pub first_gives : List Call → ℕ → Bool
+first_gives [] register = false
+first_gives (call ∷ calls) register = nat_le 10 register && gives_result call (register - 10)
+
+-- a definition of a result's register that an instruction wrote which is no call, or a call whose callee gives the result
+abbrev pub is_real : Reading → List (List Call) → ℕ → Def → Bool
+is_real reading calls register Entry = false
+is_real reading calls register (At site) = if is_call_action (action_at reading.actions site) then first_gives (calls_at calls site) register else true
+
+-- a definition that a return tells of: one of the entry, or a real one
+abbrev pub is_result : Reading → List (List Call) → ℕ → Def → Bool
+is_result reading calls register Entry = true
+is_result reading calls register (At site) = is_real reading calls register (At site)
+
+-- the definitions of a result that a return tells of, if a real one reaches it
+abbrev pub results : Reading → List (List Call) → ℕ → ℕ → List Def
+results reading calls site register =
     let defs = reading.reaching site register in
-    if list_any is_real defs then defs else []
+    if list_any (is_real reading calls register) defs then filter (is_result reading calls register) defs else []
 
-abbrev pub result_questions : Reading → ℕ → ℕ → List Question
-result_questions reading site register = map (λ def. OfDefinition def register) (results reading site register)
+abbrev pub result_questions : Reading → List (List Call) → ℕ → ℕ → List Question
+result_questions reading calls site register = map (λ def. OfDefinition def register) (results reading calls site register)
+
+-- what the lines of a call speak of: what is passed in each argument register that the callee takes, and what is called, where a register holds it
+abbrev pub target_questions : ℕ → Bool → Callee → List Question
+target_questions site true (callee.Unknown register) = OfUse site register ∷ []
+target_questions site is_plain other = []
+
+abbrev pub call_questions : ℕ → Call → List Question
+call_questions site call = target_questions site call.is_plain call.callee ++ map (λ register. OfUse site register) (taken_registers call)
 
 -- the data of a store of a word
 abbrev pub data_questions : ℕ → ℕ → Width → List Question
 data_questions site register width.Word = OfUse site register ∷ []
 data_questions site register other = []
 
--- what the lines of a site speak of; the frame's offset in an address is no part of that
-abbrev pub questions : Reading → ℕ → Action → List Question
-questions reading site (action.AddImmediate to from immediate) = if is_kept reading site to from immediate then OfUse site from ∷ [] else []
-questions reading site (action.Add to left right) = addition_questions site to left right (addition reading site left right)
-questions reading site (action.Load loaded to address) = address_questions reading site address
-questions reading site (action.Store width register address) = data_questions site register width ++ address_questions reading site address
-questions reading site (action.Compute operation to left right) = compute_questions site operation left right
-questions reading site (action.Compare left right) = OfUse site left ∷ OfUse site right ∷ []
-questions reading site action.Return = result_questions reading site 10 ++ result_questions reading site 11
-questions reading site other = []
+-- what the lines of an instruction speak of; the frame's offset in an address is no part of that
+abbrev pub action_questions : Reading → List (List Call) → ℕ → Action → List Question
+action_questions reading calls site (action.AddImmediate to from immediate) = if is_kept reading site to from immediate then OfUse site from ∷ [] else []
+action_questions reading calls site (action.Add to left right) = addition_questions site to left right (addition reading site left right)
+action_questions reading calls site (action.Load loaded to address) = address_questions reading site address
+action_questions reading calls site (action.Store width register address) = data_questions site register width ++ address_questions reading site address
+action_questions reading calls site (action.Compute operation to left right) = compute_questions site operation left right
+action_questions reading calls site (action.Compare left right) = OfUse site left ∷ OfUse site right ∷ []
+action_questions reading calls site action.Return = result_questions reading calls site 10 ++ result_questions reading calls site 11
+action_questions reading calls site other = []
+
+-- what the lines of a site speak of: those of its instruction, and those of its calls
+abbrev pub questions : Reading → List (List Call) → ℕ → Action → List Question
+questions reading calls site act = action_questions reading calls site act ++ flat_map (call_questions site) (calls_at calls site)
 
 -- a question of one of so many sites and of a register x0 to x31
 abbrev pub IsQuestionWithin : ℕ → Question → Type 0

@@ -1,16 +1,22 @@
 // What the lines of a site speak of.
-ghost use Rattle.std.specs.Prelude.{◌≡◌, ◌<◌, [], ◌∷◌, ◌++◌, if◌then◌else◌, ◌==◌, OnOk, IfOk, get_or, All};
+ghost use Rattle.std.specs.Prelude.{◌≡◌, ◌<◌, [], ◌∷◌, ◌++◌, if◌then◌else◌, ◌==◌, OnOk, IfOk, get_or, map, flat_map, All};
 ghost use Rattle.rt_body.specs.Readings.{action_at};
 ghost use Rattle.rt_body.specs.Registers.{HasAddressRegister, HasRegisters};
 ghost use Rattle.rt_body.specs.Told.{reading_of, sites_in};
-ghost use Rattle.rt_frame.specs.Questions.{addition_questions, address_questions, compute_questions, data_questions, questions, result_questions, IsQuestionWithin};
+ghost use Rattle.rt_interface.specs.Calls.{taken_registers, takes_register};
+ghost use Rattle.rt_frame.specs.Questions.{action_questions, addition_questions, address_questions, call_questions, compute_questions, data_questions, questions, result_questions, target_questions, IsQuestionWithin};
 
 use crate::addition::Addition;
 use crate::question::Question;
-use crate::questions::{addition, is_kept, is_multi, results};
+use crate::questions::{addition, calls_at, is_kept, is_multi, results};
 use rt_base::{Memory, Sequence};
 use rt_body::{Action, Address, Body, Operation, Width};
+use rt_interface::Call;
+use rt_proc::Callee;
 use std::alloc::Global;
+
+// The registers of arguments: a0 to a7 (RISC-V psABI, "Integer Calling Convention").
+const ARGUMENTS: [u8; 8] = [10, 11, 12, 13, 14, 15, 16, 17];
 
 // What is asked for.
 type Asked = Sequence<Question>;
@@ -98,22 +104,37 @@ fn ask_operands(
     }
 }
 
-// Asks for the definitions of a result that reach a return.
-fn ask_results(asked: &mut Asked, body: &Body, site: u32, register: u8) -> Result<(), Memory>
+// Asks for the definitions of a result of which a return tells.
+fn ask_results(
+    asked: &mut Asked,
+    alloc: Global,
+    body: &Body,
+    calls: &[Sequence<Call>],
+    site: u32,
+    register: u8,
+) -> Result<(), Memory>
     requires { site < sites_in body.now }
-    ensures { OnOk result (asked.new ≡ asked.old ++ result_questions (reading_of body.now) site register) }
+    ensures { OnOk result (asked.new ≡ asked.old ++ result_questions (reading_of body.now) calls.now site register) }
 {
-    for def in results(body, site, register) {
+    let defs = results(alloc, body, calls, site, register)?;
+    for def in &defs {
         asked.push(Question::OfDefinition(*def, register))?;
     }
     Ok(())
 }
 
-// Asks for what a site's action speaks of.
-fn ask_action(asked: &mut Asked, body: &Body, site: u32, action: Action) -> Result<(), Memory>
+// Asks for what the lines of a site's instruction speak of.
+fn ask_action(
+    asked: &mut Asked,
+    alloc: Global,
+    body: &Body,
+    calls: &[Sequence<Call>],
+    site: u32,
+    action: Action,
+) -> Result<(), Memory>
     requires site { site < sites_in body.now }
     requires registers { HasRegisters action }
-    ensures { OnOk result (asked.new ≡ asked.old ++ questions (reading_of body.now) site action) }
+    ensures { OnOk result (asked.new ≡ asked.old ++ action_questions (reading_of body.now) calls.now site action) }
 {
     match action {
         Action::AddImmediate {
@@ -150,19 +171,74 @@ fn ask_action(asked: &mut Asked, body: &Body, site: u32, action: Action) -> Resu
             ask(asked, site, right)
         }
         Action::Return => {
-            ask_results(asked, body, site, 10)?;
-            ask_results(asked, body, site, 11)
+            ask_results(asked, alloc, body, calls, site, 10)?;
+            ask_results(asked, alloc, body, calls, site, 11)
         }
         _ => Ok(()),
     }
 }
 
-/// What the lines of a site speak of. The error is want of memory.
-pub(crate) fn asked(alloc: Global, body: &Body, site: u32) -> Result<Sequence<Question>, Memory>
+// Asks for what is called, where a register holds it.
+fn ask_target(asked: &mut Asked, site: u32, call: &Call) -> Result<(), Memory>
+    ensures { OnOk result (asked.new ≡ asked.old ++ target_questions site call.now.is_plain call.now.callee) }
+{
+    match call.callee {
+        Callee::Unknown(register) if call.is_plain => ask(asked, site, register),
+        _ => Ok(()),
+    }
+}
+
+// Asks for what is passed in an argument register, if the callee takes it.
+fn ask_argument(asked: &mut Asked, site: u32, call: &Call, register: u8) -> Result<(), Memory>
+    ensures { OnOk result (asked.new ≡ asked.old ++ (if takes_register call.now register then Question.OfUse site register ∷ [] else [])) }
+{
+    if call.takes_register(register) {
+        ask(asked, site, register)?;
+    }
+    Ok(())
+}
+
+// Asks for what is passed in each argument register that the callee takes.
+fn ask_arguments(asked: &mut Asked, site: u32, call: &Call) -> Result<(), Memory>
+    ensures { OnOk result (asked.new ≡ asked.old ++ map (λ register. Question.OfUse site register) (taken_registers call.now)) }
+{
+    for register in &ARGUMENTS {
+        ask_argument(asked, site, call, *register)?;
+    }
+    Ok(())
+}
+
+// Asks for what the lines of a call speak of.
+fn ask_call(asked: &mut Asked, site: u32, call: &Call) -> Result<(), Memory>
+    ensures { OnOk result (asked.new ≡ asked.old ++ call_questions site call.now) }
+{
+    ask_target(asked, site, call)?;
+    ask_arguments(asked, site, call)
+}
+
+// Asks for what the lines of each of some calls speak of.
+fn ask_calls(asked: &mut Asked, site: u32, calls: &[Call]) -> Result<(), Memory>
+    ensures { OnOk result (asked.new ≡ asked.old ++ flat_map (call_questions site) calls.now) }
+{
+    for call in calls {
+        ask_call(asked, site, call)?;
+    }
+    Ok(())
+}
+
+/// What the lines of a site speak of: those of its instruction, and those of its calls. The error is want of memory.
+pub(crate) fn asked(
+    alloc: Global,
+    body: &Body,
+    calls: &[Sequence<Call>],
+    site: u32,
+) -> Result<Sequence<Question>, Memory>
     requires { site < sites_in body.now }
-    ensures { IfOk result (λ asked. asked ≡ questions (reading_of body.now) site (action_at (reading_of body.now).actions site)) }
+    ensures { IfOk result (λ asked. asked ≡ questions (reading_of body.now) calls.now site (action_at (reading_of body.now).actions site)) }
 {
     let mut asked = Sequence::new(alloc);
-    ask_action(&mut asked, body, site, body.actions()[site as usize])?;
+    let action = body.actions()[site as usize];
+    ask_action(&mut asked, alloc, body, calls, site, action)?;
+    ask_calls(&mut asked, site, calls_at(calls, site))?;
     Ok(asked)
 }

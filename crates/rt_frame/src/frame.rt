@@ -13,6 +13,7 @@ use crate::taken::taken;
 use rt_base::{Memory, Sequence};
 use rt_body::Body;
 use rt_flow::{Def, Reach, reaching};
+use rt_interface::Call;
 use std::alloc::Global;
 
 /// The frame of a procedure.
@@ -31,18 +32,20 @@ pub struct Frame {
 
 impl Frame {
     ghost use Rattle.rt_body.specs.Told.{reading_of, sites_in};
+    ghost use Rattle.rt_interface.specs.Calls.{HasCallRegister};
     ghost use Rattle.rt_frame.specs.Frames.{IsFrameOf, spot_at};
     ghost use Rattle.rt_frame.specs.Told.{layout_of, frame_of, frame_sites};
 
-    /// The frame of a procedure. The error is want of memory.
+    /// The frame of a procedure, with what is known of the calls of each of its sites. The error is want of memory.
     ///
-    /// Time and memory are those of [`rt_flow::reaching`], and besides linear in sites and in the definitions that reach uses of
-    /// several values, but for logarithms.
-    pub fn of(alloc: Global, body: &Body) -> Result<Frame, Memory>
-        ensures of { IfOk result (λ frame. IsFrameOf (reading_of body.now) (frame_of frame)) }
+    /// Time and memory are those of [`rt_flow::reaching`], and besides linear in sites, in calls and in the definitions that reach
+    /// returns and uses of several values, but for logarithms.
+    pub fn of(alloc: Global, body: &Body, calls: &[Sequence<Call>]) -> Result<Frame, Memory>
+        requires registers { All (All HasCallRegister) calls.now }
+        ensures of { IfOk result (λ frame. IsFrameOf (reading_of body.now) calls.now (frame_of frame)) }
         ensures sites { IfOk result (λ frame. frame_sites frame ≡ sites_in body.now) }
     {
-        let taken = taken(alloc, body)?.rising(alloc)?;
+        let taken = taken(alloc, body, calls)?.rising(alloc)?;
         let saved = saved(alloc, body)?.rising(alloc)?;
         let graph = stored(alloc, body, taken.items(), saved.items())?;
         let reach = reaching(alloc, &graph)?;

@@ -1,14 +1,17 @@
 //! Questions about the registers of a body: what the lines of its sites speak of.
-ghost use Rattle.std.specs.Prelude.{◌≡◌, ◌<◌, All};
+ghost use Rattle.std.specs.Prelude.{◌≡◌, ◌<◌, All, IfOk};
 ghost use Rattle.std.specs.List.{list_any};
 ghost use Rattle.rt_body.specs.Registers.{HasAddressRegister};
 ghost use Rattle.rt_body.specs.Told.{reading_of, sites_in, IsDefWithin};
-ghost use Rattle.rt_frame.specs.Questions.{addition, address_value, def_value, is_const, is_at, is_index, is_kept, is_multi, is_real, is_scaled_by, reaches_itself, results, scales};
+ghost use Rattle.rt_frame.specs.Questions.{addition, address_value, calls_at, def_value, first_gives, is_call_action, is_const, is_at, is_index, is_kept, is_multi, is_real, is_result, is_scaled_by, reaches_itself, results, scales};
 
 use crate::addition::Addition;
+use rt_base::{Memory, Sequence};
 use rt_body::{Action, Address, Body, Operation};
 use rt_flow::Def;
+use rt_interface::Call;
 use rt_track::Value;
+use std::alloc::Global;
 
 /// The value of a definition of a register.
 pub fn def_value(body: &Body, register: u8, def: Def) -> Value
@@ -133,27 +136,91 @@ pub fn addition(body: &Body, site: u32, left: u8, right: u8) -> Addition
     }
 }
 
-// Whether an instruction of the procedure wrote a definition.
-fn is_real(def: Def) -> bool
-    ensures { result ≡ is_real def }
+/// The calls of a site: those that it makes, and then those in which it goes on for good; none where nothing is told of it.
+pub fn calls_at(calls: &[Sequence<Call>], site: u32) -> &[Call]
+    ensures { result.now ≡ calls_at calls.now site }
 {
-    matches!(def, Def::At(_))
+    match calls.get(site as usize) {
+        Some(here) => here.items(),
+        None => &[],
+    }
+}
+
+// Whether an action is a call.
+fn is_call_action(action: Action) -> bool
+    ensures { result ≡ is_call_action action }
+{
+    matches!(action, Action::Call { .. })
+}
+
+// Whether the callee of the first of some calls gives the result in a register.
+fn first_gives(calls: &[Call], register: u8) -> bool
+    ensures { result ≡ first_gives calls.now register }
+{
+    match calls.first() {
+        Some(call) => 10 <= register && call.gives_result(register - 10),
+        None => false,
+    }
+}
+
+// Whether a definition of a result's register is real: an instruction wrote it that is no call, or a call whose callee gives the
+// result.
+fn is_real(body: &Body, calls: &[Sequence<Call>], register: u8, def: Def) -> bool
+    requires { IsDefWithin (sites_in body.now) def }
+    ensures { result ≡ is_real (reading_of body.now) calls.now register def }
+{
+    match def {
+        Def::Entry => false,
+        Def::At(site) => {
+            !is_call_action(body.actions()[site as usize])
+                || first_gives(calls_at(calls, site), register)
+        }
+    }
 }
 
 // Whether one of definitions is real.
-fn has_real(defs: &[Def]) -> bool
-    ensures { result ≡ list_any is_real defs.now }
+fn has_real(body: &Body, calls: &[Sequence<Call>], register: u8, defs: &[Def]) -> bool
+    requires { All (IsDefWithin (sites_in body.now)) defs.now }
+    ensures { result ≡ list_any (is_real (reading_of body.now) calls.now register) defs.now }
 {
-    defs.iter().any(|def| is_real(*def))
+    for def in defs {
+        if is_real(body, calls, register, *def) {
+            return true;
+        }
+    }
+    false
 }
 
-/// The definitions of a result that reach a return, Entry first and then sites rising; none if no instruction of the
-/// procedure wrote one of them. It takes no memory.
-pub fn results(body: &Body, site: u32, register: u8) -> &[Def]
-    requires { site < sites_in body.now }
-    ensures value { result.now ≡ results (reading_of body.now) site register }
-    ensures within { All (IsDefWithin (sites_in body.now)) result.now }
+// Whether a return tells of a definition: it is that of the entry, or a real one.
+fn is_result(body: &Body, calls: &[Sequence<Call>], register: u8, def: Def) -> bool
+    requires { IsDefWithin (sites_in body.now) def }
+    ensures { result ≡ is_result (reading_of body.now) calls.now register def }
 {
+    def == Def::Entry || is_real(body, calls, register, def)
+}
+
+/// The definitions of a result of which a return tells, Entry first and then sites rising; none if no real one reaches it: none that
+/// an instruction wrote that is no call, or a call whose callee gives the result. The error is want of memory.
+pub fn results(
+    alloc: Global,
+    body: &Body,
+    calls: &[Sequence<Call>],
+    site: u32,
+    register: u8,
+) -> Result<Vec<Def>, Memory>
+    requires { site < sites_in body.now }
+    ensures value { IfOk result (λ defs. defs.items ≡ results (reading_of body.now) calls.now site register) }
+    ensures within { IfOk result (λ defs. All (IsDefWithin (sites_in body.now)) defs.items) }
+{
+    let mut results = Vec::new(alloc);
     let defs = body.reaching(site, register);
-    if has_real(defs) { defs } else { &[] }
+    if !has_real(body, calls, register, defs) {
+        return Ok(results);
+    }
+    for def in defs {
+        if is_result(body, calls, register, *def) {
+            results.push(*def)?;
+        }
+    }
+    Ok(results)
 }

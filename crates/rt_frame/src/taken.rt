@@ -1,7 +1,8 @@
 // The offsets at which objects begin.
-ghost use Rattle.std.specs.Prelude.{◌≡◌, ◌<◌, ◌↔◌, ℤ, Contains, IfOk, OnOk};
+ghost use Rattle.std.specs.Prelude.{◌≡◌, ◌<◌, ◌↔◌, ℤ, All, Contains, IfOk, OnOk};
 ghost use Rattle.rt_body.specs.Readings.{action_at};
 ghost use Rattle.rt_body.specs.Told.{reading_of, sites_in, IsDefWithin};
+ghost use Rattle.rt_interface.specs.Calls.{HasCallRegister};
 ghost use Rattle.rt_frame.specs.Frames.{IsOfFrame, IsTaken};
 ghost use Rattle.rt_frame.specs.Gathering.{Among, Gains};
 ghost use Rattle.rt_frame.specs.Questions.{def_value, questions, IsQuestionWithin};
@@ -10,9 +11,10 @@ use crate::asked::asked;
 use crate::offsets::Offsets;
 use crate::question::Question;
 use crate::questions::def_value;
-use rt_base::Memory;
+use rt_base::{Memory, Sequence};
 use rt_body::Body;
 use rt_flow::Def;
+use rt_interface::Call;
 use rt_track::Value;
 use std::alloc::Global;
 
@@ -57,11 +59,18 @@ fn take_question(taken: &mut Offsets, body: &Body, question: Question) -> Result
 }
 
 // Adds the offsets that the questions of a site ask for.
-fn take_site(taken: &mut Offsets, alloc: Global, body: &Body, site: u32) -> Result<(), Memory>
-    requires { site < sites_in body.now }
-    ensures { OnOk result (Gains taken.old taken.new (Among (questions (reading_of body.now) site (action_at (reading_of body.now).actions site)) (λ question k. IsOfFrame (reading_of body.now) k question))) }
+fn take_site(
+    taken: &mut Offsets,
+    alloc: Global,
+    body: &Body,
+    calls: &[Sequence<Call>],
+    site: u32,
+) -> Result<(), Memory>
+    requires site { site < sites_in body.now }
+    requires registers { All (All HasCallRegister) calls.now }
+    ensures { OnOk result (Gains taken.old taken.new (Among (questions (reading_of body.now) calls.now site (action_at (reading_of body.now).actions site)) (λ question k. IsOfFrame (reading_of body.now) k question))) }
 {
-    let questions = asked(alloc, body, site)?;
+    let questions = asked(alloc, body, calls, site)?;
     for question in questions.items() {
         take_question(taken, body, *question)?;
     }
@@ -69,12 +78,13 @@ fn take_site(taken: &mut Offsets, alloc: Global, body: &Body, site: u32) -> Resu
 }
 
 /// The offsets of the frame at which objects begin. The error is want of memory.
-pub(crate) fn taken(alloc: Global, body: &Body) -> Result<Offsets, Memory>
-    ensures { IfOk result (λ taken. (k : ℤ) → Contains taken k ↔ IsTaken (reading_of body.now) k) }
+pub(crate) fn taken(alloc: Global, body: &Body, calls: &[Sequence<Call>]) -> Result<Offsets, Memory>
+    requires { All (All HasCallRegister) calls.now }
+    ensures { IfOk result (λ taken. (k : ℤ) → Contains taken k ↔ IsTaken (reading_of body.now) calls.now k) }
 {
     let mut taken = Offsets::new(alloc);
     for site in 0..body.actions().len() as u32 {
-        take_site(&mut taken, alloc, body, site)?;
+        take_site(&mut taken, alloc, body, calls, site)?;
     }
     Ok(taken)
 }

@@ -1,14 +1,18 @@
 // Frames of procedures that are laid out by hand, and places of accesses by a plain search.
-ghost use Rattle.std.specs.Prelude.{◌≡◌, [], ◌∷◌, IfOk};
+ghost use Rattle.std.specs.Prelude.{◌≡◌, [], ◌∷◌, All, IfOk};
 ghost use Rattle.rt_elf.specs.Object.{IsInFile, IsLinkable};
+ghost use Rattle.rt_interface.specs.Calls.{HasCallRegister};
 
 use crate::offsets::Offsets;
+use crate::questions::results;
 use crate::spot::spot_in;
 use crate::{Frame, Spot};
-use rt_base::{Bytes, Memory};
+use rt_base::{Bytes, Memory, Sequence};
 use rt_body::{Body, Symbols};
 use rt_elf::{Object, Symbol};
 use rt_flow::Def;
+use rt_interface::Call;
+use rt_proc::Callee;
 use std::alloc::{AllocError, Global};
 use std::test::Fail;
 
@@ -170,6 +174,59 @@ const REACHING: [(Code, u32, i64, &[Def]); 13] = [
     (HIGHEST, 4, -2147483648, &[Def::Entry]),
 ];
 
+// A procedure that passes two addresses, of -12 in a0 and of -8 in a1, to what a5 holds:
+//    0: addi sp, sp, -16
+//    4: addi a0, sp, 4
+//    8: addi a1, sp, 8
+//   12: jalr ra, 0(a5)
+//   16: addi sp, sp, 16
+//   20: ret
+const PASSES: Code = [
+    0xFF010113, 0x00410513, 0x00810593, 0x000780E7, 0x01010113, RET, RET, RET, RET, RET, RET, RET,
+];
+
+// Whether the callee takes a0 and a1, an offset, and where an access at it goes.
+const PASSED: [([bool; 2], i32, Spot); 4] = [
+    ([false, false], -8, Spot::Location(-8)),
+    (
+        [true, false],
+        -8,
+        Spot::OnObject {
+            start: -12,
+            distance: 4,
+        },
+    ),
+    ([false, true], -12, Spot::Location(-12)),
+    (
+        [true, true],
+        -8,
+        Spot::OnObject {
+            start: -8,
+            distance: 0,
+        },
+    ),
+];
+
+// A procedure that may call what a5 holds:
+//    0: addi sp, sp, -16
+//    4: sw ra, 12(sp)
+//    8: beq a0, x0, 16
+//   12: jalr ra, 0(a5)
+//   16: lw ra, 12(sp)
+//   20: addi sp, sp, 16
+//   24: ret
+const CALLS: Code = [
+    0xFF010113, 0x00112623, 0x00050463, 0x000780E7, 0x00C12083, 0x01010113, RET, RET, RET, RET,
+    RET, RET,
+];
+
+// Whether the callee gives a0 and a1, one of these registers, and its definitions of which the return tells.
+const GIVEN: [([bool; 2], u8, &[Def]); 3] = [
+    ([true, false], 10, &[Def::Entry, Def::At(3)]),
+    ([true, false], 11, &[]),
+    ([false, true], 11, &[Def::Entry, Def::At(3)]),
+];
+
 // The function `f` at the start of the code.
 fn function(alloc: Global) -> Result<Symbol, Memory>
     ensures { IfOk result (λ symbol. symbol ≡ record { name = 102 ∷ []; value = 0; size = 0; bind = 1; kind = 2; section = 1 }) }
@@ -194,8 +251,8 @@ fn object(alloc: Global, code: &Code) -> Result<Object, Fail>
     Ok(rt_elf::read(alloc, bytes.as_slice())?)
 }
 
-// The frame of its procedure.
-fn frame(alloc: Global, code: &Code) -> Result<Frame, Fail> {
+// The body of its procedure.
+fn body(alloc: Global, code: &Code) -> Result<Body, Fail> {
     let object = object(alloc, code)?;
     let links = rt_link::resolve(alloc, &object)?;
     let procs = rt_proc::find(alloc, &object, &links)?;
@@ -206,8 +263,40 @@ fn frame(alloc: Global, code: &Code) -> Result<Frame, Fail> {
         return Err(Fail::from(AllocError));
     }
     let proc = &procs[0];
-    let body = Body::read(alloc, &object, &links, &symbols, proc)?;
-    Ok(Frame::of(alloc, &body)?)
+    Ok(Body::read(alloc, &object, &links, &symbols, proc)?)
+}
+
+// The frame of its procedure, which calls nothing.
+fn frame(alloc: Global, code: &Code) -> Result<Frame, Fail> {
+    let body = body(alloc, code)?;
+    Ok(Frame::of(alloc, &body, &[])?)
+}
+
+// A call of what a5 holds, whose callee takes some of a0 and a1, and gives some of them.
+fn call(takes: [bool; 2], gives: [bool; 2]) -> Call
+    ensures { HasCallRegister result }
+{
+    Call {
+        callee: Callee::Unknown(15),
+        takes: [takes[0], takes[1], false, false, false, false, false, false],
+        gives,
+        is_plain: true,
+    }
+}
+
+// The calls of four sites, of which the last makes one.
+fn calls(alloc: Global, call: Call) -> Result<[Sequence<Call>; 4], Memory>
+    requires { HasCallRegister call }
+    ensures { IfOk result (λ calls. All (All HasCallRegister) calls) }
+{
+    let mut here = Sequence::new(alloc);
+    here.push(call)?;
+    Ok([
+        Sequence::new(alloc),
+        Sequence::new(alloc),
+        Sequence::new(alloc),
+        here,
+    ])
 }
 
 #[test]
@@ -225,6 +314,29 @@ fn finds_stores_of_bytes(rt: HostRuntime) -> Result<(), Fail> {
         let frame = frame(rt.alloc(), code)?;
         assert!(rt; *site < frame.sites());
         assert_eq!(rt; frame.reaching(*site, BYTE.wrapping_add(*k)), *defs);
+    }
+    Ok(())
+}
+
+#[test]
+fn finds_objects_that_are_passed(rt: HostRuntime) -> Result<(), Fail> {
+    for (takes, k, spot) in &PASSED {
+        let body = body(rt.alloc(), &PASSES)?;
+        let calls = calls(rt.alloc(), call(*takes, [false, false]))?;
+        let frame = Frame::of(rt.alloc(), &body, &calls)?;
+        assert_eq!(rt; frame.spot(*k), *spot);
+    }
+    Ok(())
+}
+
+#[test]
+fn finds_results_of_callees(rt: HostRuntime) -> Result<(), Fail> {
+    for (gives, register, defs) in &GIVEN {
+        let body = body(rt.alloc(), &CALLS)?;
+        let calls = calls(rt.alloc(), call([false, false], *gives))?;
+        assert!(rt; body.actions().len() == 7);
+        let found = results(rt.alloc(), &body, &calls, 6, *register)?;
+        assert_eq!(rt; found.as_slice(), *defs);
     }
     Ok(())
 }

@@ -1,7 +1,9 @@
 -- Which constants and bases the lines of rows name.
 use Rattle.std.proofs.Common.{◌≡◌, ℕ, ◌⊎◌, inl, inr, List, [], map, get_or, flat_map, All, Contains, refl, sym, ap, subst, ◌∙◌}
+use Rattle.std.specs.Prelude.{Bool, true, false, ◌&&◌, IsTrue}
 use Rattle.std.proofs.Math.ListN.{get_or-map}
 use Rattle.std.proofs.lemmas.List.Elements.{All-map}
+use Rattle.rt_terms.specs.declared.label.Label.{Label}
 use Rattle.rt_terms.specs.declared.variable.Base.{Base}
 use Rattle.rt_terms.specs.declared.variable.Dtv.{Dtv}
 use Rattle.rt_terms.specs.declared.line.Line.{Line}
@@ -9,14 +11,16 @@ use Rattle.rt_terms.specs.Lines.{HasConstantsBelow}
 use Rattle.rt_rules.specs.Rules.{HasSide}
 use Rattle.rt_rules.specs.Laws.{NamesBase}
 use Rattle.rt_rules.proofs.Lists.{Contains-map_source}
+use Rattle.rt_split.specs.Splitting.{AreInterfaceLines, is_interface_line, is_interface_side, is_interface_variable}
 use Rattle.rt_numbering.specs.Numbering.{deduplicated}
 use Rattle.rt_numbering.proofs.Deduplicating.{deduplicated-all, deduplicated-source}
 use Rattle.rt_rows.specs.declared.name.Name.{Name}
 use Rattle.rt_rows.specs.declared.row.Root.{Root}
-use Rattle.rt_rows.specs.declared.row.Root.TheVariants.{Proc, Global, Named}
+use Rattle.rt_rows.specs.declared.row.Root.TheVariants.{Proc, Global, Outer, Named}
 use Rattle.rt_rows.specs.declared.row.Row.{Row}
-use Rattle.rt_rows.specs.declared.row.Row.TheVariants.{Var, Sub, Low, Up}
-use Rattle.rt_rows.specs.Terms.{HasConstantBelow, HasRoot, IsBaseOf, NamesRoot, group_lines, line_of, lines_by, names_of, root_base}
+use Rattle.rt_rows.specs.declared.row.Row.TheVariants.{Var, Same, Sub, Low, Up}
+use Rattle.rt_rows.specs.declared.row.Term.{Term}
+use Rattle.rt_rows.specs.Terms.{HasConstantBelow, HasRoot, IsBaseOf, IsGroupRow, IsGroupTerm, NamesRoot, group_lines, is_group_side, line_of, lines_by, names_of, root_base, variable_of}
 
 -- the names of some lists of rows together
 abbrev group_names : List (List Row) → List Name
@@ -26,6 +30,7 @@ group_names lists = names_of (flat_map (λ rows. rows) lists)
 
 line_constants : (count : ℕ) (names : List Name) (row : Row) → HasConstantBelow count row → HasConstantsBelow count (line_of names row)
 line_constants count names (Var x) h = h
+line_constants count names (Same x y) h = h
 line_constants count names (Sub x y) h = h
 line_constants count names (Low k x) h = h
 line_constants count names (Up x k) h = h
@@ -41,11 +46,51 @@ group-constants count lists h =
     All-map (All (HasConstantsBelow count)) (λ rows. deduplicated (lines_by (group_names lists) rows)) lists
     (λ k d lt. list_constants count (group_names lists) (get_or lists k d) (h k d lt))
 
+-- Interfaces.
+
+group_side : (names : List Name) (r : Root) (word : List Label) → IsTrue (is_group_side r word) → IsTrue (is_interface_side (root_base names r) word)
+group_side names (Proc p) word h = h
+group_side names (Global g) word h = h
+group_side names (Outer n) word h = h
+group_side names (Named name) word h = h
+
+two : (a b : Bool) → IsTrue a → IsTrue b → IsTrue (a && b)
+two true b h k = k
+two false b h k = h
+
+group_term : (names : List Name) (x : Term) → IsGroupTerm x → IsTrue (is_interface_variable (variable_of names x))
+group_term names x h = group_side names x.root x.word h
+
+group_terms : (names : List Name) (x y : Term) → IsGroupTerm x → IsGroupTerm y
+    → IsTrue (is_interface_variable (variable_of names x) && is_interface_variable (variable_of names y))
+group_terms names x y h k =
+    two (is_interface_variable (variable_of names x)) (is_interface_variable (variable_of names y)) (group_term names x h) (group_term names y k)
+
+group_line : (names : List Name) (row : Row) → IsGroupRow row → IsTrue (is_interface_line (line_of names row))
+group_line names (Var x) h = group_term names x h
+group_line names (Same x y) h = group_terms names x y h.0 h.1
+group_line names (Sub x y) h = group_terms names x y h.0 h.1
+group_line names (Low k x) h = group_term names x h
+group_line names (Up x k) h = group_term names x h
+
+list_interfaces : (names : List Name) (rows : List Row) → All IsGroupRow rows → AreInterfaceLines (deduplicated (lines_by names rows))
+list_interfaces names rows h =
+    deduplicated-all (λ line. IsTrue (is_interface_line line)) (lines_by names rows)
+    (All-map (λ line. IsTrue (is_interface_line line)) (line_of names) rows (λ k d lt. group_line names (get_or rows k d) (h k d lt)))
+
+-- the lines have the form of an interface's where the rows have that of a group's
+pub group-interfaces : (lists : List (List Row)) → All (All IsGroupRow) lists → All AreInterfaceLines (group_lines lists)
+group-interfaces lists h =
+    All-map AreInterfaceLines (λ rows. deduplicated (lines_by (group_names lists) rows)) lists
+    (λ k d lt. list_interfaces (group_names lists) (get_or lists k d) (h k d lt))
+
 -- Bases.
 
 -- a side of a row's line is of a root of the row
 side_root : (names : List Name) (row : Row) (x : Dtv) → HasSide (line_of names row) x → (r : Root) × HasRoot row r × (root_base names r ≡ x.base)
 side_root names (Var y) x e = (y.root, refl, ap (λ v. v.base) e)
+side_root names (Same y z) x (inl e) = (y.root, inl refl, ap (λ v. v.base) e)
+side_root names (Same y z) x (inr e) = (z.root, inr refl, ap (λ v. v.base) e)
 side_root names (Sub y z) x (inl e) = (y.root, inl refl, ap (λ v. v.base) e)
 side_root names (Sub y z) x (inr e) = (z.root, inr refl, ap (λ v. v.base) e)
 side_root names (Low k y) x e = (y.root, refl, ap (λ v. v.base) e)
@@ -54,6 +99,7 @@ side_root names (Up y k) x e = (y.root, refl, ap (λ v. v.base) e)
 base_root : (names : List Name) (rows : List Row) (r : Root) (b : Base) → NamesRoot rows r → root_base names r ≡ b → IsBaseOf rows b
 base_root names rows (Proc p) b h e = subst (IsBaseOf rows) e h
 base_root names rows (Global g) b h e = subst (IsBaseOf rows) e h
+base_root names rows (Outer n) b h e = subst (IsBaseOf rows) e h
 base_root names rows (Named name) b h e = subst (IsBaseOf rows) e tt
 
 list_bases : (names : List Name) (rows : List Row) (b : Base) → NamesBase (deduplicated (lines_by names rows)) b → IsBaseOf rows b

@@ -1,7 +1,15 @@
 // What existentials stand for.
+use rt_terms::Label;
 
-/// What an existential of a group's lines stands for, in the procedure of a number: a definition of a register by a site, the
-/// definitions of a register that reach a site together, or the object of the frame that begins at an offset.
+/// What an existential of a group's lines stands for, in the procedure of a number.
+///
+/// - Definition: what a site writes into a register.
+/// - Merge: what the definitions of a register that reach a site bring there together.
+/// - Object: the object of the frame that begins at an offset.
+/// - Port: the argument or result of a label, in the instance that a call of a site, by its number among the site's calls, makes of a
+///   scheme.
+/// - Inner: another existential of that instance, by its number there.
+/// - Result: the result of a call of which nothing is known.
 #[derive(Clone, Copy, Debug, PartialEq, Eq, Hash)]
 pub enum Name {
     Definition {
@@ -17,5 +25,22 @@ pub enum Name {
     Object {
         procedure: u32,
         start: i32,
+    },
+    Port {
+        procedure: u32,
+        site: u32,
+        call: u32,
+        label: Label,
+    },
+    Inner {
+        procedure: u32,
+        site: u32,
+        call: u32,
+        number: u32,
+    },
+    Result {
+        procedure: u32,
+        site: u32,
+        call: u32,
     },
 }

@@ -5,7 +5,8 @@ ghost use Rattle.rt_terms.specs.declared.variable.Base.{Base};
 ghost use Rattle.rt_terms.specs.Lines.{HasConstantsBelow};
 ghost use Rattle.rt_rules.specs.Laws.{NamesBase};
 ghost use Rattle.rt_numbering.specs.Numbering.{deduplicated};
-ghost use Rattle.rt_rows.specs.Terms.{HasConstantBelow, IsBaseOf, group_lines, line_of, lines_by, name_eq, names_of, root_base, root_names, row_names, variable_of};
+ghost use Rattle.rt_split.specs.Splitting.{AreInterfaceLines};
+ghost use Rattle.rt_rows.specs.Terms.{HasConstantBelow, IsBaseOf, IsGroupRow, group_lines, line_of, lines_by, name_eq, names_of, root_base, root_names, row_names, variable_of};
 
 use crate::name::Name;
 use crate::row::{Root, Row, Rows, Term};
@@ -21,6 +22,7 @@ use std::alloc::{AllocError, Global};
 pub fn group_lines(alloc: Global, lists: Vec<Rows>) -> Result<Vec<Lines>, Memory>
     ensures lines { IfOk result (λ numbered. numbered.items ≡ group_lines lists.items) }
     ensures constants { IfOk result (λ numbered. (count : ℕ) → All (All (HasConstantBelow count)) lists.items → All (All (HasConstantsBelow count)) numbered.items) }
+    ensures interfaces { IfOk result (λ numbered. All (All IsGroupRow) lists.items → All AreInterfaceLines numbered.items) }
     ensures bases { IfOk result (λ numbered. (i : ℕ) (b : Base) → NamesBase (get_or numbered.items i []) b → IsBaseOf (get_or lists.items i []) b) }
 {
     let names = names_of(alloc, &lists)?;
@@ -65,7 +67,7 @@ fn note_row(names: &mut IndexSet<Name>, row: &Row) -> Result<(), AllocError>
 {
     match row {
         Row::Var(x) | Row::Low(_, x) | Row::Up(x, _) => note(names, x.root),
-        Row::Sub(x, y) => {
+        Row::Same(x, y) | Row::Sub(x, y) => {
             note(names, x.root)?;
             note(names, y.root)
         }
@@ -81,7 +83,7 @@ fn note(names: &mut IndexSet<Name>, root: Root) -> Result<(), AllocError>
             names.insert(name)?;
             Ok(())
         }
-        Root::Proc(_) | Root::Global(_) => Ok(()),
+        Root::Proc(_) | Root::Global(_) | Root::Outer(_) => Ok(()),
     }
 }
 
@@ -101,6 +103,7 @@ fn line_of(names: &IndexSet<Name>, row: Row) -> Result<Line, AllocError>
 {
     match row {
         Row::Var(x) => Ok(Line::Var(variable_of(names, x)?)),
+        Row::Same(x, y) => Ok(Line::Same(variable_of(names, x)?, variable_of(names, y)?)),
         Row::Sub(x, y) => Ok(Line::Sub(variable_of(names, x)?, variable_of(names, y)?)),
         Row::Low(k, x) => Ok(Line::Low(k, variable_of(names, x)?)),
         Row::Up(x, k) => Ok(Line::Up(variable_of(names, x)?, k)),
@@ -124,6 +127,7 @@ fn base_of(names: &IndexSet<Name>, root: Root) -> Result<Base, AllocError>
     match root {
         Root::Proc(procedure) => Ok(Base::Proc(procedure)),
         Root::Global(symbol) => Ok(Base::Global(symbol)),
+        Root::Outer(number) => Ok(Base::Outer(number)),
         Root::Named(name) => {
             let place = names.get_index_of(&name).unwrap_or(names.len());
             match u32::try_from(place) {

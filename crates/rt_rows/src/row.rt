@@ -9,13 +9,15 @@ use rt_base::{Copied, Memory, Sequence};
 use rt_terms::{Label, Word};
 use std::alloc::{AllocError, Global};
 
-/// What a term belongs to: a procedure, a global, or what an existential stands for.
+/// What a term belongs to: a procedure, a global, a base of the outside, or what an existential stands for.
 #[derive(Clone, Copy, Debug, PartialEq, Eq)]
 pub enum Root {
     /// A procedure, by its number.
     Proc(u32),
     /// A global, by the index of its symbol in the object.
     Global(u32),
+    /// A base of the outside, by its number.
+    Outer(u32),
     /// What an existential stands for.
     Named(Name),
 }
@@ -34,6 +36,8 @@ pub struct Term {
 pub enum Row {
     /// The variable exists.
     Var(Term),
+    /// The two variables have one shape.
+    Same(Term, Term),
     /// The first variable is a subtype of the second.
     Sub(Term, Term),
     /// The constant is a lower bound of the variable.
@@ -52,7 +56,7 @@ impl Root {
     {
         match self {
             Root::Named(name) => Some(name),
-            Root::Proc(_) | Root::Global(_) => None,
+            Root::Proc(_) | Root::Global(_) | Root::Outer(_) => None,
         }
     }
 }
@@ -130,7 +134,7 @@ impl Row {
     {
         match self {
             Row::Var(x) | Row::Low(_, x) | Row::Up(x, _) => (x.root.name(), None),
-            Row::Sub(x, y) => (x.root.name(), y.root.name()),
+            Row::Same(x, y) | Row::Sub(x, y) => (x.root.name(), y.root.name()),
         }
     }
 }

@@ -1,6 +1,8 @@
 mod Lined
 mod Naming
+mod Placing
 mod Reporting
-mod Telling
+mod Stopping
+mod Wording
 pub mod Appending
 pub mod Refusing

@@ -1,72 +1,55 @@
 -- Reports of procedures.
-use Rattle.std.proofs.Common.{◌≡◌, ◌∙◌, ◌⊎◌, ◌↔◌, Bool, true, false, IsTrue, ℕ, ◌+◌, ◌<◌, List, [], ◌∷◌, ◌++◌, All, Ok, Err, Result, ap, arith, get_or, inl, inr, length, refl, subst, sym}
+use Rattle.std.proofs.Common.{◌≡◌, ◌∙◌, ◌⊎◌, ℕ, ◌+◌, ◌<◌, List, [], ◌∷◌, ◌++◌, All, Option, Some, None, Ok, Err, Result, ap, arith, get_or, inl, inr, length, refl, set, subst, sym}
 use Rattle.std.specs.Prelude.{IfOk}
 use Rattle.std.proofs.lemmas.Bool.{cases_order}
 use Rattle.std.proofs.lemmas.List.Elements.{All-append, All-cons, All-nil}
-use Rattle.std.proofs.lemmas.List.{get_or_append_left, get_or_default, get_or_push}
-use Rattle.rt_terms.specs.declared.variable.Base.{Base}
-use Rattle.rt_terms.specs.declared.variable.Base.TheVariants.{Global}
+use Rattle.std.proofs.lemmas.List.{get_or_append_left, get_or_default, get_or_push, get_or-set_other, get_or-set_same, length-set}
 use Rattle.rt_terms.specs.declared.line.Line.{Line}
 use Rattle.rt_terms.specs.Lines.{HasConstantsBelow}
-use Rattle.rt_terms.specs.Orders.{Below}
-use Rattle.rt_rules.specs.Alike.{Alike, is_inside_for}
-use Rattle.rt_rules.specs.Laws.{NamesBase}
-use Rattle.rt_lattice.specs.declared.roles.Roles.{Roles}
-use Rattle.rt_lattice.specs.Lattices.{NamedOrder, IsLatticeOf}
-use Rattle.rt_lattice.specs.Standard.{standard_file}
+use Rattle.rt_lattice.specs.Lattices.{NamedOrder, size_of}
 use Rattle.rt_elf.specs.declared.object.Object.{Object}
 use Rattle.rt_proc.specs.declared.proc.Proc.{Proc}
-use Rattle.rt_table.specs.Lists.{IsBaseOf}
+use Rattle.rt_sigs.specs.Signatures.{Signature}
+use Rattle.rt_table.specs.Lists.{HasGlobalsOf}
 use Rattle.rt_scheme.specs.declared.report.Entry.{Entry}
 use Rattle.rt_scheme.specs.declared.report.Report.{Report}
 use Rattle.rt_scheme.specs.Reports.{report_text}
-use Rattle.rt_solve.specs.Told.{IsExist}
+use Rattle.rt_run.specs.declared.analysis.Analysis.{Analysis}
 use Rattle.rt_run.specs.declared.content.Content.{Content}
-use Rattle.rt_run.specs.Readable.{IsCallFree}
+use Rattle.rt_run.specs.Analyses.{AreListsOf, AreToldOf, IsAnalysis, object_in, procs_in}
 use Rattle.rt_run.specs.Objects.{IsAnalysed}
-use Rattle.rt_run.specs.Globals.{AreGlobals, HasGlobalsOf}
-use Rattle.rt_run.specs.Reports.{AreConstraints, AreEntries, IsEntryOf, IsReportText, IsScheme, IsTold}
+use Rattle.rt_run.specs.Globals.{AreGlobals}
+use Rattle.rt_run.specs.Reports.{AreEntries, IsEntryOf, IsReportText, IsRight, IsTold}
 
--- the globals of the first list are symbols, where its bases are those of a procedure
-pub first_globals : (object : Object) (number : ℕ) (bodies items : List (List Line)) (first : List Line) → items ≡ bodies → 0 < length items → first ≡ get_or items 0 first
-    → ((i : ℕ) (base : Base) → i < 1 → NamesBase (get_or bodies i []) base → IsBaseOf (get_or (number ∷ []) i 0) (length object.symbols) base) → HasGlobalsOf object first
-first_globals object number bodies items first is some here bases =
-    let known : first ≡ get_or bodies 0 [] = here ∙ get_or_default items 0 first [] some ∙ ap (λ l. get_or l 0 []) is in
-    λ n names. bases 0 (Global n) (omega arith) (subst (λ lines. NamesBase lines (Global n)) known names)
+-- Lists.
 
--- Schemes.
+-- the lines at a place are taken away
+pub lists_taken : (told : Content) (analysis : Analysis) (lists lists' : List (Option (List Line))) (place : ℕ) → place < length lists → lists' ≡ set lists place None
+    → AreListsOf told analysis lists → AreListsOf told analysis lists'
+lists_taken told analysis lists lists' place within is before =
+    λ number lines here. by number lines (subst (λ l. get_or l number None ≡ Some lines) is here) (cases_order number place)
+  where
+    no : (lines : List Line) → None ≡ Some lines → ⊥
+    no lines e = cc
 
-pub scheme_told : (object : Object) (roles : Roles) (procs : List Proc) (number : ℕ) (lines : List Line) {E : Type 0} (settled : Result (List Line) E)
-    → AreConstraints object roles procs number lines
-    → IfOk settled (λ scheme. (order : Below) (p : ℕ) → Alike order (is_inside_for p) lines scheme)
-    → IfOk settled (IsScheme object roles procs number)
-scheme_told object roles procs number lines (Ok scheme) are alike = record { lines = lines; are_constraints = are; alike = λ order. alike order number }
-scheme_told object roles procs number lines (Err e) are alike = tt
-
-pub scheme_constants : (size : ℕ) (lines : List Line) {E : Type 0} (settled : Result (List Line) E)
-    → All (HasConstantsBelow size) lines
-    → IfOk settled (λ scheme. (count : ℕ) → All (HasConstantsBelow count) lines → All (HasConstantsBelow count) scheme)
-    → IfOk settled (All (HasConstantsBelow size))
-scheme_constants size lines (Ok scheme) few kept = kept size few
-scheme_constants size lines (Err e) few kept = tt
-
-pub scheme_globals : (object : Object) (lines : List Line) {E : Type 0} (settled : Result (List Line) E)
-    → HasGlobalsOf object lines
-    → IfOk settled (λ scheme. (b : Base) → NamesBase scheme b → IsExist b ⊎ NamesBase lines b)
-    → IfOk settled (HasGlobalsOf object)
-scheme_globals object lines (Ok scheme) globals bases =
-    λ n names. elim (bases (Global n) names) [ inl none ↦ absurd none | inr named ↦ globals n named ]
-scheme_globals object lines (Err e) globals bases = tt
+    by : (number : ℕ) (lines : List Line) → get_or (set lists place None) number None ≡ Some lines → (number ≡ place) ⊎ ((number < place) ⊎ (place < number))
+        → AreToldOf told (object_in analysis) analysis.lattice.now analysis.sigs.now (procs_in analysis) analysis.schemes number lines
+    by number lines here (inl same) = absurd (no lines (sym (get_or-set_same lists place None None within) ∙ subst (λ k. get_or (set lists place None) k None ≡ Some lines) same here))
+    by number lines here (inr (inl below)) = before number lines (sym (get_or-set_other lists place number None None (λ e. omega (arith, e, below))) ∙ here)
+    by number lines here (inr (inr above)) = before number lines (sym (get_or-set_other lists place number None None (λ e. omega (arith, e, above))) ∙ here)
 
 -- Entries.
 
--- the entries of the first procedures, as many as there are entries
-pub record AreBegun (told : Content) (object : Object) (roles : Roles) (procs : List Proc) (size n : ℕ) (entries : List Entry) : Type 0 where
+-- the entries of the first procedures, as many as there are entries, and the lists that are left
+pub record AreBegun (told : Content) (analysis : Analysis) (n : ℕ) (entries : List Entry) (lists : List (Option (List Line))) : Type 0 where
   pub one_each : length entries ≡ n
-  pub each : (number : ℕ) (proc : Proc) (entry : Entry) → number < n → IsEntryOf number (get_or procs number proc) (get_or entries number entry)
-  pub lines : (number : ℕ) (entry : Entry) → number < n → IsTold told object roles procs number (get_or entries number entry).lines
-  pub constants : All (λ entry. All (HasConstantsBelow size) entry.lines) entries
-  pub globals : All (λ entry. HasGlobalsOf object entry.lines) entries
+  pub each : (number : ℕ) (proc : Proc) (entry : Entry) → number < n → IsEntryOf number (get_or (procs_in analysis) number proc) (get_or entries number entry)
+  pub lines : (number : ℕ) (entry : Entry) → number < n
+      → IsTold told (object_in analysis) analysis.lattice.now analysis.sigs.now (procs_in analysis) analysis.schemes number (get_or entries number entry).lines
+  pub constants : All (λ entry. All (HasConstantsBelow (size_of analysis.lattice.now)) entry.lines) entries
+  pub globals : All (λ entry. HasGlobalsOf (object_in analysis) entry.lines) entries
+  pub long : length lists ≡ length (procs_in analysis)
+  pub left : AreListsOf told analysis lists
 
 -- what holds of the entries at all numbers before one, and of a last entry at that number, holds up to it
 upto : (P : ℕ → Entry → Type 0) (n : ℕ) (entries : List Entry) (entry : Entry) → length entries ≡ n
@@ -84,37 +67,44 @@ length_push : (xs : List Entry) (x : Entry) → length (xs ++ x ∷ []) ≡ leng
 length_push [] x = refl
 length_push (y ∷ ys) x = omega (arith, length_push ys x)
 
-pub begun_none : (told : Content) (object : Object) (roles : Roles) (procs : List Proc) (size : ℕ) → AreBegun told object roles procs size 0 []
-begun_none told object roles procs size = record {
+pub begun_none : (told : Content) (analysis : Analysis) (lists : List (Option (List Line))) → length lists ≡ length (procs_in analysis) → AreListsOf told analysis lists
+    → AreBegun told analysis 0 [] lists
+begun_none told analysis lists long left = record {
   one_each = refl;
   each = λ number proc entry less. absurd (omega (arith, less));
   lines = λ number entry less. absurd (omega (arith, less));
-  constants = All-nil (λ (entry : Entry). All (HasConstantsBelow size) entry.lines);
-  globals = All-nil (λ (entry : Entry). HasGlobalsOf object entry.lines);
+  constants = All-nil (λ (entry : Entry). All (HasConstantsBelow (size_of analysis.lattice.now)) entry.lines);
+  globals = All-nil (λ (entry : Entry). HasGlobalsOf (object_in analysis) entry.lines);
+  long = long;
+  left = left;
 }
-
-pub begun_next : (told : Content) (object : Object) (roles : Roles) (procs : List Proc) (size n : ℕ) (proc : Proc) (lines : List Line) (entry : Entry) (entries : List Entry)
-    → AreBegun told object roles procs size n entries → ((d : Proc) → get_or procs n d ≡ proc) → IsEntryOf n proc entry → entry.lines ≡ lines
-    → IsTold told object roles procs n lines → All (HasConstantsBelow size) lines → HasGlobalsOf object lines
-    → AreBegun told object roles procs size (n + 1) (entries ++ entry ∷ [])
-begun_next told object roles procs size n proc lines entry entries begun is is_entry is_lines is_told constants globals =
-    let few : Entry → Type 0 = λ e. All (HasConstantsBelow size) e.lines in
-    let named : Entry → Type 0 = λ e. HasGlobalsOf object e.lines in
-    record {
-      one_each = omega (arith, begun.one_each, length_push entries entry);
-      each = λ number p. upto (λ k e. IsEntryOf k (get_or procs k p) e) n entries entry begun.one_each (λ k e less. begun.each k p e less) (subst (λ q. IsEntryOf n q entry) (sym (is p)) is_entry) number;
-      lines = upto (λ k e. IsTold told object roles procs k e.lines) n entries entry begun.one_each begun.lines (subst (IsTold told object roles procs n) (sym is_lines) is_told);
-      constants = All-append few entries (entry ∷ []) begun.constants (All-cons few entry [] (subst (All (HasConstantsBelow size)) (sym is_lines) constants) (All-nil few));
-      globals = All-append named entries (entry ∷ []) begun.globals (All-cons named entry [] (subst (HasGlobalsOf object) (sym is_lines) globals) (All-nil named));
-    }
 
 -- what is read of a list is so by any default
 pub read_of : (procs : List Proc) (n : ℕ) (proc : Proc) → proc ≡ get_or procs n proc → n < length procs → (d : Proc) → get_or procs n d ≡ proc
 read_of procs n proc is within d = get_or_default procs n d proc within ∙ sym is
 
-pub begun_whole : (told : Content) (object : Object) (roles : Roles) (procs : List Proc) (size n : ℕ) (entries : List Entry) → n ≡ length procs
-    → AreBegun told object roles procs size n entries → AreEntries told object roles procs entries
-begun_whole told object roles procs size n entries is begun = record {
+pub begun_next : (told : Content) (analysis : Analysis) (n : ℕ) (proc : Proc) (lines : List Line) (entry : Entry) (entries : List Entry) (lists lists' : List (Option (List Line)))
+    → AreBegun told analysis n entries lists → proc ≡ get_or (procs_in analysis) n proc → n < length (procs_in analysis) → IsEntryOf n proc entry → entry.lines ≡ lines
+    → Some lines ≡ get_or lists n None → lists' ≡ set lists n None
+    → AreBegun told analysis (n + 1) (entries ++ entry ∷ []) lists'
+begun_next told analysis n proc lines entry entries lists lists' begun is within is_entry is_lines taken is_left =
+    let few : Entry → Type 0 = λ e. All (HasConstantsBelow (size_of analysis.lattice.now)) e.lines in
+    let named : Entry → Type 0 = λ e. HasGlobalsOf (object_in analysis) e.lines in
+    let are_told = begun.left n lines (sym taken) in
+    record {
+      one_each = omega (arith, begun.one_each, length_push entries entry);
+      each = λ number p. upto (λ k e. IsEntryOf k (get_or (procs_in analysis) k p) e) n entries entry begun.one_each (λ k e less. begun.each k p e less) (subst (λ q. IsEntryOf n q entry) (sym (read_of (procs_in analysis) n proc is within p)) is_entry) number;
+      lines = upto (λ k e. IsTold told (object_in analysis) analysis.lattice.now analysis.sigs.now (procs_in analysis) analysis.schemes k e.lines) n entries entry begun.one_each begun.lines
+          (subst (IsTold told (object_in analysis) analysis.lattice.now analysis.sigs.now (procs_in analysis) analysis.schemes n) (sym is_lines) are_told.are_told);
+      constants = All-append few entries (entry ∷ []) begun.constants (All-cons few entry [] (subst (All (HasConstantsBelow (size_of analysis.lattice.now))) (sym is_lines) are_told.are_kept.constants) (All-nil few));
+      globals = All-append named entries (entry ∷ []) begun.globals (All-cons named entry [] (subst (HasGlobalsOf (object_in analysis)) (sym is_lines) are_told.are_kept.globals) (All-nil named));
+      long = ap length is_left ∙ (length-set lists n None ∙ begun.long);
+      left = lists_taken told analysis lists lists' n (omega (arith, within, begun.long)) is_left begun.left;
+    }
+
+pub begun_whole : (told : Content) (analysis : Analysis) (n : ℕ) (entries : List Entry) (lists : List (Option (List Line))) → n ≡ length (procs_in analysis)
+    → AreBegun told analysis n entries lists → AreEntries told (object_in analysis) analysis.lattice.now analysis.sigs.now (procs_in analysis) analysis.schemes entries
+begun_whole told analysis n entries lists is begun = record {
   one_each = begun.one_each ∙ is;
   each = λ number proc entry less. begun.each number proc entry (omega (arith, less, is));
   lines = λ number entry less. begun.lines number entry (omega (arith, less, is));
@@ -122,21 +112,31 @@ begun_whole told object roles procs size n entries is begun = record {
 
 -- Reports.
 
-pub right_text : (told : Content) (bytes : List ℕ) (object : Object) (procs : List Proc) (lattice : NamedOrder) (names : List (List ℕ)) (report : Report) {X E : Type 0} (items : X → List ℕ) (text : Result X E)
-    → IsAnalysed bytes object procs → IsCallFree procs → IsLatticeOf standard_file lattice
-    → AreEntries told object lattice.roles procs report.entries → AreGlobals object report.entries report.globals
-    → names ≡ lattice.names → IfOk text (λ t. items t ≡ report_text names report)
-    → IfOk text (λ t. IsReportText told bytes (items t))
-right_text told bytes object procs lattice names report items (Ok t) analysed free standard entries globals named is = (
-  report,
-  record { object = object; procs = procs; roles = lattice.roles; is_analysed = analysed; is_call_free = free; are_standard = standard.roles; entries = entries; globals = globals },
-  is ∙ ap (λ n. report_text n report) (named ∙ standard.named),
-)
-right_text told bytes object procs lattice names report items (Err e) analysed free standard entries globals named is = tt
+-- a report of an analysis is right
+right : (told : Content) (bytes : List ℕ) (object : Object) (procs : List Proc) (analysis : Analysis) (report : Report)
+    → IsAnalysed bytes object procs → IsAnalysis analysis → object_in analysis ≡ object → procs_in analysis ≡ procs
+    → AreEntries told (object_in analysis) analysis.lattice.now analysis.sigs.now (procs_in analysis) analysis.schemes report.entries → AreGlobals object report.entries report.globals
+    → IsRight told analysis.lattice.now analysis.sigs.now bytes report
+right told bytes object procs analysis report analysed is_analysis is_object are_procs entries globals = record {
+  object = object_in analysis;
+  procs = procs_in analysis;
+  is_analysed = subst (λ o. IsAnalysed bytes o (procs_in analysis)) (sym is_object) (subst (IsAnalysed bytes object) (sym are_procs) analysed);
+  schemes = analysis.schemes;
+  are_schemes = record { groups = analysis.groups; are_groups = is_analysis.groups; are_solved = is_analysis.solved };
+  entries = entries;
+  globals = subst (λ o. AreGlobals o report.entries report.globals) (sym is_object) globals;
+}
 
-pub not_free : (procs shown : List Proc) (free : Bool) → shown ≡ procs → IsTrue free ↔ IsCallFree shown → free ≡ false → IsCallFree procs → ⊥
-not_free procs shown free is same unmet all = by free unmet (same.1 (subst IsCallFree (sym is) all))
-  where
-    by : (free : Bool) → free ≡ false → IsTrue free → ⊥
-    by true unmet met = cc
-    by false unmet met = cc
+pub right_text : (told : Content) (bytes : List ℕ) (object : Object) (procs : List Proc) (order : NamedOrder) (signatures : List Signature) (names : List (List ℕ)) (analysis : Analysis) (report : Report)
+    {X E : Type 0} (items : X → List ℕ) (text : Result X E)
+    → IsAnalysed bytes object procs → IsAnalysis analysis → object_in analysis ≡ object → procs_in analysis ≡ procs → analysis.sigs.now ≡ signatures → analysis.lattice.now ≡ order
+    → AreEntries told (object_in analysis) analysis.lattice.now analysis.sigs.now (procs_in analysis) analysis.schemes report.entries → AreGlobals object report.entries report.globals
+    → names ≡ order.names → IfOk text (λ t. items t ≡ report_text names report)
+    → IfOk text (λ t. IsReportText told order signatures bytes (items t))
+right_text told bytes object procs order signatures names analysis report items (Ok t) analysed is_analysis is_object are_procs are_signatures is_order entries globals named is = (
+  report,
+  subst (λ s. IsRight told order s bytes report) are_signatures (subst (λ o. IsRight told o analysis.sigs.now bytes report) is_order
+      (right told bytes object procs analysis report analysed is_analysis is_object are_procs entries globals)),
+  is ∙ ap (λ n. report_text n report) named,
+)
+right_text told bytes object procs order signatures names analysis report items (Err e) analysed is_analysis is_object are_procs are_signatures is_order entries globals named is = tt

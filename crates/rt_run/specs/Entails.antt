@@ -1,29 +1,29 @@
 -- What `entail` writes for a text and a judgement, and when it refuses them.
 use Rattle.std.specs.Prelude.{◌≡◌, ℕ, ◌<◌, ◌≤◌, Bool, List, codes, length, if◌then◌else◌}
-use Rattle.rt_lattice.specs.Standard.{standard_names}
 use Rattle.rt_entail.specs.declared.fault.EntailFault.TheVariants.{BadLine as HasBadLine, BadJudgement as IsBadJudgement}
 use Rattle.rt_entail.specs.Entailment.{IsRefusal, IsAnswer}
 use Rattle.rt_run.specs.declared.no_text.NoText.{NoText}
 use Rattle.rt_run.specs.declared.no_text.NoText.TheVariants.{Refused, Memory}
 use Rattle.rt_run.specs.declared.refusal.Refusal.{Refusal}
-use Rattle.rt_run.specs.declared.refusal.Refusal.TheVariants.{Object, Link, Code, NotYet, TextTooLarge, BadLine, BadJudgement}
+use Rattle.rt_run.specs.declared.refusal.Refusal.TheVariants.{Object, Link, Code, BadLattice, BadSignatures, TextTooLarge, BadLine, BadJudgement}
 
 -- Why a text and a judgement are refused: the text is too long, else for its first bad line, else for the judgement.
--- Constants are those of the standard lattice.
-abbrev pub IsEntailRefused : List ℕ → List ℕ → Refusal → Type 0
-IsEntailRefused judgement text TextTooLarge = 1048576 < length text
-IsEntailRefused judgement text NotYet = ⊥
-IsEntailRefused judgement text (BadLine place) = (length text ≤ 1048576) × IsRefusal standard_names text judgement (HasBadLine place)
-IsEntailRefused judgement text BadJudgement = (length text ≤ 1048576) × IsRefusal standard_names text judgement IsBadJudgement
-IsEntailRefused judgement text (Object number offset) = ⊥
-IsEntailRefused judgement text (Link number section offset) = ⊥
-IsEntailRefused judgement text (Code number section offset) = ⊥
+-- Constants are those of the names.
+abbrev pub IsEntailRefused : List (List ℕ) → List ℕ → List ℕ → Refusal → Type 0
+IsEntailRefused names judgement text TextTooLarge = 1048576 < length text
+IsEntailRefused names judgement text (BadLine place) = (length text ≤ 1048576) × IsRefusal names text judgement (HasBadLine place)
+IsEntailRefused names judgement text BadJudgement = (length text ≤ 1048576) × IsRefusal names text judgement IsBadJudgement
+IsEntailRefused names judgement text (BadLattice fault) = ⊥
+IsEntailRefused names judgement text (BadSignatures fault) = ⊥
+IsEntailRefused names judgement text (Object number offset) = ⊥
+IsEntailRefused names judgement text (Link number section offset) = ⊥
+IsEntailRefused names judgement text (Code number section offset) = ⊥
 
 -- whether the judgement is derivable from the lines of the text
-abbrev pub IsEntailText : List ℕ → List ℕ → List ℕ → Type 0
-IsEntailText judgement text written = (yes : Bool) × IsAnswer standard_names text judgement yes × (written ≡ (if yes then codes "yes\n" else codes "no\n"))
+abbrev pub IsEntailText : List (List ℕ) → List ℕ → List ℕ → List ℕ → Type 0
+IsEntailText names judgement text written = (yes : Bool) × IsAnswer names text judgement yes × (written ≡ (if yes then codes "yes\n" else codes "no\n"))
 
 -- there is no text where the text of lines or the judgement is refused; memory may always run out
-abbrev pub IsNoEntailText : List ℕ → List ℕ → NoText → Type 0
-IsNoEntailText judgement text (Refused refusal) = IsEntailRefused judgement text refusal
-IsNoEntailText judgement text Memory = Unit {0}
+abbrev pub IsNoEntailText : List (List ℕ) → List ℕ → List ℕ → NoText → Type 0
+IsNoEntailText names judgement text (Refused refusal) = IsEntailRefused names judgement text refusal
+IsNoEntailText names judgement text Memory = Unit {0}

@@ -16,10 +16,6 @@ pub record IsNamedIn (entries : List Entry) (number : ℕ) : Type 0 where
   pub is_entry : Contains entries entry
   pub names : NamesBase entry.lines (Global number)
 
--- the lines name only globals whose numbers are those of symbols
-abbrev pub HasGlobalsOf : Object → List Line → Type 0
-HasGlobalsOf object lines = (number : ℕ) → NamesBase lines (Global number) → number < length object.symbols
-
 -- a global: its number, and the name of its symbol
 abbrev pub global_of : Object → ℕ → ℕ × List ℕ
 global_of object number = (number, (symbol_of object number).name)

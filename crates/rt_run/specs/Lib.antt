@@ -1,9 +1,10 @@
 pub mod Words
 pub mod Meant
 pub mod Errors
-pub mod Readable
+pub mod Inputs
 pub mod Objects
 pub mod Globals
 pub mod Reports
+pub mod Analyses
 pub mod Entails
 pub mod Status

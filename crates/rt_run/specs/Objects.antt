@@ -12,8 +12,7 @@ use Rattle.rt_proc.specs.Procs.{AreProcs}
 use Rattle.rt_run.specs.declared.no_text.NoText.{NoText}
 use Rattle.rt_run.specs.declared.no_text.NoText.TheVariants.{Refused, Memory}
 use Rattle.rt_run.specs.declared.refusal.Refusal.{Refusal}
-use Rattle.rt_run.specs.declared.refusal.Refusal.TheVariants.{Object as BadObject, Link as BadLink, Code as BadCode, NotYet, TextTooLarge, BadLine, BadJudgement}
-use Rattle.rt_run.specs.Readable.{IsCallFree}
+use Rattle.rt_run.specs.declared.refusal.Refusal.TheVariants.{Object as BadObject, Link as BadLink, Code as BadCode, BadLattice, BadSignatures, TextTooLarge, BadLine, BadJudgement}
 
 -- the bytes are those of the object, which passes all checks of its bytes and of its relocations
 pub record IsLinked (bytes : List ℕ) (object : Object) : Type 0 where
@@ -28,12 +27,13 @@ pub record IsAnalysed (bytes : List ℕ) (object : Object) (procs : List Proc) :
   pub are_procs : AreProcs object procs
 
 -- Why an object is refused: the first check of its bytes that fails, else the first of its relocations, else the first
--- fault of its code, and else that some procedure has a call or goes on in another one.
+-- fault of its code.
 abbrev pub IsRefused : List ℕ → Refusal → Type 0
 IsRefused bytes (BadObject number offset) = first_fault bytes ≡ Some (Bad number offset)
 IsRefused bytes (BadLink number section offset) = (first_fault bytes ≡ None) × ((object : Object) × IsObject bytes object × (link_fault object ≡ Some (BadReloc number section offset)))
 IsRefused bytes (BadCode number section offset) = (object : Object) × IsLinked bytes object × IsFirstFault object number (record { section = section; offset = offset })
-IsRefused bytes NotYet = (object : Object) × (procs : List Proc) × IsAnalysed bytes object procs × (IsCallFree procs → ⊥)
+IsRefused bytes (BadLattice fault) = ⊥
+IsRefused bytes (BadSignatures fault) = ⊥
 IsRefused bytes TextTooLarge = ⊥
 IsRefused bytes (BadLine place) = ⊥
 IsRefused bytes BadJudgement = ⊥

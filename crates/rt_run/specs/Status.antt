@@ -1,44 +1,96 @@
 -- What the commands write, when they refuse, and how a run ends.
-use Rattle.std.specs.Prelude.{◌≡◌, ℕ, List, Option, IfSome}
+use Rattle.std.specs.Prelude.{◌≡◌, ℕ, List, Option, Some, None, IfSome}
 use Rattle.std.specs.Io.KnownBytes.{Appends}
 use Rattle.rt_base.specs.Outside.{Rose, AppendsFront}
+use Rattle.rt_lattice.specs.Lattices.{NamedOrder}
+use Rattle.rt_sigs.specs.Signatures.{Signature}
 use Rattle.rt_run.specs.declared.refusal.Refusal.{Refusal}
 use Rattle.rt_run.specs.declared.stop.Stop.{Stop}
 use Rattle.rt_run.specs.declared.stop.Stop.TheVariants.{Refused, NoRead, NoMemory}
 use Rattle.rt_run.specs.declared.stop.Ending.{Ending}
 use Rattle.rt_run.specs.declared.stop.Ending.TheVariants.{Written, NoWrite, Stopped}
-use Rattle.rt_run.specs.declared.content.Content.TheVariants as told
-use Rattle.rt_run.specs.Words.{Command, Constraints, Schemes, Entail}
+use Rattle.rt_run.specs.declared.no_text.NoText.{NoText}
+use Rattle.rt_run.specs.declared.no_text.NoText.TheVariants.{Refused as RefusedText, Memory as NoTextMemory}
+use Rattle.rt_run.specs.Words.{Command, Report, Entail, Step, OfLattice, OfSignatures, OfInput, lattice_of, signatures_of, input_of}
+use Rattle.rt_run.specs.Inputs.{Contents, IsLatticeFor, AreSignaturesFor, IsLatticeRefused, IsSignaturesRefused}
 use Rattle.rt_run.specs.Objects.{IsRefused}
 use Rattle.rt_run.specs.Reports.{IsReportText}
 use Rattle.rt_run.specs.Entails.{IsEntailRefused, IsEntailText}
 
--- the content of its file is refused by the command so
-abbrev pub IsRefusedBy : Command → List ℕ → Refusal → Type 0
-IsRefusedBy (Constraints object) = IsRefused
-IsRefusedBy (Schemes object) = IsRefused
-IsRefusedBy (Entail file judgement) = IsEntailRefused judgement
+-- the content of its own file is refused by a command so
+abbrev pub IsInputRefused : Command → NamedOrder → List ℕ → Refusal → Type 0
+IsInputRefused (Report told options object) order = IsRefused
+IsInputRefused (Entail lattice file judgement) order = IsEntailRefused order.names judgement
 
--- the text is what the command writes for the content of its file
-abbrev pub IsTextOf : Command → List ℕ → List ℕ → Type 0
-IsTextOf (Constraints object) = IsReportText told.Constraints
-IsTextOf (Schemes object) = IsReportText told.Schemes
-IsTextOf (Entail file judgement) = IsEntailText judgement
+-- the text is what the command writes for the content of its own file, with this lattice and these signatures
+abbrev pub IsTextFor : Command → NamedOrder → List Signature → List ℕ → List ℕ → Type 0
+IsTextFor (Report told options object) order signatures = IsReportText told order signatures
+IsTextFor (Entail lattice file judgement) order signatures = IsEntailText order.names judgement
+
+-- the lattice and the signatures that a command works with
+pub record AreInputs (command : Command) (content : Contents) (order : NamedOrder) (signatures : List Signature) : Type 0 where
+  pub is_lattice : IsLatticeFor content (lattice_of command) order
+  pub are_signatures : AreSignaturesFor content order.names (signatures_of command) signatures
 
 -- what out gained is what a text that the command writes gives it, where the content of its file is told
-abbrev pub Writes : Command → Option (List ℕ) → (List ℕ → Type 0) → Type 0
-Writes command content IsGained = IfSome content (λ bytes. (text : List ℕ) × IsTextOf command bytes text × IsGained text)
+pub record Writes (command : Command) (content : Contents) (IsGained : List ℕ → Type 0) : Type 0 where
+  pub order : NamedOrder
+  pub signatures : List Signature
+  pub are_inputs : AreInputs command content order signatures
+  pub text : List ℕ
+  pub is_text : IfSome (content (input_of command)) (λ (bytes : List ℕ). IsTextFor command order signatures bytes text)
+  pub gained : IsGained text
 
--- Why a command has no text, where `IsRefused` says which contents of its file are refused. `content` is that of its file,
--- where it is told; `reads` and `reads'` count the faults of that file before and after.
-abbrev pub Stops : (List ℕ → Refusal → Type 0) → Option (List ℕ) → ℕ → ℕ → Stop → Type 0
-Stops IsRefused content reads reads' (Refused refusal) = IfSome content (λ bytes. IsRefused bytes refusal)
-Stops IsRefused content reads reads' NoRead = Rose reads reads'
-Stops IsRefused content reads reads' NoMemory = Unit {0}
+-- A file of a command, by its step, has this name, and the files before it are accepted.
+abbrev pub ComesTo : Command → Contents → Step → List ℕ → Type 0
+ComesTo command content OfLattice name = lattice_of command ≡ Some name
+ComesTo command content OfSignatures name = ((order : NamedOrder) × IsLatticeFor content (lattice_of command) order) × (signatures_of command ≡ Some name)
+ComesTo command content OfInput name = ((order : NamedOrder) × (signatures : List Signature) × AreInputs command content order signatures) × (input_of command ≡ name)
 
--- How the work of a command ends. `puts` and `puts'` count the faults of out before and after, `old` and `new` are what it
--- holds, where it is told.
-abbrev pub Ends : Command → Option (List ℕ) → ℕ → ℕ → ℕ → ℕ → Option (List ℕ) → Option (List ℕ) → Ending → Type 0
-Ends command content reads reads' puts puts' old new Written = Writes command content (Appends old new)
-Ends command content reads reads' puts puts' old new NoWrite = Rose puts puts' × Writes command content (AppendsFront old new)
-Ends command content reads reads' puts puts' old new (Stopped stop) = Stops (IsRefusedBy command) content reads reads' stop × (new ≡ old)
+-- A refusal is that of the first file of a command that is refused.
+pub data IsRefusedBy (command : Command) (content : Contents) (refusal : Refusal) : Type 0 where
+  of_lattice : (name : List ℕ) → lattice_of command ≡ Some name
+      → IfSome (content name) (λ (text : List ℕ). IsLatticeRefused text refusal) → IsRefusedBy command content refusal
+  of_signatures : (name : List ℕ) (order : NamedOrder) → IsLatticeFor content (lattice_of command) order → signatures_of command ≡ Some name
+      → IfSome (content name) (λ (text : List ℕ). IsSignaturesRefused order.names text refusal) → IsRefusedBy command content refusal
+  of_input : (order : NamedOrder) (signatures : List Signature) → AreInputs command content order signatures
+      → IfSome (content (input_of command)) (λ (bytes : List ℕ). IsInputRefused command order bytes refusal) → IsRefusedBy command content refusal
+
+-- why something has no use: it is refused so, or there is no memory
+abbrev pub IsStopOf : (Refusal → Type 0) → Stop → Type 0
+IsStopOf Refuses (Refused refusal) = Refuses refusal
+IsStopOf Refuses (NoRead unread) = ⊥
+IsStopOf Refuses NoMemory = Unit {0}
+
+-- why there is no text, and why a command stops: the same
+abbrev pub IsStopFor : Stop → NoText → Type 0
+IsStopFor stop (RefusedText refusal) = stop ≡ Refused refusal
+IsStopFor stop NoTextMemory = stop ≡ NoMemory
+
+-- Why a file has no use to a command, where `Refuses` says which contents are refused. `content` tells what names hold, where it is told;
+-- `faults` and `faults'` count the faults of each name before and after.
+abbrev pub StopsAt : (List ℕ → Refusal → Type 0) → Contents → (List ℕ → ℕ) → (List ℕ → ℕ) → List ℕ → Stop → Type 0
+StopsAt Refuses content faults faults' name (Refused refusal) = IfSome (content name) (λ (bytes : List ℕ). Refuses bytes refusal)
+StopsAt Refuses content faults faults' name (NoRead unread) = (unread.now ≡ name) × Rose (faults name) (faults' name)
+StopsAt Refuses content faults faults' name NoMemory = Unit {0}
+
+-- the same of a file that may be named
+abbrev pub StopsFor : (List ℕ → Refusal → Type 0) → Contents → (List ℕ → ℕ) → (List ℕ → ℕ) → Option (List ℕ) → Stop → Type 0
+StopsFor Refuses content faults faults' None stop = stop ≡ NoMemory
+StopsFor Refuses content faults faults' (Some name) stop = StopsAt Refuses content faults faults' name stop
+
+-- why a command has no text
+abbrev pub Stops : Command → Contents → (List ℕ → ℕ) → (List ℕ → ℕ) → Stop → Type 0
+Stops command content faults faults' (Refused refusal) = IsRefusedBy command content refusal
+Stops command content faults faults' (NoRead name) = (step : Step) × ComesTo command content step name.now × Rose (faults name.now) (faults' name.now)
+Stops command content faults faults' NoMemory = Unit {0}
+
+-- the text is what a command writes, where the contents of its files are told
+abbrev pub Gives : Command → Contents → List ℕ → Type 0
+Gives command content text = Writes command content (λ (given : List ℕ). given ≡ text)
+
+-- How the work of a command ends. `puts` and `puts'` count the faults of out before and after, `old` and `new` are what it holds, where it is told.
+abbrev pub Ends : Command → Contents → (List ℕ → ℕ) → (List ℕ → ℕ) → ℕ → ℕ → Option (List ℕ) → Option (List ℕ) → Ending → Type 0
+Ends command content faults faults' puts puts' old new Written = Writes command content (Appends old new)
+Ends command content faults faults' puts puts' old new NoWrite = Rose puts puts' × Writes command content (AppendsFront old new)
+Ends command content faults faults' puts puts' old new (Stopped stop) = Stops command content faults faults' stop × (new ≡ old)

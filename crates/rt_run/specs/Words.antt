@@ -1,15 +1,20 @@
 -- The words after the program's name.
-use Rattle.std.specs.Prelude.{◌==◌, ◌&&◌, not, ℕ, nat_eq, Bool, false, Option, Some, None, List, [], ◌∷◌, if◌then◌else◌, codes}
+use Rattle.std.specs.Prelude.{◌==◌, ◌&&◌, not, ℕ, nat_eq, Bool, false, Option, Some, None, is_none, List, [], ◌∷◌, if◌then◌else◌, codes}
 use lib.Pointwise.{pointwise}
+use Rattle.rt_run.specs.declared.content.Content.{Content}
+use Rattle.rt_run.specs.declared.content.Content.TheVariants as content
+
+-- the files that options name: a lattice, and the signatures of functions outside
+pub record Options : Type 0 where
+  pub lattice : Option (List ℕ)
+  pub signatures : Option (List ℕ)
 
 -- what the words ask for
 pub data Command : Type 0 where
-  -- the constraints of the object of a name
-  Constraints : List ℕ → Command
-  -- the schemes of the object of a name
-  Schemes : List ℕ → Command
-  -- whether the judgement, the second text, is derivable from the lines of the file of a name
-  Entail : List ℕ → List ℕ → Command
+  -- a report of the object of a name
+  Report : Content → Options → List ℕ → Command
+  -- whether the judgement, the last text, is derivable from the lines of the file of a name, with the constants of a lattice
+  Entail : Option (List ℕ) → List ℕ → List ℕ → Command
 
 -- the word is this text
 abbrev pub is_text : List ℕ → List ℕ → Bool
@@ -20,20 +25,52 @@ abbrev pub is_argument : List ℕ → Bool
 is_argument [] = false
 is_argument (first ∷ rest) = not (first == 45)
 
--- the command of a word about an object
-abbrev pub object_command : List ℕ → List ℕ → Option Command
-object_command word object =
-    if is_text word (codes "constraints") then Some (Constraints object) else
-    if is_text word (codes "schemes") then Some (Schemes object) else None
+-- the words of a report: options, each at most once, and then the object
+abbrev pub report_of : Content → Options → List (List ℕ) → Option Command
+report_of told options [] = None
+report_of told options (object ∷ []) = if is_argument object then Some (Report told options object) else None
+report_of told options (word ∷ file ∷ rest) =
+    if is_text word (codes "--lattice") && (is_none options.lattice && is_argument file) then report_of told (record options { lattice = Some file }) rest else
+    if is_text word (codes "--signatures") && (is_none options.signatures && is_argument file) then report_of told (record options { signatures = Some file }) rest else None
 
--- the command of the words: `constraints OBJECT`, `schemes OBJECT` or `entail FILE JUDGEMENT`
+-- the last two words of `entail`
+abbrev pub entail_by : Option (List ℕ) → List ℕ → List ℕ → Option Command
+entail_by lattice file judgement = if is_argument file && is_argument judgement then Some (Entail lattice file judgement) else None
+
+-- the words of `entail`: a lattice, if one is named, the file and the judgement
+abbrev pub entail_of : List (List ℕ) → Option Command
+entail_of (file ∷ judgement ∷ []) = entail_by None file judgement
+entail_of (word ∷ lattice ∷ file ∷ judgement ∷ []) =
+    if is_text word (codes "--lattice") && is_argument lattice then entail_by (Some lattice) file judgement else None
+entail_of words = None
+
+-- no options
+abbrev pub no_options : Options
+no_options = record { lattice = None; signatures = None }
+
+-- the command of the words: `constraints OPTIONS OBJECT`, `schemes OPTIONS OBJECT` or `entail [--lattice FILE] FILE JUDGEMENT`, where OPTIONS are
+-- `--lattice FILE` and `--signatures FILE`
 abbrev pub command_of : List (List ℕ) → Option Command
-command_of (word ∷ object ∷ []) = if is_argument object then object_command word object else None
-command_of (word ∷ file ∷ judgement ∷ []) = if is_text word (codes "entail") && (is_argument file && is_argument judgement) then Some (Entail file judgement) else None
-command_of words = None
+command_of [] = None
+command_of (word ∷ words) =
+    if is_text word (codes "constraints") then report_of content.Constraints no_options words else
+    if is_text word (codes "schemes") then report_of content.Schemes no_options words else
+    if is_text word (codes "entail") then entail_of words else None
 
--- the name of the file that the command reads
-abbrev pub file_of : Command → List ℕ
-file_of (Constraints object) = object
-file_of (Schemes object) = object
-file_of (Entail file judgement) = file
+-- the files that a command reads, in this order: the lattice and the signatures, where they are named, and then its own file
+pub data Step : Type 0 where
+  OfLattice : Step
+  OfSignatures : Step
+  OfInput : Step
+
+abbrev pub lattice_of : Command → Option (List ℕ)
+lattice_of (Report told options object) = options.lattice
+lattice_of (Entail lattice file judgement) = lattice
+
+abbrev pub signatures_of : Command → Option (List ℕ)
+signatures_of (Report told options object) = options.signatures
+signatures_of (Entail lattice file judgement) = None
+
+abbrev pub input_of : Command → List ℕ
+input_of (Report told options object) = object
+input_of (Entail lattice file judgement) = file

@@ -5,18 +5,20 @@ ghost use Rattle.rt_run.specs.Entails.{IsEntailText, IsNoEntailText};
 use crate::no_text::NoText;
 use crate::refusal::Refusal;
 use rt_entail::{EntailFault, entails};
-use rt_lattice::standard;
+use rt_terms::Names;
 use std::alloc::Global;
 
-/// The text that `entail` writes for a text of lines and a judgement, or why there is none. Constants are those of the
-/// standard lattice.
-pub fn entail_text(alloc: Global, text: &[u8], judgement: &[u8]) -> Result<Vec<u8>, NoText>
+/// The text that `entail` writes for a text of lines and a judgement, or why there is none. Constants are those of the names.
+pub fn entail_text(
+    alloc: Global,
+    text: &[u8],
+    judgement: &[u8],
+    names: &Names,
+) -> Result<Vec<u8>, NoText>
     requires { length text.now ≤ 1048576 }
-    ensures refused { IfErr result (IsNoEntailText judgement.now text.now) }
-    ensures written { IfOk result (λ written. IsEntailText judgement.now text.now written.items) }
+    ensures refused { IfErr result (IsNoEntailText names.now judgement.now text.now) }
+    ensures written { IfOk result (λ written. IsEntailText names.now judgement.now text.now written.items) }
 {
-    let lattice = standard(alloc)?;
-    let names = lattice.names();
     match entails(alloc, text, judgement, names) {
         Ok(true) => Ok(b"yes\n".to_vec(alloc)?),
         Ok(false) => Ok(b"no\n".to_vec(alloc)?),

@@ -1,58 +1,19 @@
 // The entries of a report.
-ghost use Rattle.std.specs.Prelude.{◌≡◌, ◌<◌, [], ◌∷◌, All, IfOk, length};
+ghost use Rattle.std.specs.Prelude.{◌≡◌, ◌<◌, [], ◌∷◌, None, All, IfOk, length, slice_index_or, slice_set};
 ghost use Rattle.rt_terms.specs.Lines.{HasConstantsBelow};
 ghost use Rattle.rt_lattice.specs.Lattices.{size_of};
-ghost use Rattle.rt_table.specs.Facts.{IsFactsOf};
-ghost use Rattle.rt_run.specs.Globals.{HasGlobalsOf};
-ghost use Rattle.rt_run.specs.Reports.{AreConstraints, AreEntries, IsEntryOf, IsTold};
+ghost use Rattle.rt_table.specs.Lists.{HasGlobalsOf};
+ghost use Rattle.rt_run.specs.Analyses.{IsAnalysis, object_in, procs_in};
+ghost use Rattle.rt_run.specs.Reports.{AreEntries, IsEntryOf};
 
+use crate::analysis::Analysis;
 use crate::content::Content;
+use crate::lists::Lists;
 use rt_base::Memory;
-use rt_lattice::Lattice;
 use rt_proc::Proc;
 use rt_scheme::{Entries, Entry, Place2};
-use rt_solve::settle;
-use rt_table::{Facts, lines_of};
 use rt_terms::Lines;
 use std::alloc::{AllocError, Global};
-
-// The lines of the procedure of a number.
-fn constraints(
-    alloc: Global,
-    facts: &Facts<'_>,
-    number: u32,
-    lattice: &Lattice,
-) -> Result<Lines, Memory>
-    requires facts { IsFactsOf facts.now.object.now facts.now.procs.now facts.now }
-    requires within { number < length facts.now.procs.now }
-    ensures found { IfOk result (AreConstraints facts.now.object.now lattice.now.roles facts.now.procs.now number) }
-    ensures constants { IfOk result (All (HasConstantsBelow (size_of lattice.now))) }
-    ensures globals { IfOk result (HasGlobalsOf facts.now.object.now) }
-{
-    let mut bodies = lines_of(alloc, facts, &[number], lattice)?.into_vec();
-    Ok(bodies.swap_remove(0))
-}
-
-// What a report tells of the procedure of a number.
-fn told(
-    alloc: Global,
-    content: Content,
-    facts: &Facts<'_>,
-    number: u32,
-    lattice: &Lattice,
-) -> Result<Lines, Memory>
-    requires facts { IsFactsOf facts.now.object.now facts.now.procs.now facts.now }
-    requires within { number < length facts.now.procs.now }
-    ensures found { IfOk result (IsTold content facts.now.object.now lattice.now.roles facts.now.procs.now number) }
-    ensures constants { IfOk result (All (HasConstantsBelow (size_of lattice.now))) }
-    ensures globals { IfOk result (HasGlobalsOf facts.now.object.now) }
-{
-    let lines = constraints(alloc, facts, number, lattice)?;
-    match content {
-        Content::Constraints => Ok(lines),
-        Content::Schemes => settle(alloc, lines, lattice.names()),
-    }
-}
 
 // The entry of a procedure with a number and lines.
 fn entry_of(number: u32, proc: &Proc, lines: Lines) -> Result<Entry, Memory>
@@ -71,24 +32,35 @@ fn entry_of(number: u32, proc: &Proc, lines: Lines) -> Result<Entry, Memory>
     })
 }
 
+// Takes the lines at a place away.
+fn take_at(lists: &mut Lists, place: usize) -> Option<Lines>
+    requires { place < length lists.old.items }
+    ensures taken { result ≡ slice_index_or lists.old.items place None }
+    ensures left { lists.new.items ≡ slice_set lists.old.items place None }
+{
+    lists[place].take()
+}
+
 /// The entries of an object's procedures, in the order of their numbers, with what a report tells of each.
 pub fn entries_of(
     alloc: Global,
     content: Content,
-    facts: &Facts<'_>,
-    lattice: &Lattice,
+    analysis: &Analysis<'_>,
 ) -> Result<Entries, Memory>
-    requires { IsFactsOf facts.now.object.now facts.now.procs.now facts.now }
-    ensures entries { IfOk result (AreEntries content facts.now.object.now lattice.now.roles facts.now.procs.now) }
-    ensures constants { IfOk result (All (λ entry. All (HasConstantsBelow (size_of lattice.now)) entry.lines)) }
-    ensures globals { IfOk result (All (λ entry. HasGlobalsOf facts.now.object.now entry.lines)) }
+    requires { IsAnalysis analysis.now }
+    ensures entries { IfOk result (AreEntries content (object_in analysis.now) analysis.now.lattice.now analysis.now.sigs.now (procs_in analysis.now) analysis.now.schemes) }
+    ensures constants { IfOk result (All (λ entry. All (HasConstantsBelow (size_of analysis.now.lattice.now)) entry.lines)) }
+    ensures globals { IfOk result (All (λ entry. HasGlobalsOf (object_in analysis.now) entry.lines)) }
 {
+    let mut lists = analysis.lists(alloc, content)?;
     let mut entries = Entries::new(alloc);
-    for (number, proc) in facts.procs().items().iter().enumerate() {
-        let Ok(number) = u32::try_from(number) else {
+    for (place, proc) in analysis.facts.procs().items().iter().enumerate() {
+        let Ok(number) = u32::try_from(place) else {
             return Err(AllocError);
         };
-        let lines = told(alloc, content, facts, number, lattice)?;
+        let Some(lines) = take_at(&mut lists, place) else {
+            return Err(AllocError);
+        };
         entries.push(entry_of(number, proc, lines)?)?;
     }
     Ok(entries)

@@ -1,11 +1,13 @@
 //! The program's work behind its words: what it reads, what it writes, and with which status it ends.
 #![tactic(auto)]
 
-mod calls;
+mod analysis;
 mod content;
 mod entail;
 mod entries;
 mod globals;
+mod inputs;
+mod lists;
 mod no_text;
 mod objects;
 mod put;

@@ -6,7 +6,7 @@ use crate::refusal::Refusal;
 use std::alloc::AllocError;
 
 /// Why there is no text to write.
-#[derive(Clone, Copy, Debug, PartialEq, Eq)]
+#[derive(Debug, Drop)]
 pub enum NoText {
     /// An input is refused.
     Refused(Refusal),

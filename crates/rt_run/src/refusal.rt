@@ -1,14 +1,16 @@
 // Why an input is refused.
 ghost use Rattle.std.specs.Prelude.{◌≡◌, ◌++◌, IfOk, OnOk};
-ghost use Rattle.rt_run.specs.Errors.{byte_text, check_name, check_text, offset_text, place_text, read_line, refusal_line, section_text};
+ghost use Rattle.rt_run.specs.Errors.{byte_text, check_name, check_text, lattice_line, named_line, numbered_line, offset_text, place_text, read_line, refusal_line, section_text, signatures_line};
 
 use rt_base::Memory;
+use rt_lattice::{LatFault, Role};
 use rt_scheme::print_name;
+use rt_sigs::SigFault;
 use rt_texts::print_number;
 use std::alloc::Global;
 
 /// Why an input is refused.
-#[derive(Clone, Copy, Debug, PartialEq, Eq)]
+#[derive(Debug, Drop)]
 pub enum Refusal {
     /// A check of the object fails: its number, and the byte of the file.
     Object(u8, u32),
@@ -16,8 +18,10 @@ pub enum Refusal {
     Link(u8, u16, u32),
     /// The object's code has a fault: its number, and the section and the offset of the place.
     Code(u8, u16, u32),
-    /// The object is not of the form that this build reads.
-    NotYet,
+    /// The lattice file has this fault, which isn't want of memory.
+    BadLattice(LatFault),
+    /// The file of signatures has this fault, which isn't want of memory.
+    BadSignatures(SigFault),
     /// The text of `entail` is too long.
     TextTooLarge,
     /// A line of the text of `entail` is bad: the byte at which the first bad one begins.
@@ -131,26 +135,94 @@ fn push_bad_line(byte: u32, line: &mut Vec<u8>) -> Result<(), Memory>
     push_byte(byte, line)
 }
 
+// Adds a text, a name that a file has, and the line's end.
+fn push_named(text: &[u8], name: &[u8], line: &mut Vec<u8>) -> Result<(), Memory>
+    ensures { OnOk result (line.new.items ≡ line.old.items ++ named_line text.now name.now) }
+{
+    line.extend_from_slice(text)?;
+    print_name(name, line)?;
+    line.extend_from_slice(b"\n")
+}
+
+// Adds a text, the number of a line of a file, and the line's end.
+fn push_numbered(text: &[u8], number: u32, line: &mut Vec<u8>) -> Result<(), Memory>
+    ensures { OnOk result (line.new.items ≡ line.old.items ++ numbered_line text.now number) }
+{
+    line.extend_from_slice(text)?;
+    print_number(number, line)?;
+    line.extend_from_slice(b"\n")
+}
+
+// Adds the line of two names with no least upper bound.
+fn push_no_join(first: &[u8], second: &[u8], line: &mut Vec<u8>) -> Result<(), Memory>
+    ensures { OnOk result (line.new.items ≡ line.old.items ++ lattice_line (LatFault.NoJoin first.now second.now)) }
+{
+    line.extend_from_slice(b"error 46 NoJoin ")?;
+    print_name(first, line)?;
+    push_named(b" ", second, line)
+}
+
+// Adds the line of a role without a name.
+fn push_no_role(role: Role, line: &mut Vec<u8>) -> Result<(), Memory>
+    ensures { OnOk result (line.new.items ≡ line.old.items ++ lattice_line (LatFault.NoRole role)) }
+{
+    line.extend_from_slice(b"error 48 NoRole ")?;
+    line.extend_from_slice(role.key().as_bytes())?;
+    line.extend_from_slice(b"\n")
+}
+
+// Adds the line of a fault of a lattice file.
+fn push_lattice(fault: &LatFault, line: &mut Vec<u8>) -> Result<(), Memory>
+    ensures { OnOk result (line.new.items ≡ line.old.items ++ lattice_line fault.now) }
+{
+    match fault {
+        LatFault::NotToml => line.extend_from_slice(b"error 40 NotToml\n"),
+        LatFault::Shape(key) => push_named(b"error 41 Shape ", key.items(), line),
+        LatFault::Unknown(name) => push_named(b"error 42 Unknown ", name.items(), line),
+        LatFault::Cycle(name) => push_named(b"error 43 Cycle ", name.items(), line),
+        LatFault::NoTop => line.extend_from_slice(b"error 44 NoTop\n"),
+        LatFault::NoBottom => line.extend_from_slice(b"error 45 NoBottom\n"),
+        LatFault::NoJoin(first, second) => push_no_join(first.items(), second.items(), line),
+        LatFault::NoRole(role) => push_no_role(*role, line),
+        LatFault::TooMany => line.extend_from_slice(b"error 49 TooMany\n"),
+        LatFault::Memory => Ok(()),
+    }
+}
+
+// Adds the line of a fault of a file of signatures.
+fn push_signatures(fault: SigFault, line: &mut Vec<u8>) -> Result<(), Memory>
+    ensures { OnOk result (line.new.items ≡ line.old.items ++ signatures_line fault) }
+{
+    match fault {
+        SigFault::BadLine(number) => push_numbered(b"error 50 BadLine ", number, line),
+        SigFault::UnknownConst(number) => push_numbered(b"error 51 UnknownConst ", number, line),
+        SigFault::Twice(number) => push_numbered(b"error 52 Twice ", number, line),
+        SigFault::TooLarge => line.extend_from_slice(b"error 53 TooLarge\n"),
+        SigFault::Memory => Ok(()),
+    }
+}
+
 // Adds the line of a refusal.
-fn push_refusal(refusal: Refusal, line: &mut Vec<u8>) -> Result<(), Memory>
-    ensures { OnOk result (line.new.items ≡ line.old.items ++ refusal_line refusal) }
+fn push_refusal(refusal: &Refusal, line: &mut Vec<u8>) -> Result<(), Memory>
+    ensures { OnOk result (line.new.items ≡ line.old.items ++ refusal_line refusal.now) }
 {
     match refusal {
-        Refusal::Object(number, offset) => push_object(number, offset, line),
+        Refusal::Object(number, offset) => push_object(*number, *offset, line),
         Refusal::Link(number, section, offset) | Refusal::Code(number, section, offset) => {
-            push_at(number, section, offset, line)
+            push_at(*number, *section, *offset, line)
         }
-        Refusal::NotYet => line.extend_from_slice(b"error 90 NotYet\n"),
+        Refusal::BadLattice(fault) => push_lattice(fault, line),
+        Refusal::BadSignatures(fault) => push_signatures(*fault, line),
         Refusal::TextTooLarge => line.extend_from_slice(b"error 63 TextTooLarge\n"),
-        Refusal::BadLine(place) => push_bad_line(place, line),
+        Refusal::BadLine(place) => push_bad_line(*place, line),
         Refusal::BadJudgement => line.extend_from_slice(b"error 62 BadText\n"),
     }
 }
 
 /// The line on the stream for errors that an input's refusal is told by, with its line end: the number and the name of the
 /// refusal, and where it stands.
-pub fn refusal_line(alloc: Global, refusal: Refusal) -> Result<Vec<u8>, Memory>
-    ensures { IfOk result (λ line. line.items ≡ refusal_line refusal) }
+pub fn refusal_line(alloc: Global, refusal: &Refusal) -> Result<Vec<u8>, Memory>
+    ensures { IfOk result (λ line. line.items ≡ refusal_line refusal.now) }
 {
     let mut line = Vec::new(alloc);
     push_refusal(refusal, &mut line)?;

@@ -2,23 +2,23 @@
 use crate::refusal::Refusal;
 
 /// Why a command has no text to write.
-#[derive(Clone, Copy, Debug, PartialEq, Eq)]
-pub enum Stop {
+#[derive(Debug, Drop)]
+pub enum Stop<'a> {
     /// An input is refused.
     Refused(Refusal),
-    /// A read failed.
-    NoRead,
+    /// A read of the file of this name failed.
+    NoRead(&'a str),
     /// There is no memory.
     NoMemory,
 }
 
 /// How the work of a command ends.
-#[derive(Clone, Copy, Debug, PartialEq, Eq)]
-pub enum Ending {
+#[derive(Debug, Drop)]
+pub enum Ending<'a> {
     /// The text is written.
     Written,
     /// A write failed.
     NoWrite,
     /// There is no text.
-    Stopped(Stop),
+    Stopped(Stop<'a>),
 }

@@ -1,6 +1,9 @@
 // Runs over files and streams in memory.
+ghost use Rattle.std.specs.Prelude.{◌≡◌, [], ◌∷◌, IfOk, length};
+
 use crate::run;
-use rt_base::Bytes;
+use rt_base::{Bytes, Memory};
+use rt_elf::{Reloc, Symbol};
 use rt_outside::{BytesSink, FilesOf};
 use std::alloc::{AllocError, Global};
 use std::process::Abort;
@@ -29,9 +32,6 @@ const LOAD: [u8; 296] = [
     0x04, 0x00, 0x00, 0x00, 0x0C, 0x00, 0x00, 0x00,
 ];
 
-// `jal ra,f`
-const CALL: [u8; 4] = [0xEF, 0x00, 0x00, 0x00];
-
 // What must come of a run.
 #[derive(Clone, Copy)]
 struct Outcome {
@@ -48,14 +48,41 @@ fn words_of(alloc: Global, words: &[&str]) -> Result<Vec<String>, AllocError> {
     Ok(owned)
 }
 
-fn files_with(alloc: Global, content: &[u8]) -> Result<FilesOf, AllocError> {
-    let name = Bytes::from_vec(b"file".to_vec(alloc)?);
+// A file of this name and content.
+fn file_of(alloc: Global, name: &[u8], content: &[u8]) -> Result<(Bytes, Bytes), AllocError> {
+    let name = Bytes::from_vec(name.to_vec(alloc)?);
     let content = Bytes::from_vec(content.to_vec(alloc)?);
-    let contents = vec![in alloc; (name, content)]?;
+    Ok((name, content))
+}
+
+// The file, and the one that an option names.
+fn files_with(alloc: Global, content: &[u8], option: &[u8]) -> Result<FilesOf, AllocError> {
+    let mut contents = Vec::new(alloc);
+    contents.push(file_of(alloc, b"file", content)?)?;
+    contents.push(file_of(alloc, b"option", option)?)?;
     Ok(FilesOf::new(contents, Vec::new(alloc)))
 }
 
-// Runs the words on a file of this content, with an out whose puts of these numbers fail and keep 10 bytes.
+// Runs the words on files, with an out whose puts of these numbers fail and keep 10 bytes.
+fn check_files(
+    rt: &impl Abort,
+    alloc: Global,
+    words: &[&str],
+    mut files: FilesOf,
+    failing_puts: &[u32],
+    outcome: Outcome,
+) -> Result<(), AllocError> {
+    let words = words_of(alloc, words)?;
+    let mut out = BytesSink::new(alloc, 1000, failing_puts.to_vec(alloc)?, 10)?;
+    let mut err = BytesSink::new(alloc, 1000, Vec::new(alloc), 0)?;
+    let status = run(alloc, &words, &mut files, &mut out, &mut err);
+    assert_eq!(rt; status, outcome.status);
+    assert!(rt; out.written() == outcome.out.as_bytes());
+    assert!(rt; err.written() == outcome.err.as_bytes());
+    Ok(())
+}
+
+// The same on a file of this content.
 fn check_failing(
     rt: &impl Abort,
     alloc: Global,
@@ -64,15 +91,8 @@ fn check_failing(
     failing_puts: &[u32],
     outcome: Outcome,
 ) -> Result<(), AllocError> {
-    let words = words_of(alloc, words)?;
-    let mut files = files_with(alloc, content)?;
-    let mut out = BytesSink::new(alloc, 1000, failing_puts.to_vec(alloc)?, 10)?;
-    let mut err = BytesSink::new(alloc, 1000, Vec::new(alloc), 0)?;
-    let status = run(alloc, &words, &mut files, &mut out, &mut err);
-    assert_eq!(rt; status, outcome.status);
-    assert!(rt; out.written() == outcome.out.as_bytes());
-    assert!(rt; err.written() == outcome.err.as_bytes());
-    Ok(())
+    let files = files_with(alloc, content, b"")?;
+    check_files(rt, alloc, words, files, failing_puts, outcome)
 }
 
 // The same where no put fails, and the text of status 0 is wanted.
@@ -192,10 +212,6 @@ fn refuses_objects(rt: HostRuntime) -> Result<(), Fail> {
         object[byte] = value;
         check_told(&rt, alloc, &["schemes", "file"], &object, 1, line)?;
     }
-    let mut object = LOAD;
-    object[52..56].copy_from_slice(&CALL);
-    let call = "error 90 NotYet\n";
-    check_told(&rt, alloc, &["constraints", "file"], &object, 1, call)?;
     Ok(())
 }
 
@@ -212,6 +228,172 @@ fn tells_what_failed(rt: HostRuntime) -> Result<(), Fail> {
         err: "error write\n",
     };
     check_failing(&rt, alloc, &["schemes", "file"], &LOAD, &[0], outcome)?;
+    Ok(())
+}
+
+// A call of the undefined `malloc`, and a store through its result:
+//    0: auipc ra, 0
+//    4: jalr ra, 0(ra)
+//    8: sw x0, 0(a0)
+//   12: ret
+const ALLOCATION: [u32; 4] = [0x00000097, 0x000080E7, 0x00052023, 0x00008067];
+
+// Both arguments through a procedure that gives back its own:
+//    0: mv s0, a1
+//    4: jal ra, 28
+//    8: lw x0, 0(a0)
+//   12: mv a0, s0
+//   16: jal ra, 28
+//   20: blt a0, x0, 24
+//   24: ret
+//   28: mv a0, a0
+//   32: ret
+const IDENTITY: [u32; 9] = [
+    0x00058413, 0x018000EF, 0x00052003, 0x00040513, 0x00C000EF, 0x00054263, 0x00008067, 0x00050513,
+    0x00008067,
+];
+
+// The function of the code.
+fn function(alloc: Global) -> Result<Symbol, Memory>
+    ensures { IfOk result (λ symbol. symbol ≡ record { name = 102 ∷ []; value = 0; size = 0; bind = 1; kind = 2; section = 1 }) }
+{
+    Ok(Symbol {
+        name: Bytes::from_vec(b"f".to_vec(alloc)?),
+        value: 0,
+        size: 0,
+        bind: 1,
+        kind: 2,
+        section: 1,
+    })
+}
+
+// The undefined function `malloc`.
+fn malloc(alloc: Global) -> Result<Symbol, Memory>
+    ensures { IfOk result (λ symbol. (symbol.bind ≡ 1) × (symbol.kind ≡ 0) × (length symbol.name ≡ 6)) }
+{
+    Ok(Symbol {
+        name: Bytes::from_vec(b"malloc".to_vec(alloc)?),
+        value: 0,
+        size: 0,
+        bind: 1,
+        kind: 0,
+        section: 0,
+    })
+}
+
+// The object of `ALLOCATION`.
+fn allocation(alloc: Global) -> Result<Vec<u8>, Memory> {
+    let symbols = [function(alloc)?, malloc(alloc)?];
+    let call = Reloc {
+        section: 1,
+        offset: 0,
+        kind: 19,
+        symbol: 2,
+        addend: 0,
+    };
+    rt_make::pack(alloc, &ALLOCATION, &symbols, &[call])
+}
+
+// The object of `IDENTITY`.
+fn identity(alloc: Global) -> Result<Vec<u8>, Memory> {
+    let symbols = [function(alloc)?];
+    rt_make::pack(alloc, &IDENTITY, &symbols, &[])
+}
+
+// The signature of `malloc`.
+const SIGNATURE: &str = "sig malloc\nf0.in_a0 <= #uint32\nvar f0.out_a0\nend\n";
+
+// Words, the content of the file that the option names, and the outcome, for the object of `ALLOCATION`.
+const OPTIONS: [(&[&str], &str, Outcome); 6] = [
+    (
+        &["schemes", "--signatures", "option", "file"],
+        SIGNATURE,
+        Outcome {
+            status: 0,
+            out: "proc f0 section 1 offset 0 name f\nf0.in_a0 <= #uint32\nt0 <= f0.out_a0\nvar t0.store.s32@0\nend\n",
+            err: "",
+        },
+    ),
+    (
+        &["schemes", "--signatures", "option", "file"],
+        "sig malloc\nf0.in_a0 <= #uint99\nvar f0.out_a0\nend\n",
+        Outcome {
+            status: 1,
+            out: "",
+            err: "error 51 UnknownConst 2\n",
+        },
+    ),
+    (
+        &["schemes", "--signatures", "option", "file"],
+        "sig malloc\nf0.in_a0 <= #uint32\nvar f0.out_a0\n",
+        Outcome {
+            status: 1,
+            out: "",
+            err: "error 50 BadLine 4\n",
+        },
+    ),
+    (
+        &["schemes", "--lattice", "option", "file"],
+        "",
+        Outcome {
+            status: 1,
+            out: "",
+            err: "error 41 Shape names\n",
+        },
+    ),
+    (
+        &[
+            "schemes",
+            "--signatures",
+            "option",
+            "--lattice",
+            "no lattice",
+            "file",
+        ],
+        "sig\n",
+        Outcome {
+            status: 3,
+            out: "",
+            err: "error read no\\20lattice\n",
+        },
+    ),
+    (
+        &[
+            "schemes",
+            "--signatures",
+            "option",
+            "--signatures",
+            "option",
+            "file",
+        ],
+        SIGNATURE,
+        Outcome {
+            status: 2,
+            out: "",
+            err: "usage: retypd COMMAND [--lattice FILE] [--signatures FILE] ARGUMENTS\n",
+        },
+    ),
+];
+
+#[test]
+fn reads_options(rt: HostRuntime) -> Result<(), Fail> {
+    let alloc = rt.alloc();
+    let object = allocation(alloc)?;
+    for (words, option, outcome) in OPTIONS {
+        let files = files_with(alloc, object.as_slice(), option.as_bytes())?;
+        check_files(&rt, alloc, words, files, &[], outcome)?;
+    }
+    Ok(())
+}
+
+#[test]
+fn follows_calls(rt: HostRuntime) -> Result<(), Fail> {
+    let alloc = rt.alloc();
+    let object = identity(alloc)?;
+    let schemes =
+        "proc f0 section 1 offset 0 name f\nf0.in_a1 <= #int32\nf0.in_a1 <= f0.out_a0\nvar f0.in_a0.load.s32@0\nend\n\
+        proc f1 section 1 offset 28 name -\nf1.in_a0 <= f1.out_a0\nend\n";
+    check_written(&rt, alloc, &["schemes", "file"], object.as_slice(), schemes)?;
     Ok(())
 }
 

@@ -1,25 +1,23 @@
 // The whole run.
-ghost use Rattle.std.specs.Prelude.{◌≡◌, ◌≢◌, ◌≤◌, ◌⊎◌, ◌↔◌, ℕ, List, None, map, IfSome, MatchResult};
+ghost use Rattle.std.specs.Prelude.{◌≡◌, ◌≢◌, ◌≤◌, ◌⊎◌, ◌↔◌, ℕ, List, None, map, IfSome, MatchResult, option_copied};
 ghost use Rattle.std.specs.String.{string_bytes};
 ghost use Rattle.std.specs.Io.KnownBytes.{Appends};
 ghost use Rattle.rt_base.specs.Outside.{Rose, AppendsFront, Tells};
-ghost use Rattle.rt_run.specs.Words.{command_of, file_of};
-ghost use Rattle.rt_run.specs.Meant.{meaning};
-ghost use Rattle.rt_run.specs.Objects.{IsRefused};
-ghost use Rattle.rt_run.specs.Reports.{IsReportText};
-ghost use Rattle.rt_run.specs.Entails.{IsEntailRefused, IsEntailText};
+ghost use Rattle.rt_run.specs.Words.{Step, Report, Entail, command_of};
+ghost use Rattle.rt_run.specs.Meant.{meaning, options_of};
 ghost use Rattle.rt_run.specs.Errors.{usage_line, read_line, write_line, memory_line, refusal_line};
-ghost use Rattle.rt_run.specs.Status.{Ends, Stops, Writes, IsRefusedBy, IsTextOf};
+ghost use Rattle.rt_run.specs.Status.{ComesTo, Ends, Gives, IsRefusedBy, IsStopFor, Stops, Writes};
 
 use crate::content::Content;
 use crate::entail::entail_text;
+use crate::inputs::{content_of, lattice_for, signatures_for};
 use crate::no_text::NoText;
 use crate::put::{put_all, tell};
 use crate::refusal::{Refusal, read_line, refusal_line};
 use crate::reports::report_text;
 use crate::stop::{Ending, Stop};
-use crate::words::{Request, read_words};
-use rt_outside::{FileFault, Files, Sink};
+use crate::words::{Options, Request, read_words};
+use rt_outside::{Files, Sink};
 use std::alloc::Global;
 
 /// The greatest length of an object, in bytes.
@@ -28,76 +26,110 @@ const OBJECT_LIMIT: u64 = 16_777_216;
 /// The greatest length of the text of `entail`, in bytes.
 const TEXT_LIMIT: u64 = 1_048_576;
 
-// The text of a report of the object of a name.
-fn report<F: Files>(
-    alloc: Global,
-    content: Content,
-    object: &str,
-    files: &mut F,
-) -> Result<Vec<u8>, Stop>
-    ensures { MatchResult result
-        (λ text. IfSome (F.content files.old object.now) (λ bytes. IsReportText content bytes text.items))
-        (Stops IsRefused (F.content files.old object.now) (F.faults files.old object.now) (F.faults files.new object.now)) }
+// Why there is no text, as why a command stops.
+fn stop_of<'a>(why: NoText) -> Stop<'a>
+    ensures { IsStopFor result why }
 {
-    let bytes = match files.read(alloc, object, OBJECT_LIMIT) {
-        Ok(bytes) => bytes,
-        Err(FileFault::Failed) => return Err(Stop::NoRead),
-        Err(FileFault::Longer) => return Err(Stop::Refused(Refusal::Object(16, 16_777_216))),
-        Err(FileFault::Memory) => return Err(Stop::NoMemory),
-    };
-    match report_text(alloc, content, bytes.as_slice()) {
-        Ok(text) => Ok(text),
-        Err(NoText::Refused(refusal)) => Err(Stop::Refused(refusal)),
-        Err(NoText::Memory) => Err(Stop::NoMemory),
+    match why {
+        NoText::Refused(refusal) => Stop::Refused(refusal),
+        NoText::Memory => Stop::NoMemory,
     }
 }
 
-// The text that `entail` writes for the file of a name and a judgement.
-fn entail<F: Files>(
+// The text of a report of the object of a name.
+fn report<'a, F: Files>(
     alloc: Global,
-    file: &str,
+    content: Content,
+    options: Options<'a>,
+    object: &'a str,
+    files: &mut F,
+) -> Result<Vec<u8>, Stop<'a>>
+    ensures { let command = Report content (options_of options.entry) object.now in MatchResult result
+        (λ text. Gives command (F.content files.old) text.items)
+        (Stops command (F.content files.old) (F.faults files.old) (F.faults files.new)) }
+{
+    let lattice = match lattice_for(alloc, options.lattice, files) {
+        Ok(lattice) => lattice,
+        Err(stop) => return Err(stop),
+    };
+    let sigs = match signatures_for(alloc, options.signatures, lattice.names(), files) {
+        Ok(sigs) => sigs,
+        Err(stop) => return Err(stop),
+    };
+    let too_large = Refusal::Object(16, 16_777_216);
+    let bytes = match content_of(alloc, object, OBJECT_LIMIT, too_large, files) {
+        Ok(bytes) => bytes,
+        Err(stop) => return Err(stop),
+    };
+    match report_text(alloc, content, bytes.as_slice(), &sigs, &lattice) {
+        Ok(text) => Ok(text),
+        Err(why) => Err(stop_of(why)),
+    }
+}
+
+// The text that `entail` writes for the file of a name and a judgement, with the constants of a lattice.
+fn entail<'a, F: Files>(
+    alloc: Global,
+    lattice: Option<&'a str>,
+    file: &'a str,
     judgement: &str,
     files: &mut F,
-) -> Result<Vec<u8>, Stop>
-    ensures { MatchResult result
-        (λ text. IfSome (F.content files.old file.now) (λ bytes. IsEntailText judgement.now bytes text.items))
-        (Stops (IsEntailRefused judgement.now) (F.content files.old file.now) (F.faults files.old file.now) (F.faults files.new file.now)) }
+) -> Result<Vec<u8>, Stop<'a>>
+    ensures { let command = Entail (option_copied lattice.entry) file.now judgement.now in MatchResult result
+        (λ text. Gives command (F.content files.old) text.items)
+        (Stops command (F.content files.old) (F.faults files.old) (F.faults files.new)) }
 {
-    let bytes = match files.read(alloc, file, TEXT_LIMIT) {
-        Ok(bytes) => bytes,
-        Err(FileFault::Failed) => return Err(Stop::NoRead),
-        Err(FileFault::Longer) => return Err(Stop::Refused(Refusal::TextTooLarge)),
-        Err(FileFault::Memory) => return Err(Stop::NoMemory),
+    let lattice = match lattice_for(alloc, lattice, files) {
+        Ok(lattice) => lattice,
+        Err(stop) => return Err(stop),
     };
-    match entail_text(alloc, bytes.as_slice(), judgement.as_bytes()) {
+    let bytes = match content_of(alloc, file, TEXT_LIMIT, Refusal::TextTooLarge, files) {
+        Ok(bytes) => bytes,
+        Err(stop) => return Err(stop),
+    };
+    match entail_text(
+        alloc,
+        bytes.as_slice(),
+        judgement.as_bytes(),
+        lattice.names(),
+    ) {
         Ok(text) => Ok(text),
-        Err(NoText::Refused(refusal)) => Err(Stop::Refused(refusal)),
-        Err(NoText::Memory) => Err(Stop::NoMemory),
+        Err(why) => Err(stop_of(why)),
     }
 }
 
 // The text that is written for a request.
-fn text_of<F: Files>(alloc: Global, request: Request<'_>, files: &mut F) -> Result<Vec<u8>, Stop>
-    ensures { let file = file_of (meaning request.entry) in MatchResult result
-        (λ text. IfSome (F.content files.old file) (λ bytes. IsTextOf (meaning request.entry) bytes text.items))
-        (Stops (IsRefusedBy (meaning request.entry)) (F.content files.old file) (F.faults files.old file) (F.faults files.new file)) }
+fn text_of<'a, F: Files>(
+    alloc: Global,
+    request: Request<'a>,
+    files: &mut F,
+) -> Result<Vec<u8>, Stop<'a>>
+    ensures { MatchResult result
+        (λ text. Gives (meaning request.entry) (F.content files.old) text.items)
+        (Stops (meaning request.entry) (F.content files.old) (F.faults files.old) (F.faults files.new)) }
 {
     match request {
-        Request::Constraints { object } => report(alloc, Content::Constraints, object, files),
-        Request::Schemes { object } => report(alloc, Content::Schemes, object, files),
-        Request::Entail { file, judgement } => entail(alloc, file, judgement, files),
+        Request::Report {
+            content,
+            options,
+            object,
+        } => report(alloc, content, options, object, files),
+        Request::Entail {
+            lattice,
+            file,
+            judgement,
+        } => entail(alloc, lattice, file, judgement, files),
     }
 }
 
 // Writes the text of a request.
-fn work<F: Files, O: Sink>(
+fn work<'a, F: Files, O: Sink>(
     alloc: Global,
-    request: Request<'_>,
+    request: Request<'a>,
     files: &mut F,
     out: &mut O,
-) -> Ending
-    ensures { let file = file_of (meaning request.entry) in
-        Ends (meaning request.entry) (F.content files.old file) (F.faults files.old file) (F.faults files.new file)
+) -> Ending<'a>
+    ensures { Ends (meaning request.entry) (F.content files.old) (F.faults files.old) (F.faults files.new)
         (O.faults out.old) (O.faults out.new) (O.written out.old) (O.written out.new) result }
 {
     match text_of(alloc, request, files) {
@@ -110,9 +142,9 @@ fn work<F: Files, O: Sink>(
 }
 
 // Tells a refusal, and answers the status.
-fn tell_refusal<E: Sink>(alloc: Global, refusal: Refusal, err: &mut E) -> u8
+fn tell_refusal<E: Sink>(alloc: Global, refusal: &Refusal, err: &mut E) -> u8
     ensures statuses { (result ≡ 1) ⊎ (result ≡ 5) }
-    ensures told { result ≡ 1 → Tells (E.faults err.old) (E.faults err.new) (E.written err.old) (E.written err.new) (refusal_line refusal) }
+    ensures told { result ≡ 1 → Tells (E.faults err.old) (E.faults err.new) (E.written err.old) (E.written err.new) (refusal_line refusal.now) }
     ensures memory { result ≡ 5 → Tells (E.faults err.old) (E.faults err.new) (E.written err.old) (E.written err.new) memory_line }
 {
     match refusal_line(alloc, refusal) {
@@ -149,8 +181,9 @@ fn tell_unread<E: Sink>(alloc: Global, name: &str, err: &mut E) -> u8
 /// aren't of the grammar, 3 a read failed, 4 a write failed, 5 no memory. At each status but 0 one line on `err` tells why.
 ///
 /// `constraints OBJECT` writes, for each procedure of the object, the lines of its instructions, and `schemes OBJECT` a scheme
-/// that tells whoever calls it the same. `entail FILE JUDGEMENT` writes whether the judgement is derivable from the lines of the file. The text is
-/// made whole before it is put.
+/// that tells whoever calls it the same. `entail FILE JUDGEMENT` writes whether the judgement is derivable from the lines of the file. The option
+/// `--lattice FILE` gives the constants, and `--signatures FILE`, which `entail` has not, what functions outside the object take and give. Before
+/// its own file a command reads and checks the lattice, and then the signatures. The text is made whole before it is put.
 pub fn run<F: Files, O: Sink, E: Sink>(
     alloc: Global,
     words: &Vec<String>,
@@ -164,27 +197,26 @@ pub fn run<F: Files, O: Sink, E: Sink>(
 
     // At status 0 a text that the command writes was written, and nothing on err.
     ensures written { result ≡ 0 → IfSome (command_of (map string_bytes words.now.items)) (λ command.
-        Writes command (F.content files.old (file_of command)) (Appends (O.written out.old) (O.written out.new))) }
+        Writes command (F.content files.old) (Appends (O.written out.old) (O.written out.new))) }
     ensures silent { result ≡ 0 → E.written err.new ≡ E.written err.old }
 
-    // At status 1 the content of the command's file is refused, by the refusal that the line tells.
-    ensures refused { result ≡ 1 → IfSome (command_of (map string_bytes words.now.items)) (λ command.
-        IfSome (F.content files.old (file_of command)) (λ bytes. (refusal : Refusal) × IsRefusedBy command bytes refusal ×
-        Tells (E.faults err.old) (E.faults err.new) (E.written err.old) (E.written err.new) (refusal_line refusal))) }
+    // At status 1 the first of the command's files that is refused is so by the refusal that the line tells.
+    ensures refused { result ≡ 1 → IfSome (command_of (map string_bytes words.now.items)) (λ command. (refusal : Refusal) × IsRefusedBy command (F.content files.old) refusal ×
+        Tells (E.faults err.old) (E.faults err.new) (E.written err.old) (E.written err.new) (refusal_line refusal)) }
 
     ensures usage_told { result ≡ 2 →
         Tells (E.faults err.old) (E.faults err.new) (E.written err.old) (E.written err.new) usage_line }
 
-    // At status 3 a read of the command's file failed, and the line names it.
-    ensures unread { result ≡ 3 → IfSome (command_of (map string_bytes words.now.items)) (λ command.
-        Rose (F.faults files.old (file_of command)) (F.faults files.new (file_of command)) ×
-        Tells (E.faults err.old) (E.faults err.new) (E.written err.old) (E.written err.new) (read_line (file_of command))) }
+    // At status 3 a read of a file of the command failed, where those before it are accepted, and the line names it.
+    ensures unread { result ≡ 3 → IfSome (command_of (map string_bytes words.now.items)) (λ command. (step : Step) × (name : List ℕ) ×
+        ComesTo command (F.content files.old) step name × Rose (F.faults files.old name) (F.faults files.new name) ×
+        Tells (E.faults err.old) (E.faults err.new) (E.written err.old) (E.written err.new) (read_line name)) }
 
     // At status 4 a put failed, and a front of a text that the command writes was written.
     ensures unwritten { result ≡ 4 → Rose (O.faults out.old) (O.faults out.new) ×
         Tells (E.faults err.old) (E.faults err.new) (E.written err.old) (E.written err.new) write_line }
     ensures front { result ≡ 4 → IfSome (command_of (map string_bytes words.now.items)) (λ command.
-        Writes command (F.content files.old (file_of command)) (AppendsFront (O.written out.old) (O.written out.new))) }
+        Writes command (F.content files.old) (AppendsFront (O.written out.old) (O.written out.new))) }
 
     ensures memory_told { result ≡ 5 →
         Tells (E.faults err.old) (E.faults err.new) (E.written err.old) (E.written err.new) memory_line }
@@ -205,8 +237,8 @@ pub fn run<F: Files, O: Sink, E: Sink>(
             tell(err, b"error write\n");
             4
         }
-        Ending::Stopped(Stop::Refused(refusal)) => tell_refusal(alloc, refusal, err),
-        Ending::Stopped(Stop::NoRead) => tell_unread(alloc, request.file(), err),
+        Ending::Stopped(Stop::Refused(refusal)) => tell_refusal(alloc, &refusal, err),
+        Ending::Stopped(Stop::NoRead(name)) => tell_unread(alloc, name, err),
         Ending::Stopped(Stop::NoMemory) => {
             tell(err, b"error memory\n");
             5

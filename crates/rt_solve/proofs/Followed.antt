@@ -12,9 +12,9 @@ use Rattle.rt_terms.specs.Orders.{Below}
 use Rattle.rt_rules.specs.Rules.{Derivable}
 use Rattle.rt_rules.specs.Rules.Derivable.{sub_line, sub_chain}
 use Rattle.rt_rules.specs.Put.{exist, put_found, put_each_at, put_each, BecomesSelf, HasUse, IsFollowing}
-use Rattle.rt_rules.specs.Laws.{NamesBase}
 use Rattle.rt_rules.proofs.Covering.{extended-nil}
 use Rattle.rt_solve.specs.Sources.{AreBelow, AreSources, IsFollowed}
+use Rattle.rt_solve.specs.Told.{IsSideOf}
 use Rattle.rt_solve.specs.Uses.{DefinesLeft, DefinesRight}
 use Rattle.rt_solve.proofs.Using.{left_or_right, some_number}
 
@@ -23,12 +23,12 @@ some_of x y e = cc
 
 -- what may stand in the place of the existential n
 abbrev pub IsBelow : List Line → ℕ → Dtv → Type 0
-IsBelow lines n z = NamesBase lines z.base × ((order : Below) → Derivable order lines (Sub z (exist n)))
+IsBelow lines n z = IsSideOf lines z × ((order : Below) → Derivable order lines (Sub z (exist n)))
 
 pub none_below : (place : ℕ → Option Dtv) (lines : List Line) → ((n : ℕ) → place n ≡ None) → AreBelow place lines
 none_below place lines none = record {
   below = λ n z e. absurd (nothing n z e);
-  named = λ n z e. absurd (nothing n z e);
+  stands = λ n z e. absurd (nothing n z e);
 }
   where
     nothing : (n : ℕ) (z : Dtv) → place n ≡ Some z → ⊥
@@ -46,14 +46,14 @@ no_sources place lines none = record {
 module _ (place : ℕ → Option Dtv) (lines : List Line) (are : AreBelow place lines) (n : ℕ) where
   -- what becomes of a definition without letters
   by_found : (m : ℕ) (found : Option Dtv) → place m ≡ found → Contains lines (Sub (exist m) (exist n)) → IsBelow lines n (put_found found (Exist m) [])
-  by_found m None e c = ((Sub (exist m) (exist n), exist m, c, inl refl, refl), λ order. sub_line c)
-  by_found m (Some z) e c = (are.named m z e, λ order. subst (λ v. Derivable order lines (Sub v (exist n))) (sym (extended-nil z)) (sub_chain (are.below m z e order) (sub_line c)))
+  by_found m None e c = ((Sub (exist m) (exist n), c, inl refl), λ order. sub_line c)
+  by_found m (Some z) e c = subst (IsBelow lines n) (sym (extended-nil z)) (are.stands m z e, λ order. sub_chain (are.below m z e order) (sub_line c))
 
   by_base : (b : Base) → Contains lines (Sub (record { base = b; word = [] }) (exist n)) → IsBelow lines n (put_each_at place b [])
   by_base (Exist m) c = by_found m (place m) refl c
-  by_base (Proc m) c = ((Sub (record { base = Proc m; word = [] }) (exist n), record { base = Proc m; word = [] }, c, inl refl, refl), λ order. sub_line c)
-  by_base (Global m) c = ((Sub (record { base = Global m; word = [] }) (exist n), record { base = Global m; word = [] }, c, inl refl, refl), λ order. sub_line c)
-  by_base (Outer m) c = ((Sub (record { base = Outer m; word = [] }) (exist n), record { base = Outer m; word = [] }, c, inl refl, refl), λ order. sub_line c)
+  by_base (Proc m) c = ((Sub (record { base = Proc m; word = [] }) (exist n), c, inl refl), λ order. sub_line c)
+  by_base (Global m) c = ((Sub (record { base = Global m; word = [] }) (exist n), c, inl refl), λ order. sub_line c)
+  by_base (Outer m) c = ((Sub (record { base = Outer m; word = [] }) (exist n), c, inl refl), λ order. sub_line c)
 
   pub becomes_below : (w : Dtv) (l : Line) → w.word ≡ [] → l ≡ Sub w (exist n) → Contains lines l → IsBelow lines n (put_each place w)
   becomes_below w l e f c =
@@ -64,7 +64,7 @@ module _ (place : ℕ → Option Dtv) (lines : List Line) (are : AreBelow place 
   pub below_one_more : (more : ℕ → Option Dtv) (z : Dtv) → ((q : ℕ) → more q ≡ cond (nat_eq n q) (Some z) (place q)) → IsBelow lines n z → AreBelow more lines
   below_one_more more z updated is_below = record {
     below = λ q y e. (each q y (nat_eq n q) refl e).1;
-    named = λ q y e. (each q y (nat_eq n q) refl e).0;
+    stands = λ q y e. (each q y (nat_eq n q) refl e).0;
   }
     where
       each : (q : ℕ) (y : Dtv) (t : Bool) → nat_eq n q ≡ t → more q ≡ Some y → IsBelow lines q y
@@ -73,7 +73,7 @@ module _ (place : ℕ → Option Dtv) (lines : List Line) (are : AreBelow place 
           subst (λ v. IsBelow lines q v) (some_of z y (sym here ∙ p)) (subst (λ k. IsBelow lines k z) (eqb-true n q e) is_below)
       each q y false e p =
           let there : more q ≡ place q = updated q ∙ (λ i. cond (e i) (Some z) (place q)) in
-          (are.named q y (sym there ∙ p), are.below q y (sym there ∙ p))
+          (are.stands q y (sym there ∙ p), are.below q y (sym there ∙ p))
 
 -- a line as it is read
 pub read_contains : (lines : List Line) (k : ℕ) (l : Line) → k < length lines → l ≡ get_or lines k l → Contains lines l

@@ -1,4 +1,6 @@
 pub mod Told
+mod Interfaces
+mod Grouping
 pub mod Distinct
 pub mod Using
 pub mod Choosing
@@ -11,3 +13,8 @@ pub mod Tidying
 pub mod Numbering
 pub mod Sorting
 mod Followed
+mod Naming
+mod Gathering
+mod Linking
+mod Setting
+mod Solving

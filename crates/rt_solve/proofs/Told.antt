@@ -1,5 +1,5 @@
 -- Lists that tell the outside the same.
-use Rattle.std.proofs.Common.{◌≡◌, ℕ, ◌⊎◌, inl, inr, List, map, All, Contains, Option, Some, None, Bool, true, false, cond, refl, sym, subst}
+use Rattle.std.proofs.Common.{◌≡◌, ℕ, ◌⊎◌, inl, inr, List, [], ◌++◌, map, All, Contains, Option, Some, None, Bool, true, false, cond, refl, ap, sym, subst, ◌∙◌, append_assoc}
 use Rattle.std.specs.List.Sorted.{IsPermutation}
 use Rattle.std.proofs.lemmas.List.Elements.{All-contains}
 use Rattle.std.proofs.lemmas.List.Sorted.{Contains-permutation, IsPermutation-sym}
@@ -13,47 +13,80 @@ use Rattle.rt_terms.specs.Equality.{variable_eq}
 use Rattle.rt_terms.specs.Lines.{HasConstantsBelow}
 use Rattle.rt_terms.specs.Orders.{Below}
 use Rattle.rt_terms.proofs.Equal.{variable_equal}
-use Rattle.rt_rules.specs.Rules.{HasSide, Derivable}
+use Rattle.rt_rules.specs.Rules.{extended, HasSide, Derivable}
 use Rattle.rt_rules.specs.Rules.Derivable.{left_side, sub_self}
 use Rattle.rt_rules.specs.Alike.{is_inside_for, map_line}
 use Rattle.rt_rules.specs.Put.{exist, put_found, put_each_at, put_each, IsPutting}
-use Rattle.rt_rules.specs.Laws.{NamesBase}
+use Rattle.rt_rules.specs.Laws.{NamesBase, renamed}
 use Rattle.rt_rules.proofs.Lists.{Contains-map, Contains-map_source, All-from_contains}
 use Rattle.rt_rules.proofs.Carry.{given}
-use Rattle.rt_rules.proofs.Covering.{exchange, Alike-refl, Alike-trans}
+use Rattle.rt_rules.proofs.Covering.{exchange, extended-nil, Alike-refl, Alike-trans}
 use Rattle.rt_rules.proofs.Putting.{following_lem, putting_lem}
-use Rattle.rt_numbering.specs.Numbering.{deduplicated, numbered}
+use Rattle.rt_numbering.specs.Numbering.{deduplicated, existentials, numbered, placed}
 use Rattle.rt_numbering.proofs.Deduplicating.{deduplicated-has, deduplicated-source}
-use Rattle.rt_numbering.proofs.Numbers.{numbering_lem, numbered-constants, numbered-bases}
+use Rattle.rt_numbering.proofs.Numbers.{numbering_lem, numbered-constants}
+use Rattle.rt_solve.specs.Sides.{IsFront}
 use Rattle.rt_solve.specs.Sources.{AreSources}
-use Rattle.rt_solve.specs.Told.{IsExist, TellsSame}
+use Rattle.rt_solve.specs.Told.{ExtendsSide, IsExist, IsSideOf, TellsSame}
 use Rattle.rt_solve.specs.Tidy.{without_self}
 use Rattle.rt_solve.proofs.Followed.{sources_following}
+
+-- Fronts, and what bases sides have.
+
+front-self : (x : Dtv) → IsFront x x
+front-self x = ([], sym (extended-nil x))
+
+extended-twice : (x : Dtv) (v w : List Label) → extended (extended x v) w ≡ extended x (v ++ w)
+extended-twice x v w = λ i. record { base = x.base; word = append_assoc x.word v w i }
+
+front-trans : (x y z : Dtv) → IsFront x y → IsFront y z → IsFront x z
+front-trans x y z (v, e) (w, f) = (v ++ w, f ∙ ap (λ u. extended u w) e ∙ extended-twice x v w)
+
+-- a variable has the base of its fronts
+front-base : (x y : Dtv) → IsFront x y → y.base ≡ x.base
+front-base x y (w, e) = ap (λ u. u.base) e
+
+side_itself : (lines : List Line) (x : Dtv) → IsSideOf lines x → ExtendsSide lines x
+side_itself lines x side = (x, side, front-self x)
+
+-- lines that tell the same name no base more that is no existential
+pub TellsSame-bases : (first second : List Line) → TellsSame first second → (b : Base) → NamesBase second b → IsExist b ⊎ NamesBase first b
+TellsSame-bases first second told b (l, y, c, h, e) = by (told.sides y (l, c, h))
+  where
+    by : IsExist y.base ⊎ ExtendsSide first y → IsExist b ⊎ NamesBase first b
+    by (inl exists) = inl (subst IsExist e exists)
+    by (inr (x, (k, d, g), front)) = inr (k, x, d, g, sym (front-base x y front) ∙ e)
+
+-- Steps.
 
 pub TellsSame-refl : (lines : List Line) → TellsSame lines lines
 TellsSame-refl lines = record {
   alike = λ order p. Alike-refl order (is_inside_for p) lines;
   constants = λ count all. all;
-  bases = λ b names. inr names;
+  sides = λ y side. inr (side_itself lines y side);
 }
 
 pub TellsSame-trans : (first second third : List Line) → TellsSame first second → TellsSame second third → TellsSame first third
 TellsSame-trans first second third a b = record {
   alike = λ order p. Alike-trans order (is_inside_for p) first second third (a.alike order p) (b.alike order p);
   constants = λ count all. b.constants count (a.constants count all);
-  bases = λ c names. back c (b.bases c names);
+  sides = λ z side. by_second z (b.sides z side);
 }
   where
-    back : (c : Base) → IsExist c ⊎ NamesBase second c → IsExist c ⊎ NamesBase first c
-    back c (inl e) = inl e
-    back c (inr names) = a.bases c names
+    by_first : (y z : Dtv) → IsFront y z → IsExist y.base ⊎ ExtendsSide first y → IsExist z.base ⊎ ExtendsSide first z
+    by_first y z front (inl exists) = inl (subst IsExist (sym (front-base y z front)) exists)
+    by_first y z front (inr (x, side, before)) = inr (x, side, front-trans x y z before front)
+
+    by_second : (z : Dtv) → IsExist z.base ⊎ ExtendsSide second z → IsExist z.base ⊎ ExtendsSide first z
+    by_second z (inl exists) = inl exists
+    by_second z (inr (y, side, front)) = by_first y z front (a.sides y side)
 
 -- lines of a list that derive all of it tell the same
 pub TellsSame-part : (first second : List Line) → ((l : Line) → Contains second l → Contains first l) → ((order : Below) (l : Line) → Contains first l → Derivable order second l) → TellsSame first second
 TellsSame-part first second part derived = record {
   alike = λ order p. exchange order (is_inside_for p) first second (derived order) (λ l c. given order first l (part l c));
   constants = λ count all. All-from_contains (HasConstantsBelow count) second (λ l c. All-contains (HasConstantsBelow count) first l all (part l c));
-  bases = λ b names. inr (names.0, names.1, part names.0 names.2, names.3, names.4);
+  sides = λ y (l, c, h). inr (side_itself first y (l, part l c, h));
 }
 
 -- the same lines in another order tell the same
@@ -86,49 +119,42 @@ side_source f (Sub x y) z (inr e) = (y, inr refl, e)
 side_source f (Low k x) z e = (x, refl, e)
 side_source f (Up x k) z e = (x, refl, e)
 
--- the bases that images of lines name are those of images of sides
-pub bases-map : (f : Dtv → Dtv) (lines : List Line) → ((l : Line) (x : Dtv) → Contains lines l → HasSide l x → IsExist (f x).base ⊎ NamesBase lines (f x).base) → (b : Base) → NamesBase (map (map_line f) lines) b → IsExist b ⊎ NamesBase lines b
-bases-map f lines stays b (k, z, c, h, e) =
+-- the sides of images of lines are images of sides
+pub sides-map : (f : Dtv → Dtv) (lines : List Line) → ((x : Dtv) → IsSideOf lines x → IsExist (f x).base ⊎ ExtendsSide lines (f x)) → (y : Dtv) → IsSideOf (map (map_line f) lines) y → IsExist y.base ⊎ ExtendsSide lines y
+sides-map f lines stays y (k, c, h) =
     let s = Contains-map_source (map_line f) lines k c in
-    let t = side_source f s.0 z (subst (λ l. HasSide l z) (sym s.2) h) in
-    subst (λ c. IsExist c ⊎ NamesBase lines c) e (subst (λ v. IsExist v.base ⊎ NamesBase lines v.base) t.2 (stays s.0 t.0 s.1 t.1))
+    let t = side_source f s.0 y (subst (λ l. HasSide l y) (sym s.2) h) in
+    subst (λ v. IsExist v.base ⊎ ExtendsSide lines v) t.2 (stays t.0 (s.0, s.1, t.1))
 
--- what is put in a place is a side of a line
-put_found-base : (place : ℕ → Option Dtv) (lines : List Line) → IsPutting place lines → (found : Option Dtv) (n : ℕ) (w : List Label) → place n ≡ found → NamesBase lines (Exist n) → NamesBase lines (put_found found (Exist n) w).base
-put_found-base place lines putting None n w e names = names
-put_found-base place lines putting (Some z) n w e names = (Sub z (exist n), z, (putting.only n z e).stands, inl refl, refl)
+module _ (place : ℕ → Option Dtv) (lines : List Line) (stands : (n : ℕ) (z : Dtv) → place n ≡ Some z → IsSideOf lines z) where
+  put_found-side : (found : Option Dtv) (n : ℕ) (w : List Label) → place n ≡ found → IsSideOf lines (record { base = Exist n; word = w }) → ExtendsSide lines (put_found found (Exist n) w)
+  put_found-side None n w e side = side_itself lines (record { base = Exist n; word = w }) side
+  put_found-side (Some z) n w e side = (z, stands n z e, (w, refl))
 
-put_each_at-base : (place : ℕ → Option Dtv) (lines : List Line) → IsPutting place lines → (b : Base) (w : List Label) → NamesBase lines b → NamesBase lines (put_each_at place b w).base
-put_each_at-base place lines putting (Exist n) w names = put_found-base place lines putting (place n) n w refl names
-put_each_at-base place lines putting (Proc n) w names = names
-put_each_at-base place lines putting (Global n) w names = names
-put_each_at-base place lines putting (Outer n) w names = names
+  put_each_at-side : (b : Base) (w : List Label) → IsSideOf lines (record { base = b; word = w }) → ExtendsSide lines (put_each_at place b w)
+  put_each_at-side (Exist n) w side = put_found-side (place n) n w refl side
+  put_each_at-side (Proc n) w side = side_itself lines (record { base = Proc n; word = w }) side
+  put_each_at-side (Global n) w side = side_itself lines (record { base = Global n; word = w }) side
+  put_each_at-side (Outer n) w side = side_itself lines (record { base = Outer n; word = w }) side
+
+  -- where sides are put in places, what comes is a side with more letters
+  put-sides : (y : Dtv) → IsSideOf (map (map_line (put_each place)) lines) y → IsExist y.base ⊎ ExtendsSide lines y
+  put-sides = sides-map (put_each place) lines (λ x side. inr (put_each_at-side x.base x.word side))
 
 -- lines tell the same with the only definitions of existentials in their places
 pub TellsSame-putting : (place : ℕ → Option Dtv) (lines : List Line) → IsPutting place lines → TellsSame lines (map (map_line (put_each place)) lines)
 TellsSame-putting place lines putting = record {
   alike = λ order p. putting_lem order (is_inside_for p) lines place putting (λ n z e. refl);
   constants = λ count all. constants-map count (put_each place) lines all;
-  bases = bases-map (put_each place) lines (λ l x c h. inr (put_each_at-base place lines putting x.base x.word (l, x, c, h, refl)));
+  sides = put-sides place lines (λ n z e. (Sub z (exist n), (putting.only n z e).stands, inl refl));
 }
-
--- what existentials follow is of bases that the lines name
-put_found-named : (place : ℕ → Option Dtv) (lines : List Line) → AreSources place lines → (found : Option Dtv) (n : ℕ) (w : List Label) → place n ≡ found → NamesBase lines (Exist n) → NamesBase lines (put_found found (Exist n) w).base
-put_found-named place lines sources None n w e names = names
-put_found-named place lines sources (Some z) n w e names = sources.are_below.named n z e
-
-put_each_at-named : (place : ℕ → Option Dtv) (lines : List Line) → AreSources place lines → (b : Base) (w : List Label) → NamesBase lines b → NamesBase lines (put_each_at place b w).base
-put_each_at-named place lines sources (Exist n) w names = put_found-named place lines sources (place n) n w refl names
-put_each_at-named place lines sources (Proc n) w names = names
-put_each_at-named place lines sources (Global n) w names = names
-put_each_at-named place lines sources (Outer n) w names = names
 
 -- lines tell the same with what existentials follow in their places
 pub TellsSame-sources : (place : ℕ → Option Dtv) (lines : List Line) → AreSources place lines → TellsSame lines (map (map_line (put_each place)) lines)
 TellsSame-sources place lines sources = record {
   alike = λ order p. following_lem order (is_inside_for p) lines place (sources_following place lines sources) (λ n z e. refl);
   constants = λ count all. constants-map count (put_each place) lines all;
-  bases = bases-map (put_each place) lines (λ l x c h. inr (put_each_at-named place lines sources x.base x.word (l, x, c, h, refl)));
+  sides = put-sides place lines sources.are_below.stands;
 }
 
 -- a variable that lies below itself
@@ -181,8 +207,8 @@ TellsSame-without_self lines = record {
       (λ l c. without_self_forth order (map without_self lines) l (given order (map without_self lines) (without_self l) (Contains-map without_self lines l c)))
       (λ k c. let s = Contains-map_source without_self lines k c in subst (Derivable order lines) s.2 (without_self_back order lines s.0 (given order lines s.0 s.1)));
   constants = λ count all. All-images without_self (HasConstantsBelow count) (HasConstantsBelow count) (HasConstantsBelow-without_self count) lines all;
-  bases = λ b names. let s = Contains-map_source without_self lines names.0 names.2 in
-      inr (s.0, names.1, s.1, HasSide-without_self s.0 names.1 (subst (λ l. HasSide l names.1) (sym s.2) names.3), names.4);
+  sides = λ y (k, c, h). let s = Contains-map_source without_self lines k c in
+      inr (side_itself lines y (s.0, s.1, HasSide-without_self s.0 y (subst (λ l. HasSide l y) (sym s.2) h)));
 }
 
 -- each line once tells the same
@@ -190,14 +216,16 @@ pub TellsSame-deduplicated : (lines : List Line) → TellsSame lines (deduplicat
 TellsSame-deduplicated lines =
     TellsSame-part lines (deduplicated lines) (deduplicated-source lines) (λ order l c. given order (deduplicated lines) l (deduplicated-has lines l c))
 
+renamed-side : (lines : List Line) (order : List ℕ) (b : Base) (w : List Label) → IsSideOf lines (record { base = b; word = w }) → IsExist (placed order b) ⊎ ExtendsSide lines (record { base = placed order b; word = w })
+renamed-side lines order (Proc n) w side = inr (side_itself lines (record { base = Proc n; word = w }) side)
+renamed-side lines order (Global n) w side = inr (side_itself lines (record { base = Global n; word = w }) side)
+renamed-side lines order (Exist n) w side = inl tt
+renamed-side lines order (Outer n) w side = inr (side_itself lines (record { base = Outer n; word = w }) side)
+
 -- numbers of existentials tell nothing
 pub TellsSame-numbered : (lines : List Line) → TellsSame lines (numbered lines)
 TellsSame-numbered lines = record {
   alike = λ order p. numbering_lem order (is_inside_for p) lines (λ n. refl);
   constants = λ count all. numbered-constants count lines all;
-  bases = λ b names. by_cases b (numbered-bases lines b names);
+  sides = sides-map (renamed (placed (existentials lines))) lines (λ x side. renamed-side lines (existentials lines) x.base x.word side);
 }
-  where
-    by_cases : (b : Base) → NamesBase lines b ⊎ ((n : ℕ) × (b ≡ Exist n)) → IsExist b ⊎ NamesBase lines b
-    by_cases b (inl names) = inr names
-    by_cases b (inr (n, e)) = inl (subst IsExist (sym e) tt)

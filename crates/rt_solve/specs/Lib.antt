@@ -6,3 +6,5 @@ pub mod Ranks
 pub mod Sides
 pub mod Told
 pub mod Sources
+pub mod Groups
+pub mod Solved

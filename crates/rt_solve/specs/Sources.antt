@@ -7,12 +7,12 @@ use Rattle.rt_terms.specs.declared.line.Line.TheVariants.{Sub}
 use Rattle.rt_terms.specs.Orders.{Below}
 use Rattle.rt_rules.specs.Rules.{Derivable}
 use Rattle.rt_rules.specs.Put.{exist, BecomesSelf, HasUse}
-use Rattle.rt_rules.specs.Laws.{NamesBase}
+use Rattle.rt_solve.specs.Told.{IsSideOf}
 
--- what is in places lies below the existentials, and is of bases that the lines name
+-- what is in places lies below the existentials, and is a side of the lines
 pub record AreBelow (place : ℕ → Option Dtv) (lines : List Line) : Type 0 where
   pub below : (n : ℕ) (z : Dtv) → place n ≡ Some z → (order : Below) → Derivable order lines (Sub z (exist n))
-  pub named : (n : ℕ) (z : Dtv) → place n ≡ Some z → NamesBase lines z.base
+  pub stands : (n : ℕ) (z : Dtv) → place n ≡ Some z → IsSideOf lines z
 
 -- where the line defines an existential that has a place, it defines it by what becomes that
 abbrev pub IsFollowed : (ℕ → Option Dtv) → Line → Type 0

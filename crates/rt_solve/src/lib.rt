@@ -1,7 +1,11 @@
 //! From the lines of a group of procedures to their schemes.
 #![tactic(auto)]
 
+mod all;
 mod following;
+mod group;
+#[cfg(test)]
+mod group_tests;
 mod ordering;
 mod places;
 mod putting;
@@ -13,4 +17,6 @@ mod spare;
 mod tests;
 mod uses;
 
+pub use all::solve_all;
+pub use group::{GroupSchemes, Lists, solve_group};
 pub use scheme::settle;

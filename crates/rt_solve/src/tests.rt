@@ -67,8 +67,8 @@ fn push_var(lines: &mut Lines, x: Dtv) -> Result<(), Memory>
 fn scheme_text(alloc: Global, lines: Lines) -> Result<Vec<u8>, Memory>
     requires { All (HasConstantsBelow 0) lines }
 {
+    let scheme = settle(alloc, lines)?;
     let names = Names::new(alloc);
-    let scheme = settle(alloc, lines, &names)?;
     let mut text = Vec::new(alloc);
     print_lines(scheme.items(), &names, &mut text)?;
     Ok(text)
@@ -223,5 +223,21 @@ fn puts_away_long_ladders(rt: HostRuntime) -> Result<(), Fail> {
     let alloc = rt.alloc();
     let text = scheme_text(alloc, ladder(alloc, 10001)?)?;
     assert_eq!(rt; text.as_slice(), b"f0.in_a0 <= f0.out_a0\n".as_slice());
+    Ok(())
+}
+
+#[test]
+fn sorts_by_the_names_of_the_standard_lattice(rt: HostRuntime) -> Result<(), Fail> {
+    let alloc = rt.alloc();
+    let mut lines = Lines::new(alloc);
+    for constant in [0, 1, 12, 255, 1000] {
+        lines.push(Line::Up(argument(alloc, 0)?, constant))?;
+    }
+    let scheme = settle(alloc, lines)?;
+    assert_eq!(rt; scheme.len(), 5);
+    // By #012, #1000, #255, #any and #num32.
+    for (line, expected) in scheme.items().iter().zip([12, 1000, 255, 0, 1]) {
+        assert!(rt; matches!(line, Line::Up(_, constant) if *constant == expected));
+    }
     Ok(())
 }

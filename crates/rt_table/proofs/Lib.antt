@@ -2,6 +2,16 @@ pub mod Merging
 pub mod Rows
 pub mod Loading
 pub mod Sound
+pub mod Tracing
+pub mod Telling
+pub mod Offsets
+pub mod Labelling
 pub mod Globals
 pub mod Collected
 pub mod Known
+pub mod Writing
+pub mod Taking
+pub mod Instancing
+pub mod Framings
+pub mod Looking
+pub mod Holding

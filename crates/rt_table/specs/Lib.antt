@@ -1,6 +1,12 @@
+pub mod Words
+pub mod Registers
 pub mod Table
+pub mod Parts
 pub mod Named
-pub mod Told
-pub mod Writing
+pub mod Naming
 pub mod Facts
+pub mod Framing
+pub mod Taken
+pub mod Writing
 pub mod Lists
+pub mod Told

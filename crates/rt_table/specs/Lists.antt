@@ -1,56 +1,95 @@
 -- The lists of lines of procedures.
-use Rattle.std.specs.Prelude.{◌≡◌, ℕ, ◌<◌, All, List, map, get_or, length}
+use Rattle.std.specs.Prelude.{◌≡◌, ℕ, zero, suc, ◌<◌, ◌≤◌, nat_eq, Bool, Option, Some, None, All, List, [], ◌∷◌, map, get_or, length, slice_get, slice_index_or, if◌then◌else◌}
+use Rattle.std.specs.List.{list_any}
 use Rattle.rt_terms.specs.declared.line.Line.{Line}
-use Rattle.rt_terms.specs.declared.variable.Base.{Base}
-use Rattle.rt_terms.specs.declared.variable.Base.TheVariants as base
+use Rattle.rt_terms.specs.declared.variable.Base.TheVariants.{Global}
+use Rattle.rt_terms.specs.Lines.{HasConstantsBelow}
+use Rattle.rt_rules.specs.Laws.{NamesBase}
 use Rattle.rt_lattice.specs.declared.role.Role.{Role}
 use Rattle.rt_lattice.specs.declared.roles.Roles.{Roles}
-use Rattle.rt_lattice.specs.Lattices.{NamedOrder, size_of}
 use Rattle.rt_lattice.specs.Roles.{role_in}
 use Rattle.rt_elf.specs.declared.object.Object.{Object}
-use Rattle.rt_proc.specs.declared.proc.Proc.{Proc}
+use Rattle.rt_proc.specs.declared.proc.Proc as procedure
+use Rattle.rt_proc.specs.declared.site.Callee.{Callee}
+use Rattle.rt_proc.specs.declared.site.Callee.TheVariants as callee
+use Rattle.rt_body.specs.Readings.{Reading}
 use Rattle.rt_body.specs.Symbols.{is_code_symbol}
-use Rattle.rt_body.specs.Right.{IsReading}
-use Rattle.rt_frame.specs.Frames.{IsFrameOf}
-use Rattle.rt_rows.specs.declared.row.Root.{Root}
-use Rattle.rt_rows.specs.declared.row.Root.TheVariants as root
+use Rattle.rt_interface.specs.declared.call.Call.{Call}
+use Rattle.rt_interface.specs.Programs.{Program, signature_at}
+use Rattle.rt_scheme.specs.declared.scheme.Scheme as scheme
+use Rattle.rt_sigs.specs.Signatures.{Signature}
 use Rattle.rt_rows.specs.declared.row.Row.{Row}
-use Rattle.rt_rows.specs.Terms.{group_lines, HasConstantBelow, HasRoot}
-use Rattle.rt_table.specs.Table.{Context, procedure_rows}
+use Rattle.rt_rows.specs.Terms.{group_lines}
+use Rattle.rt_table.specs.Table.{Target, Member, Scheme, Held, Unknown, Linked, Context, AreProcedureRows}
+use Rattle.rt_table.specs.Facts.{Knowledge, AreKnown}
 
--- what the table is read against for the procedure of a number, where the roles have these constants
-pub record IsContext (object : Object) (roles : Roles) (number : ℕ) (proc : Proc) (context : Context) : Type 0 where
+-- the words of the stack that the procedure of a number takes
+abbrev pub words_at : List Knowledge → ℕ → List ℕ
+words_at [] q = []
+words_at (known ∷ more) zero = known.words
+words_at (known ∷ more) (suc q) = words_at more q
+
+-- the number is that of a member of the group
+abbrev pub is_member : List ℕ → ℕ → Bool
+is_member group q = list_any (nat_eq q) group
+
+-- by a scheme, where there is one
+abbrev pub scheme_target : Option scheme.Scheme → Target
+scheme_target None = Unknown
+scheme_target (Some s) = Scheme s.base s.lines
+
+-- How a callee is told: a procedure of the group by its own variables, another one by its scheme; a function outside by its signature, where it has
+-- one; what a register holds, where nothing is added to it.
+abbrev pub target_by : Program → List Knowledge → List (Option scheme.Scheme) → List ℕ → Callee → Bool → Target
+target_by program known schemes group (callee.Proc q) is_plain = if is_member group q then Member q (words_at known q) else scheme_target (slice_index_or schemes q None)
+target_by program known schemes group (callee.Extern symbol) is_plain = scheme_target (signature_at program symbol)
+target_by program known schemes group (callee.Unknown register) is_plain = if is_plain then Held register else Unknown
+
+abbrev pub linked_by : Program → List Knowledge → List (Option scheme.Scheme) → List ℕ → Call → Linked
+linked_by program known schemes group call = record { call = call; target = target_by program known schemes group call.callee call.is_plain }
+
+abbrev pub linked_in : Program → List Knowledge → List (Option scheme.Scheme) → List ℕ → List (List Call) → List (List Linked)
+linked_in program known schemes group calls = map (λ (here : List Call). map (linked_by program known schemes group) here) calls
+
+-- what the table is read against for the member of a group of a number, where the roles have these constants
+pub record IsContext (program : Program) (known : List Knowledge) (roles : Roles) (schemes : List (Option scheme.Scheme)) (group : List ℕ) (number : ℕ) (context : Context) : Type 0 where
   pub procedure : context.procedure ≡ number
-  pub reading : IsReading object proc context.reading
-  pub frame : IsFrameOf context.reading context.frame
-  pub is_code : (symbol : ℕ) → context.is_code symbol ≡ is_code_symbol object symbol
+  pub knowledge : Knowledge
+  pub is_known : slice_get known number ≡ Some knowledge
+  pub reading : context.reading ≡ knowledge.reading
+  pub frame : context.frame ≡ knowledge.frame
+  pub linked : context.linked ≡ linked_in program known schemes group knowledge.calls
+  pub is_code : (symbol : ℕ) → context.is_code symbol ≡ is_code_symbol program.object symbol
   pub constant : (role : Role) → context.constant role ≡ role_in roles role
 
--- the lists of the procedures of some numbers, which number their existentials together
-pub record AreLinesOf (object : Object) (roles : Roles) (procs : List Proc) (group : List ℕ) (bodies : List (List Line)) : Type 0 where
-  pub contexts : List Context
-  pub one_each : length contexts ≡ length group
-  pub are_contexts : (i : ℕ) (proc : Proc) (context : Context) → i < length group → get_or group i 0 < length procs
-      → IsContext object roles (get_or group i 0) (get_or procs (get_or group i 0) proc) (get_or contexts i context)
-  pub lines : bodies ≡ group_lines (map procedure_rows contexts)
-
--- a variable of the lines of a procedure belongs to the procedure itself, to a global below a count, or to an existential
-abbrev pub IsBaseOf : ℕ → ℕ → Base → Type 0
-IsBaseOf number symbols (base.Proc p) = p ≡ number
-IsBaseOf number symbols (base.Global g) = g < symbols
-IsBaseOf number symbols (base.Exist n) = Unit {0}
-IsBaseOf number symbols (base.Outer n) = ⊥
-
--- so does one of its rows
-abbrev pub IsRootOf : ℕ → ℕ → Root → Type 0
-IsRootOf number symbols (root.Proc p) = p ≡ number
-IsRootOf number symbols (root.Global g) = g < symbols
-IsRootOf number symbols (root.Named name) = Unit {0}
-
--- the rows of the procedure of a number; what they name
-pub record AreRowsOf (object : Object) (lattice : NamedOrder) (procs : List Proc) (number : ℕ) (rows : List Row) : Type 0 where
+-- the rows of the member of a number
+pub record AreRowsOf (program : Program) (known : List Knowledge) (roles : Roles) (schemes : List (Option scheme.Scheme)) (group : List ℕ) (number : ℕ) (rows : List Row) : Type 0 where
   pub context : Context
-  pub is_context : (proc : Proc) → IsContext object lattice.roles number (get_or procs number proc) context
-  pub rows_are : rows ≡ procedure_rows context
-  pub constants : All (HasConstantBelow (size_of lattice)) rows
-  pub roots : All (λ row. (r : Root) → HasRoot row r → IsRootOf number (length object.symbols) r) rows
+  pub is_context : IsContext program known roles schemes group number context
+  pub are_rows : AreProcedureRows context rows
+
+-- The lists of the members of a group, which number their existentials together, where these signatures are given for functions outside, and these
+-- schemes for procedures outside the group.
+pub record AreLinesOf (object : Object) (roles : Roles) (procs : List procedure.Proc) (signatures : List Signature) (schemes : List (Option scheme.Scheme))
+    (group : List ℕ) (bodies : List (List Line)) : Type 0 where
+  pub readings : List Reading
+  pub known : List Knowledge
+  pub are_known : AreKnown (record { object = object; procs = procs; readings = readings; signatures = signatures }) known
+  pub rows : List (List Row)
+  pub one_each : length rows ≡ length group
+  pub are_rows : (i : ℕ) → i < length group
+      → AreRowsOf (record { object = object; procs = procs; readings = readings; signatures = signatures }) known roles schemes group (get_or group i 0) (get_or rows i [])
+  pub lines : bodies ≡ group_lines rows
+
+-- the lines name only globals whose numbers are those of symbols
+abbrev pub HasGlobalsOf : Object → List Line → Type 0
+HasGlobalsOf object lines = (number : ℕ) → NamesBase lines (Global number) → number < length object.symbols
+
+-- a scheme whose constants are below a count and whose globals are symbols
+pub record IsGiven (object : Object) (count : ℕ) (given : scheme.Scheme) : Type 0 where
+  pub constants : All (HasConstantsBelow count) given.lines
+  pub globals : HasGlobalsOf object given.lines
+
+-- so is each scheme that there is
+abbrev pub AreGiven : Object → ℕ → List (Option scheme.Scheme) → Type 0
+AreGiven object count schemes = (q : ℕ) (given : scheme.Scheme) → slice_index_or schemes q None ≡ Some given → IsGiven object count given

@@ -1,23 +1,39 @@
 // What the table is read against.
-ghost use Rattle.std.specs.Prelude.{◌≡◌};
+ghost use Rattle.std.specs.Prelude.{◌≡◌, All};
 ghost use Rattle.rt_body.specs.Told.{sites_in};
+ghost use Rattle.rt_interface.specs.Calls.{HasCallRegister, HaveCallRegisters-prop};
 ghost use Rattle.rt_frame.specs.Told.{frame_sites};
 
+use crate::facts::Facts;
+use indexmap::IndexSet;
+use rt_base::Sequence;
 use rt_body::Body;
-use rt_elf::Object;
 use rt_frame::Frame;
+use rt_interface::Call;
 use rt_lattice::Lattice;
+use rt_scheme::Schemes;
 use std::alloc::Global;
 
-/// What the table is read against for one procedure: its number, what is known of its registers and of its frame, the
-/// object, which says what symbols are code, and the lattice, which says what the constants of the roles are.
+/// What the calls of the procedures of a group are told by: what is known of the object's procedures and of functions
+/// outside, the numbers of the group's members, and the schemes of other procedures.
+#[derive(Clone, Copy)]
+pub(crate) struct Outside<'a> {
+    pub(crate) facts: &'a Facts<'a>,
+    pub(crate) members: &'a IndexSet<u32>,
+    pub(crate) schemes: &'a Schemes,
+}
+
+/// What the table is read against for one procedure: its number, what is known of its registers and of its frame, the calls of its
+/// sites and what they are told by, and the lattice, which says what the constants of the roles are.
 #[derive(Clone, Copy)]
 pub(crate) struct Context<'a> {
     pub(crate) alloc: Global,
     pub(crate) procedure: u32,
     pub(crate) body: &'a Body,
     pub(crate) frame: &'a Frame,
-    pub(crate) object: &'a Object,
+    pub(crate) calls: &'a [Sequence<Call>],
+    pub(crate) outside: Outside<'a>,
     pub(crate) lattice: &'a Lattice,
     ghost of_one: { frame_sites frame.now ≡ sites_in body.now },
+    ghost registers: { All (All HasCallRegister) calls.now } by { HaveCallRegisters-prop calls.now },
 }

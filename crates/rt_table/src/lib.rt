@@ -1,24 +1,37 @@
 //! From instructions to lines: what each instruction of a procedure says of the types of what it reads and writes.
 #![tactic(auto)]
 
+mod arguments;
+mod calls;
 mod computations;
 mod context;
 mod facts;
 mod flows;
+mod instances;
+mod item;
+mod labels;
 mod lists;
 mod loads;
 mod merges;
 mod pointer;
 mod pointers;
+mod preparation;
+mod receiver;
+mod results;
 mod returns;
 mod side;
 mod sides;
 mod sites;
 mod stores;
+mod taken;
+mod target;
+mod targets;
 #[cfg(test)]
 mod tests;
+mod traced;
 mod variables;
 mod words;
 
-pub use facts::{Facts, prepare};
+pub use facts::Facts;
 pub use lists::{Bodies, lines_of};
+pub use preparation::prepare;

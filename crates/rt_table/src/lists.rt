@@ -1,96 +1,137 @@
 // The lists of lines of procedures.
-ghost use Rattle.std.specs.Prelude.{◌≡◌, ◌<◌, [], ℕ, All, IfOk, length, get_or};
-ghost use Rattle.rt_terms.specs.declared.variable.Base.{Base};
+ghost use Rattle.std.specs.Prelude.{◌≡◌, ◌<◌, ◌≤◌, ℕ, All, IfOk, length};
 ghost use Rattle.rt_terms.specs.Lines.{HasConstantsBelow};
-ghost use Rattle.rt_rules.specs.Laws.{NamesBase};
 ghost use Rattle.rt_lattice.specs.Lattices.{size_of};
-ghost use Rattle.rt_body.specs.Registers.{HasRegisters};
-ghost use Rattle.rt_body.specs.Told.{reading_of, sites_in};
-ghost use Rattle.rt_frame.specs.Told.{frame_sites};
+ghost use Rattle.rt_rows.specs.Terms.{IsGroupRow};
+ghost use Rattle.rt_sigs.specs.Signatures.{AreSignatures};
+ghost use Rattle.rt_split.specs.Splitting.{AreInterfaceLines};
 ghost use Rattle.rt_table.specs.Facts.{IsFactsOf};
-ghost use Rattle.rt_table.specs.Lists.{AreLinesOf, AreRowsOf, IsBaseOf};
-ghost use Rattle.rt_table.specs.Table.{procedure_rows};
-ghost use Rattle.rt_table.specs.Told.{context_at, context_of};
+ghost use Rattle.rt_body.specs.Registers.{HasRegisters};
+ghost use Rattle.rt_table.specs.Lists.{AreGiven, AreLinesOf, AreRowsOf, HasGlobalsOf, IsContext, is_member, linked_in};
+ghost use Rattle.rt_table.specs.Naming.{AreRowsGiven};
+ghost use Rattle.rt_table.specs.Table.{AreProcedureRows};
+ghost use Rattle.rt_table.specs.Told.{context_of, known_in, program_in};
 
-use crate::context::Context;
-use crate::facts::{Facts, Known};
+use crate::context::{Context, Outside};
+use crate::facts::Facts;
+use indexmap::IndexSet;
 use rt_base::{Memory, Sequence};
-use rt_elf::Object;
 use rt_lattice::Lattice;
 use rt_rows::{Rows, group_lines};
+use rt_scheme::Schemes;
+use rt_sigs::Sigs;
 use rt_terms::Lines;
 use std::alloc::Global;
 
 /// The lists of lines of procedures.
 pub type Bodies = Sequence<Lines>;
 
-// What the table is read against for the procedure of a number.
+// The members of a group.
+fn members_of(alloc: Global, group: &[u32]) -> Result<IndexSet<u32>, Memory>
+    ensures { IfOk result (λ members. (q : ℕ) → is_member members.keys q ≡ is_member group.now q) }
+{
+    let mut members = IndexSet::new(alloc);
+    for number in group {
+        members.insert(*number)?;
+    }
+    Ok(members)
+}
+
+// What the table is read against for the member of a group of a number.
 fn context_at<'a>(
     alloc: Global,
-    object: &'a Object,
-    lattice: &'a Lattice,
+    outside: Outside<'a>,
     number: u32,
-    known: &'a Known,
+    lattice: &'a Lattice,
 ) -> Context<'a>
-    requires { frame_sites known.now.frame ≡ sites_in known.now.body }
-    ensures { context_of result ≡ context_at object.now lattice.now.roles number known.now }
+    requires facts { IsFactsOf outside.facts.now.object.now outside.facts.now.procs.now outside.facts.now.sigs.now outside.facts.now }
+    requires within { number < length outside.facts.now.procs.now }
+    ensures is { IsContext (program_in outside.entry.facts.now) (known_in outside.entry.facts.now) lattice.now.roles outside.entry.schemes.now
+        outside.entry.members.now.keys number (context_of result) }
+    ensures linked { (context_of result).linked
+        ≡ linked_in (program_in outside.entry.facts.now) (known_in outside.entry.facts.now) outside.entry.schemes.now outside.entry.members.now.keys result.calls.now }
 {
+    let place = number as usize;
+    let body = &outside.facts.bodies[place];
+    let framed = &outside.facts.frames[place];
+    let calls = outside.facts.calls.items()[place].items();
     Context {
         alloc,
         procedure: number,
-        body: &known.body,
-        frame: &known.frame,
-        object,
+        body,
+        frame: &framed.frame,
+        calls,
+        outside,
         lattice,
     }
 }
 
-// The rows of the procedure of a number, of which something is known.
-fn rows_at(
-    alloc: Global,
-    object: &Object,
-    lattice: &Lattice,
-    number: u32,
-    known: &Known,
-) -> Result<Rows, Memory>
-    requires { frame_sites known.now.frame ≡ sites_in known.now.body }
-    ensures rows { IfOk result (λ rows. rows ≡ procedure_rows (context_at object.now lattice.now.roles number known.now)) }
-    ensures registers { All HasRegisters (reading_of known.now.body).actions }
-{
-    let context = context_at(alloc, object, lattice, number, known);
-    context.procedure_rows()
+impl Context<'_> {
+    // The rows of the procedure.
+    fn procedure_rows(&self) -> Result<Rows, Memory>
+        ensures rows { IfOk result (AreProcedureRows (context_of self.now)) }
+        ensures registers { All HasRegisters (context_of self.now).reading.actions }
+    {
+        let _actions = self.body.actions();
+        let items = self.items()?;
+        let written = self.written(items)?;
+        self.filled(written)
+    }
 }
 
 // The rows of the procedure of a number.
-fn rows_of(alloc: Global, facts: &Facts<'_>, number: u32, lattice: &Lattice) -> Result<Rows, Memory>
-    requires facts { IsFactsOf facts.now.object.now facts.now.procs.now facts.now }
-    requires within { number < length facts.now.procs.now }
-    ensures { IfOk result (AreRowsOf facts.now.object.now lattice.now facts.now.procs.now number) }
+fn rows_of(
+    alloc: Global,
+    outside: Outside<'_>,
+    number: u32,
+    lattice: &Lattice,
+) -> Result<Rows, Memory>
+    requires facts { IsFactsOf outside.facts.now.object.now outside.facts.now.procs.now outside.facts.now.sigs.now outside.facts.now }
+    requires signatures { AreSignatures (size_of lattice.now) outside.facts.now.sigs.now }
+    requires within { number < length outside.facts.now.procs.now }
+    ensures found { IfOk result (AreRowsOf (program_in outside.entry.facts.now) (known_in outside.entry.facts.now) lattice.now.roles
+        outside.entry.schemes.now outside.entry.members.now.keys number) }
+    ensures interfaces { IfOk result (All IsGroupRow) }
+    ensures given { AreGiven outside.entry.facts.now.object.now (size_of lattice.now) outside.entry.schemes.now
+        → IfOk result (AreRowsGiven outside.entry.facts.now.object.now (size_of lattice.now)) }
 {
     rt_link::laws::symbols();
     let _names = lattice.names();
-    let known = &facts.known[number as usize];
-    rows_at(alloc, facts.object, lattice, number, known)
+    let context = context_at(alloc, outside, number, lattice);
+    context.procedure_rows()
 }
 
-/// The lists of lines of the procedures of some numbers, in their order. Existentials are numbered from 0 in the order in
-/// which they first stand in all of the lists, and each list has each of its lines once. The error is want of memory.
+/// The lists of lines of the procedures of some numbers, in their order, where procedures outside the group have these schemes.
+/// Existentials are numbered from 0 in the order in which they first stand in all of the lists, and each list has each of
+/// its lines once. The error is want of memory.
 pub fn lines_of(
     alloc: Global,
     facts: &Facts<'_>,
     group: &[u32],
+    schemes: &Schemes,
+    sigs: &Sigs,
     lattice: &Lattice,
 ) -> Result<Bodies, Memory>
-    requires facts { IsFactsOf facts.now.object.now facts.now.procs.now facts.now }
+    requires facts { IsFactsOf facts.now.object.now facts.now.procs.now facts.now.sigs.now facts.now }
+    requires sigs { sigs.now ≡ facts.now.sigs.now }
+    requires signatures { AreSignatures (size_of lattice.now) sigs.now }
     requires within { All (λ number. number < length facts.now.procs.now) group.now }
-    ensures found { IfOk result (AreLinesOf facts.now.object.now lattice.now.roles facts.now.procs.now group.now) }
-    ensures constants { IfOk result (All (All (HasConstantsBelow (size_of lattice.now)))) }
-    ensures bases { IfOk result (λ bodies. (i : ℕ) (base : Base) → i < length group.now → NamesBase (get_or bodies i []) base
-        → IsBaseOf (get_or group.now i 0) (length facts.now.object.now.symbols) base) }
+    requires enough { length facts.now.procs.now ≤ length schemes.now }
+    ensures found { IfOk result (AreLinesOf facts.now.object.now lattice.now.roles facts.now.procs.now sigs.now schemes.now group.now) }
+    ensures constants { AreGiven facts.now.object.now (size_of lattice.now) schemes.now → IfOk result (All (All (HasConstantsBelow (size_of lattice.now)))) }
+    ensures globals { AreGiven facts.now.object.now (size_of lattice.now) schemes.now → IfOk result (All (HasGlobalsOf facts.now.object.now)) }
+    ensures interfaces { IfOk result (All AreInterfaceLines) }
+    ensures one_each { IfOk result (λ bodies. length bodies ≡ length group.now) }
 {
+    let members = members_of(alloc, group)?;
+    let outside = Outside {
+        facts,
+        members: &members,
+        schemes,
+    };
     let mut lists = Vec::with_capacity(alloc, group.len())?;
     for number in group {
-        lists.push(rows_of(alloc, facts, *number, lattice)?)?;
+        lists.push(rows_of(alloc, outside, *number, lattice)?)?;
     }
     let bodies = group_lines(alloc, lists)?;
     Ok(Sequence::from_vec(bodies))

@@ -1,19 +1,67 @@
 // Merges: what several definitions of a register bring to a site together.
-ghost use Rattle.std.specs.Prelude.{◌≡◌, [], ◌∷◌, ◌++◌, All, IfOk, OnOk, fold};
-ghost use Rattle.std.specs.Option.{option_to_list};
-ghost use Rattle.indexmap.specs.IndexSet.{insert_key};
-ghost use Rattle.rt_body.specs.Registers.{HasRegisters};
+ghost use Rattle.std.specs.Prelude.{◌≡◌, [], ◌++◌, All, IfOk, OnOk, reverse};
 ghost use Rattle.rt_body.specs.Told.{sites_in};
-ghost use Rattle.rt_rows.specs.Terms.{name_eq, names_of};
-ghost use Rattle.rt_table.specs.Named.{IsNameWithin, IsRowWithin};
-ghost use Rattle.rt_table.specs.Table.{merge_rows, opened, procedure_rows, written};
+ghost use Rattle.rt_rows.specs.Terms.{row_names};
+ghost use Rattle.rt_table.specs.Named.{IsItemWithin, IsNameWithin};
+ghost use Rattle.rt_table.specs.Table.{Writes, first_closed, is_closed, merge_rows, told};
 ghost use Rattle.rt_table.specs.Told.{context_of};
+ghost use Rattle.rt_table.specs.Writing.{closed_in};
 
 use crate::context::Context;
+use crate::item::Item;
 use indexmap::IndexSet;
 use rt_base::Memory;
 use rt_rows::{Name, Row, Rows, Term};
-use std::alloc::Global;
+use std::alloc::AllocError;
+
+// Whether a name is that of a merge that isn't open.
+fn is_closed(opened: &IndexSet<Name>, name: Name) -> bool
+    ensures { result ≡ is_closed opened.now.keys name }
+{
+    matches!(name, Name::Merge { .. }) && !opened.contains(&name)
+}
+
+// The first merge that a row names and that isn't open, if there is one.
+fn first_closed(opened: &IndexSet<Name>, row: &Row) -> Option<Name>
+    ensures { result ≡ first_closed opened.now.keys (row_names row.now) }
+{
+    let (left, right) = row.names();
+    match left {
+        Some(name) if is_closed(opened, name) => Some(name),
+        _ => right.filter(|name| is_closed(opened, *name)),
+    }
+}
+
+// The same for an item. One that is no row names none.
+fn closed_in(opened: &IndexSet<Name>, item: &Item) -> Option<Name>
+    ensures { result ≡ closed_in opened.now.keys item.now }
+{
+    match item {
+        Item::Told(row) => first_closed(opened, row),
+        Item::Instance { .. } => None,
+    }
+}
+
+// Puts items on a stack, the first of them on top.
+fn put_items(pending: &mut Vec<Item>, mut items: Vec<Item>) -> Result<(), Memory>
+    ensures { OnOk result (pending.new.items ≡ pending.old.items ++ reverse items.items) }
+{
+    while let Some(item) = items.pop() {
+        pending.push(item)?;
+    }
+    Ok(())
+}
+
+// Puts rows on a stack, the first of them on top.
+fn put_rows(pending: &mut Vec<Item>, rows: Rows) -> Result<(), Memory>
+    ensures { OnOk result (pending.new.items ≡ pending.old.items ++ reverse (told rows)) }
+{
+    let mut rows = rows.into_vec();
+    while let Some(row) = rows.pop() {
+        pending.push(Item::Told(row))?;
+    }
+    Ok(())
+}
 
 impl Context<'_> {
     // The rows of a merge: what flows into it from each definition that reaches its site. Another name has none.
@@ -29,110 +77,37 @@ impl Context<'_> {
                 self.flow_each(&to, register, defs, &mut rows)?;
                 Ok(rows)
             }
-            Name::Definition { .. } | Name::Object { .. } => Ok(rows),
+            Name::Definition { .. }
+            | Name::Object { .. }
+            | Name::Port { .. }
+            | Name::Inner { .. }
+            | Name::Result { .. } => Ok(rows),
         }
     }
 
-    /// The rows of the procedure. Before the first row that names a merge stand the merge's own rows. The error is want of
-    /// memory.
-    pub(crate) fn procedure_rows(&self) -> Result<Rows, Memory>
-        ensures rows { IfOk result (λ rows. rows ≡ procedure_rows (context_of self.now)) }
-        ensures registers { All HasRegisters (context_of self.now).reading.actions }
+    /// The items, where the rows of a merge stand before the first row that names it. The error is want of memory.
+    pub(crate) fn written(&self, items: Vec<Item>) -> Result<Vec<Item>, Memory>
+        requires { All (IsItemWithin (sites_in self.now.body.now)) items.items }
+        ensures { IfOk result (λ done. Writes (context_of self.now) [] items.items done.items) }
     {
         let _actions = self.body.actions();
-        let rows = self.rows()?;
-        let mut written = Written::new(self.alloc);
-        for row in rows.into_vec() {
-            written.write(self, row)?;
+        let mut pending = Vec::new(self.alloc);
+        put_items(&mut pending, items)?;
+        let mut opened = IndexSet::new(self.alloc);
+        let mut done = Vec::new(self.alloc);
+        for _ in 0..u64::MAX {
+            let Some(item) = pending.pop() else {
+                return Ok(done);
+            };
+            match closed_in(&opened, &item) {
+                None => done.push(item)?,
+                Some(merge) => {
+                    pending.push(item)?;
+                    opened.insert(merge)?;
+                    put_rows(&mut pending, self.merge_rows(merge)?)?;
+                }
+            }
         }
-        Ok(written.rows)
-    }
-}
-
-// Rows, and the names that they name, each once.
-#[derive(Drop)]
-struct Written {
-    rows: Rows,
-    names: IndexSet<Name>,
-}
-
-impl Written {
-    ghost use Rattle.rt_table.specs.Writing.{IsNamed};
-
-    // No rows. It takes no memory.
-    fn new(alloc: Global) -> Written
-        ensures rows { result.rows ≡ [] }
-        ensures named { IsNamed result }
-    {
-        Written {
-            rows: Rows::new(alloc),
-            names: IndexSet::new(alloc),
-        }
-    }
-
-    // Notes a name, if there is one.
-    fn note(&mut self, name: Option<Name>) -> Result<(), Memory>
-        ensures rows { self.new.rows ≡ self.old.rows }
-        ensures names { OnOk result (self.new.names.keys ≡ fold (insert_key name_eq) self.old.names.keys (option_to_list name)) }
-    {
-        if let Some(name) = name {
-            self.names.insert(name)?;
-        }
-        Ok(())
-    }
-
-    // Adds a row.
-    fn push(&mut self, row: Row) -> Result<(), Memory>
-        requires { IsNamed self.old }
-        ensures rows { OnOk result (self.new.rows ≡ self.old.rows ++ row ∷ []) }
-        ensures named { OnOk result (IsNamed self.new) }
-    {
-        let (left, right) = row.names();
-        self.note(left)?;
-        self.note(right)?;
-        self.rows.push(row)?;
-        Ok(())
-    }
-
-    // Adds rows.
-    fn push_all(&mut self, rows: Rows) -> Result<(), Memory>
-        requires { IsNamed self.old }
-        ensures rows { OnOk result (self.new.rows ≡ self.old.rows ++ rows) }
-        ensures named { OnOk result (IsNamed self.new) }
-    {
-        for row in rows.into_vec() {
-            self.push(row)?;
-        }
-        Ok(())
-    }
-
-    // Adds the rows of a merge, if the name is one that hasn't stood before.
-    fn open(&mut self, context: &Context, name: Option<Name>) -> Result<(), Memory>
-        requires named { IsNamed self.old }
-        requires within { All (IsNameWithin (sites_in context.now.body.now)) (option_to_list name) }
-        ensures rows { OnOk result (self.new.rows ≡ fold (opened (context_of context.now)) self.old.rows (option_to_list name)) }
-        ensures named { OnOk result (IsNamed self.new) }
-    {
-        let Some(name) = name else {
-            return Ok(());
-        };
-        if self.names.contains(&name) {
-            return Ok(());
-        }
-        let rows = context.merge_rows(name)?;
-        self.push_all(rows)
-    }
-
-    // Adds a row, and before it the rows of the merges that it is the first to name.
-    fn write(&mut self, context: &Context, row: Row) -> Result<(), Memory>
-        requires named { IsNamed self.old }
-        requires within { IsRowWithin (sites_in context.now.body.now) row }
-        ensures rows { OnOk result (self.new.rows ≡ written (context_of context.now) self.old.rows row) }
-        ensures named { OnOk result (IsNamed self.new) }
-    {
-        let (left, right) = row.names();
-        self.open(context, left)?;
-        self.open(context, right)?;
-        self.push(row)
+        Err(AllocError)
     }
 }

@@ -17,12 +17,12 @@ use rt_rows::Term;
 use rt_track::Value;
 
 // Through a side at an offset.
-fn through(side: Side, offset: i32) -> Pointer
-    ensures { result ≡ through (Some side) offset }
+fn through(side: Option<Side>, offset: i32) -> Pointer
+    ensures { result ≡ through side offset }
 {
     match side {
-        Side::Variable(term) => Pointer::Through(term, offset),
-        Side::Code => Pointer::Nowhere,
+        Some(Side::Variable(term)) => Pointer::Through(term, offset),
+        Some(Side::Code) | None => Pointer::Nowhere,
     }
 }
 
@@ -53,9 +53,10 @@ impl Context<'_> {
                 }
             }
             Value::At(site, register, offset) => {
-                Ok(Pointer::Through(self.definition(site, register), offset))
+                let side = self.at_side(site, register)?;
+                Ok(through(side, offset))
             }
-            Value::Sym(symbol, offset) => Ok(through(self.symbol_side(symbol), offset)),
+            Value::Sym(symbol, offset) => Ok(through(Some(self.symbol_side(symbol)), offset)),
             Value::Frame(offset) => Ok(self.spot_pointer(self.frame.spot(offset))),
             Value::Const(_) | Value::Multi => Ok(Pointer::Nowhere),
         }

@@ -42,6 +42,7 @@ impl Context<'_> {
     {
         let to = Term::port(self.alloc, self.procedure, Label::Out(result_number))?;
         let register = 10 + result_number;
-        self.returned(&to, register, results(self.body, site, register), rows)
+        let defs = results(self.alloc, self.body, self.calls, site, register)?;
+        self.returned(&to, register, &defs, rows)
     }
 }

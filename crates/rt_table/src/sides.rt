@@ -1,7 +1,7 @@
 // The sides of values.
-ghost use Rattle.std.specs.Prelude.{◌≡◌, ◌<◌, IfOk};
+ghost use Rattle.std.specs.Prelude.{◌≡◌, ◌<◌, ℕ, None, IfOk};
 ghost use Rattle.rt_body.specs.Told.{sites_in, IsDefWithin};
-ghost use Rattle.rt_table.specs.Table.{def_own, def_side, entry_side, if_zero, side_of, use_side};
+ghost use Rattle.rt_table.specs.Table.{def_own, def_side, entry_side, if_zero, side_of, use_side, value_side};
 ghost use Rattle.rt_table.specs.Told.{context_of};
 
 use crate::context::Context;
@@ -32,20 +32,32 @@ impl Context<'_> {
         Ok(if_zero(offset, Side::Variable(argument)))
     }
 
+    // The side of a value, if it has one, but none of what a site wrote. Several values together have a name of their own.
+    pub(crate) fn plain_side(&self, own: Name, value: Value) -> Result<Option<Side>, Memory>
+        ensures { IfOk result (λ side. side ≡ value_side (context_of self.now) (λ (s r : ℕ). None) own value) }
+    {
+        match value {
+            Value::Entry(register, offset) => self.entry_side(register, offset),
+            Value::Sym(symbol, offset) => Ok(if_zero(offset, self.symbol_side(symbol))),
+            Value::Frame(start) => Ok(Some(Side::Variable(self.frame_object(start)))),
+            Value::Multi => Ok(Some(Side::Variable(Term::named(self.alloc, own)))),
+            Value::At(..) | Value::Const(_) => Ok(None),
+        }
+    }
+
     // The side of a value, if it has one. Several values together have a name of their own.
     pub(crate) fn side_of(&self, own: Name, value: Value) -> Result<Option<Side>, Memory>
         ensures { IfOk result (λ side. side ≡ side_of (context_of self.now) own value) }
     {
         match value {
-            Value::Entry(register, offset) => self.entry_side(register, offset),
-            Value::At(site, register, offset) => Ok(if_zero(
-                offset,
-                Side::Variable(self.definition(site, register)),
-            )),
-            Value::Sym(symbol, offset) => Ok(if_zero(offset, self.symbol_side(symbol))),
-            Value::Frame(start) => Ok(Some(Side::Variable(self.frame_object(start)))),
-            Value::Multi => Ok(Some(Side::Variable(Term::named(self.alloc, own)))),
-            Value::Const(_) => Ok(None),
+            Value::At(site, register, offset) => {
+                if offset == 0 {
+                    self.at_side(site, register)
+                } else {
+                    Ok(None)
+                }
+            }
+            _ => self.plain_side(own, value),
         }
     }
 

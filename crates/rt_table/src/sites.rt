@@ -1,13 +1,15 @@
-// The rows of sites.
+// The items of sites.
 ghost use Rattle.std.specs.Prelude.{◌≡◌, ◌<◌, ◌++◌, All, IfOk, OnOk};
 ghost use Rattle.rt_body.specs.Readings.{action_at};
 ghost use Rattle.rt_body.specs.Registers.{HasRegisters};
 ghost use Rattle.rt_body.specs.Told.{reading_of, sites_in};
-ghost use Rattle.rt_table.specs.Named.{IsRowWithin};
-ghost use Rattle.rt_table.specs.Table.{rows_from, site_rows};
+ghost use Rattle.rt_table.specs.Named.{IsItemWithin};
+ghost use Rattle.rt_table.specs.Table.{items_from, site_items, site_rows};
 ghost use Rattle.rt_table.specs.Told.{context_of};
 
+use crate::calls::push_told;
 use crate::context::Context;
+use crate::item::Item;
 use rt_base::Memory;
 use rt_body::Action;
 use rt_lattice::Role;
@@ -74,16 +76,28 @@ impl Context<'_> {
         self.result_rows(site, 1, rows)
     }
 
-    // The rows of all sites, in the order of their places.
-    pub(crate) fn rows(&self) -> Result<Rows, Memory>
-        ensures rows { IfOk result (λ rows. rows ≡ rows_from (context_of self.now) 0 (reading_of self.now.body.now).actions) }
-        ensures within { IfOk result (All (IsRowWithin (sites_in self.now.body.now))) }
+    // Adds the items of a site: its rows, and then those of its calls.
+    fn site_items(&self, site: u32, action: Action, items: &mut Vec<Item>) -> Result<(), Memory>
+        requires site { site < sites_in self.now.body.now }
+        requires registers { HasRegisters action }
+        ensures { OnOk result (items.new.items ≡ items.old.items ++ site_items (context_of self.now) site action) }
     {
         let mut rows = Rows::new(self.alloc);
+        self.site_rows(site, action, &mut rows)?;
+        push_told(rows, items)?;
+        self.calls(site, items)
+    }
+
+    /// The items of all sites, in the order of their places. The error is want of memory.
+    pub(crate) fn items(&self) -> Result<Vec<Item>, Memory>
+        ensures items { IfOk result (λ found. found.items ≡ items_from (context_of self.now) 0 (reading_of self.now.body.now).actions) }
+        ensures within { IfOk result (λ found. All (IsItemWithin (sites_in self.now.body.now)) found.items) }
+    {
+        let mut items = Vec::new(self.alloc);
         let actions = self.body.actions();
         for (site, action) in actions.iter().enumerate() {
-            self.site_rows(site as u32, *action, &mut rows)?;
+            self.site_items(site as u32, *action, &mut items)?;
         }
-        Ok(rows)
+        Ok(items)
     }
 }

@@ -1,6 +1,6 @@
 // The variables that rows speak of.
 ghost use Rattle.std.specs.Prelude.{◌≡◌, IsTrue, IfOk};
-ghost use Rattle.rt_table.specs.Table.{argument, definition, is_argument, is_stack_word, merge_name, object, stack_argument, symbol_side};
+ghost use Rattle.rt_table.specs.Table.{argument, definition, is_argument, is_stack_word, merge_name, object, port_of, stack_argument, symbol_side};
 ghost use Rattle.rt_table.specs.Told.{context_of};
 
 use crate::context::Context;
@@ -95,11 +95,24 @@ impl Context<'_> {
         )
     }
 
+    // What stands for the argument or result of a label, in the instance that a call of a site makes of a scheme.
+    pub(crate) fn port_of(&self, site: u32, call: u32, label: Label) -> Term
+        ensures { result ≡ port_of (context_of self.now) site call label }
+    {
+        let name = Name::Port {
+            procedure: self.procedure,
+            site,
+            call,
+            label,
+        };
+        Term::named(self.alloc, name)
+    }
+
     // The address of a symbol.
     pub(crate) fn symbol_side(&self, symbol: u32) -> Side
         ensures { result ≡ symbol_side (context_of self.now) symbol }
     {
-        if is_code_symbol(self.object, symbol) {
+        if is_code_symbol(self.outside.facts.object, symbol) {
             Side::Code
         } else {
             Side::Variable(Term::bare(self.alloc, Root::Global(symbol)))

@@ -1,5 +1,5 @@
 // Words of the frame itself: which definitions of their bytes reach a site, and what these put there.
-ghost use Rattle.std.specs.Prelude.{◌≡◌, ◌<◌, ◌≤◌, ◌++◌, pos, ◌+ℤ◌, IfOk, OnOk};
+ghost use Rattle.std.specs.Prelude.{◌≡◌, ◌<◌, ◌≤◌, ◌++◌, pos, ◌+ℤ◌, IfOk, OnOk, flat_map};
 ghost use Rattle.rt_body.specs.Readings.{action_at};
 ghost use Rattle.rt_body.specs.Told.{reading_of, sites_in};
 ghost use Rattle.rt_frame.specs.Frames.{is_frame};
@@ -139,6 +139,24 @@ impl Context<'_> {
         }
     }
 
+    // Adds what the definitions of the bytes of a word at an offset bring into a variable.
+    pub(crate) fn word_flows(
+        &self,
+        site: u32,
+        offset: i32,
+        to: &Term,
+        rows: &mut Rows,
+    ) -> Result<(), Memory>
+        requires { site < sites_in self.now.body.now }
+        ensures { OnOk result (rows.new ≡ rows.old ++ flat_map (word_flow (context_of self.now) offset to.now) (word_defs (context_of self.now) site offset)) }
+    {
+        let defs = self.word_defs(site, offset)?;
+        for def in &defs {
+            self.word_flow(offset, to.copy()?, *def, rows)?;
+        }
+        Ok(())
+    }
+
     // Adds what a load of a word at an offset of the frame itself reads: what was put there.
     pub(crate) fn load_word(
         &self,
@@ -153,10 +171,7 @@ impl Context<'_> {
         if to == 0 {
             return Ok(());
         }
-        let defs = self.word_defs(site, offset)?;
-        for def in &defs {
-            self.word_flow(offset, self.definition(site, to), *def, rows)?;
-        }
-        Ok(())
+        let read = self.definition(site, to);
+        self.word_flows(site, offset, &read, rows)
     }
 }

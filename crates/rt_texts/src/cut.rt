@@ -21,14 +21,14 @@ pub fn split_before(text: &[u8], byte: u8) -> (&[u8], &[u8])
     (text, b"")
 }
 
-// What follows the front of a text.
+/// What follows the front of a text; none where the text does not begin with the front.
 pub fn after_front<'a>(text: &'a [u8], front: &[u8]) -> Option<&'a [u8]>
     ensures { MatchOption result ((rest : List ℕ) → text.now ≢ front.now ++ rest) (λ rest. text.now ≡ front.now ++ rest.now) }
 {
     text.strip_prefix(front)
 }
 
-// Reads a number in decimal.
+/// Reads a number below 2^32 in decimal, without leading zeros; none where the text is no such number's.
 pub fn read_number(text: &[u8]) -> Option<u32>
     ensures { Reads IsNumber decimal text.now result }
 {

@@ -18,8 +18,8 @@ take_question-requires c =
     let body = c.args.body.now in
     let site = c.args.site in
     let reading = reading_of body in
-    let reached = λ (register : ℕ). within_each (sites_in body) (defs_in body.reach site (pos register)) (λ d in_list. body.within site register d c.requires in_list) in
-    let within = questions_within reading (sites_in body) site c.requires reached (action_at body.actions site) (body.named site action.Pass c.requires) in
+    let reached = λ (register : ℕ). within_each (sites_in body) (defs_in body.reach site (pos register)) (λ d in_list. body.within site register d c.requires.site in_list) in
+    let within = questions_within reading (sites_in body) site c.requires.site reached c.args.calls.now (action_at body.actions site) (body.named site action.Pass c.requires.site) c.requires.registers in
     All-get_or (IsQuestionWithin (sites_in body)) c.items-question-items.result.now c.loop-question.question-index (OfUse 0 0) c.loop-question-test.true
     (rw c.loop-question.invariant.items within)
 

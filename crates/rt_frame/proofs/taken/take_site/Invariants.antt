@@ -8,6 +8,6 @@ use Rattle.rt_frame.proofs.taken.take_site.Given as goal
 
 abbrev pub invariant-loop-question : goal.invariant-loop-question
 invariant-loop-question l = record {
-  items : l.question-items ≡ questions (reading_of l.body) l.site (action_at (reading_of l.body).actions l.site);
+  items : l.question-items ≡ questions (reading_of l.body) l.calls l.site (action_at (reading_of l.body).actions l.site);
   gains : Gains l.initial.taken l.taken (Among (take l.question-index l.question-items) (λ question k. IsOfFrame (reading_of l.body) k question));
 }

@@ -7,4 +7,4 @@ use Rattle.rt_frame.specs.Questions.{questions}
 use Rattle.rt_frame.proofs.taken.taken.Given as goal
 
 abbrev pub invariant-loop-site : goal.invariant-loop-site
-invariant-loop-site l = Gains [] l.taken (Upto (λ site. Among (questions (reading_of l.body) site (action_at (reading_of l.body).actions site)) (λ question k. IsOfFrame (reading_of l.body) k question)) l.site)
+invariant-loop-site l = Gains [] l.taken (Upto (λ site. Among (questions (reading_of l.body) l.calls site (action_at (reading_of l.body).actions site)) (λ question k. IsOfFrame (reading_of l.body) k question)) l.site)

@@ -3,8 +3,9 @@ use Rattle.std.proofs.lemmas.Result.{IfOk-weaker}
 use Rattle.rt_terms.specs.Lines.{HasConstantsBelow}
 use Rattle.rt_rules.specs.Laws.{NamesBase}
 use Rattle.rt_numbering.specs.Numbering.{deduplicated}
+use Rattle.rt_split.specs.Splitting.{AreInterfaceLines}
 use Rattle.rt_rows.specs.Terms.{lines_by, names_of}
-use Rattle.rt_rows.proofs.Grouping.{group-bases, group-constants}
+use Rattle.rt_rows.proofs.Grouping.{group-bases, group-constants, group-interfaces}
 use Rattle.rt_rows.proofs.numbering.group_lines.Goals as goal
 
 pub returns-clause-lines : goal.returns-clause-lines
@@ -18,6 +19,11 @@ pub returns-clause-constants : goal.returns-clause-constants
 returns-clause-constants c =
     IfOk-weaker c.lists_by.result _ _
     (λ numbered e count h. subst (λ lists. All (All (HasConstantsBelow count)) lists) (sym e) (group-constants count c.args.lists.items h)) (returns-clause-lines c)
+
+pub returns-clause-interfaces : goal.returns-clause-interfaces
+returns-clause-interfaces c =
+    IfOk-weaker c.lists_by.result _ _
+    (λ numbered e h. subst (All AreInterfaceLines) (sym e) (group-interfaces c.args.lists.items h)) (returns-clause-lines c)
 
 pub returns-clause-bases : goal.returns-clause-bases
 returns-clause-bases c =

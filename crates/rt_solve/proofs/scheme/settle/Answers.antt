@@ -6,14 +6,9 @@ use Rattle.rt_solve.specs.Choice.{IsSolved}
 use Rattle.rt_solve.specs.Tidy.{IsTidy}
 use Rattle.rt_solve.specs.Told.{TellsSame}
 use Rattle.rt_solve.proofs.Numbering.{numbered-tidy, numbered-solved, moved-tidy, moved-solved}
-use Rattle.rt_solve.proofs.Told.{TellsSame-trans, TellsSame-numbered, TellsSame-permutation}
+use Rattle.rt_solve.proofs.Interfaces.{interfaces_stay, schemes_stay}
+use Rattle.rt_solve.proofs.Told.{TellsSame-bases, TellsSame-trans, TellsSame-numbered, TellsSame-permutation}
 use Rattle.rt_solve.proofs.scheme.settle.Goals as goal
-
-numbered_tells : (c : goal.In_ok-lines-2) → TellsSame c.args.lines c.in_ok-lines-2.lines
-numbered_tells c = TellsSame-trans c.args.lines c.in_ok-lines.lines c.in_ok-lines-2.lines c.in_ok-lines.ensures.same (subst (TellsSame c.in_ok-lines.lines) (sym c.in_ok-lines-2.ensures) (TellsSame-numbered c.in_ok-lines.lines))
-
-pub sort_lines-requires : goal.sort_lines-requires
-sort_lines-requires c = (numbered_tells c).constants _ c.requires
 
 settled_tells : (c : goal.After-sort_lines) → IfOk c.sort_lines.result (TellsSame c.args.lines)
 settled_tells c =
@@ -49,4 +44,10 @@ pub returns-clause-constants : goal.returns-clause-constants
 returns-clause-constants c = IfOk-weaker c.sort_lines.result (TellsSame c.args.lines) _ (λ r told. told.constants) (settled_tells c)
 
 pub returns-clause-bases : goal.returns-clause-bases
-returns-clause-bases c = IfOk-weaker c.sort_lines.result (TellsSame c.args.lines) _ (λ r told. told.bases) (settled_tells c)
+returns-clause-bases c = IfOk-weaker c.sort_lines.result (TellsSame c.args.lines) _ (λ r told. TellsSame-bases c.args.lines r told) (settled_tells c)
+
+pub returns-clause-schemes : goal.returns-clause-schemes
+returns-clause-schemes c = IfOk-weaker c.sort_lines.result (TellsSame c.args.lines) _ (λ r told own. schemes_stay own c.args.lines r told) (settled_tells c)
+
+pub returns-clause-interfaces : goal.returns-clause-interfaces
+returns-clause-interfaces c = IfOk-weaker c.sort_lines.result (TellsSame c.args.lines) _ (λ r told. interfaces_stay c.args.lines r told) (settled_tells c)

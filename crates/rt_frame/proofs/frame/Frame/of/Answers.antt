@@ -30,6 +30,6 @@ returns-clause-of c =
     let reading = reading_of c.args.body.now in
     let layout : Layout = record { taken = c.in_ok-taken-2.taken; saved = c.in_ok-saved-2.saved } in
     let graph_is : graph ≡ frame_body reading layout = search rules in
-    framed graph c.in_ok-reach.reach is (c.sites-sites.ensures.reaching graph is) reading layout c.in_ok-taken.field-0 c.in_ok-saved.field-0 graph_is refl
+    framed graph c.in_ok-reach.reach is (c.sites-sites.ensures.reaching graph is) reading c.args.calls.now layout c.in_ok-taken.field-0 c.in_ok-saved.field-0 graph_is refl
     c.in_ok-taken-2.ensures.same c.in_ok-taken-2.ensures.rising c.in_ok-taken.ensures
     c.in_ok-saved-2.ensures.same c.in_ok-saved-2.ensures.rising c.in_ok-saved.ensures

@@ -1,0 +1,9 @@
+pub mod Adding
+pub mod Following
+pub mod Pairing
+pub mod Meeting
+pub mod Giving
+pub mod Taking
+pub mod Rules
+pub mod Plain
+pub mod Calling

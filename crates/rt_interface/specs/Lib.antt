@@ -1,0 +1,14 @@
+pub mod Programs
+pub mod Reads
+pub mod Gives
+pub mod Takes
+pub mod Calls
+pub mod Told
+pub mod Additions
+pub mod Closures
+pub mod Conditions
+pub mod Signed
+pub mod GivesRules
+pub mod TakesRules
+pub mod Interfaces
+pub mod Found

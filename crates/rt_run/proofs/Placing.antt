@@ -1,0 +1,156 @@
+-- Lines at the numbers of procedures.
+use Rattle.std.proofs.Common.{◌≡◌, ◌∙◌, ◌⊎◌, ℕ, ◌+◌, ◌<◌, List, [], ◌∷◌, ◌++◌, All, Contains, Option, Some, None, append_assoc, ap, arith, get_or, inl, inr, length, length-append, map, option_map, refl, set, subst, sym}
+use Rattle.std.proofs.Math.Seq.{get_or-append_seam}
+use Rattle.std.proofs.lemmas.Bool.{cases_order}
+use Rattle.std.proofs.lemmas.List.{get_or-set_other, get_or-set_same, get_or_default, length-set}
+use Rattle.std.proofs.Math.ListN.{get_or-map as get_or-map_same}
+use Rattle.std.proofs.lemmas.List.Elements.{Contains-get_or}
+use Rattle.rt_terms.specs.declared.line.Line.{Line}
+use Rattle.rt_terms.specs.Lines.{HasConstantsBelow}
+use Rattle.rt_lattice.specs.Lattices.{size_of}
+use Rattle.rt_proc.specs.declared.proc.Proc.{Proc}
+use Rattle.rt_calls.specs.Calls.{AreGroupsOf}
+use Rattle.rt_groups.specs.Groups.{group_at}
+use Rattle.rt_scheme.specs.declared.scheme.Scheme.{Scheme}
+use Rattle.rt_table.specs.Lists.{AreLinesOf, HasGlobalsOf}
+use Rattle.rt_run.specs.declared.analysis.Analysis.{Analysis}
+use Rattle.rt_run.specs.declared.content.Content.TheVariants as told
+use Rattle.rt_run.specs.Analyses.{AreListsOf, AreToldOf, IsAnalysis, IsBodyOf, object_in, procs_in}
+
+-- the lists from a place on are put
+pub record IsPut (group : List ℕ) (bodies : List (List Line)) (old now : List (Option (List Line))) (left : List (List Line)) : Type 0 where
+  pub put : List (List Line)
+  pub joined : left ++ put ≡ bodies
+  pub long : length now ≡ length old
+  pub each : (number : ℕ) (lines : List Line) → get_or now number None ≡ Some lines → (get_or old number None ≡ Some lines) ⊎ IsBodyOf group bodies number lines
+
+-- the place of the next list is one of the group
+pub place_within : (group : List ℕ) (bodies : List (List Line)) (old now : List (Option (List Line))) (left rest : List (List Line)) (lines : List Line)
+    → length bodies ≡ length group → left ≡ rest ++ lines ∷ [] → IsPut group bodies old now left → length rest < length group
+place_within group bodies old now left rest lines one_each last is_put =
+    let whole : length (left ++ is_put.put) ≡ length bodies = ap length is_put.joined in
+    let shorter : length left ≡ length rest + 1 = ap length last ∙ length-append rest (lines ∷ []) in
+    omega (arith, whole, shorter, length-append left is_put.put, one_each)
+
+-- the body at a place is the one that was put there
+at_seam : (bodies put rest : List (List Line)) (lines : List Line) → (rest ++ lines ∷ []) ++ put ≡ bodies → lines ≡ get_or bodies (length rest) []
+at_seam bodies put rest lines joined = sym (subst (λ b. get_or b (length rest) [] ≡ lines) (sym (append_assoc rest (lines ∷ []) put) ∙ joined) (get_or-append_seam rest lines put []))
+
+some_is : (a b : List Line) → Some a ≡ Some b → a ≡ b
+some_is a b e = cc
+
+-- one more list is put
+pub put_more : (group : List ℕ) (bodies : List (List Line)) (old now now' : List (Option (List Line))) (left rest : List (List Line)) (lines : List Line) (number : ℕ)
+    → left ≡ rest ++ lines ∷ [] → length rest < length group → number ≡ get_or group (length rest) 0 → number < length now → now' ≡ set now number (Some lines)
+    → IsPut group bodies old now left → IsPut group bodies old now' rest
+put_more group bodies old now now' left rest lines number last within is_member inside is is_put = record {
+  put = lines ∷ is_put.put;
+  joined = sym (append_assoc rest (lines ∷ []) is_put.put) ∙ (ap (λ l. l ++ is_put.put) (sym last) ∙ is_put.joined);
+  long = ap length is ∙ (length-set now number (Some lines) ∙ is_put.long);
+  each = λ n found here. by n found (subst (λ l. get_or l n None ≡ Some found) is here) (cases_order n number);
+}
+  where
+    own : (n : ℕ) (found : List Line) → get_or (set now number (Some lines)) n None ≡ Some found → n ≡ number → IsBodyOf group bodies n found
+    own n found here same =
+        let is_found : lines ≡ found = some_is lines found (sym (get_or-set_same now number (Some lines) None inside) ∙ subst (λ k. get_or (set now number (Some lines)) k None ≡ Some found) same here) in
+        record {
+          place = length rest;
+          within = within;
+          is_member = sym is_member ∙ sym same;
+          lines_are = sym is_found ∙ at_seam bodies is_put.put rest lines (ap (λ l. l ++ is_put.put) (sym last) ∙ is_put.joined);
+        }
+
+    by : (n : ℕ) (found : List Line) → get_or (set now number (Some lines)) n None ≡ Some found → (n ≡ number) ⊎ ((n < number) ⊎ (number < n)) → (get_or old n None ≡ Some found) ⊎ IsBodyOf group bodies n found
+    by n found here (inl same) = inr (own n found here same)
+    by n found here (inr (inl below)) = is_put.each n found (sym (get_or-set_other now number n (Some lines) None (λ e. omega (arith, e, below))) ∙ here)
+    by n found here (inr (inr above)) = is_put.each n found (sym (get_or-set_other now number n (Some lines) None (λ e. omega (arith, e, above))) ∙ here)
+
+-- before any is put
+pub put_none : (group : List ℕ) (bodies left : List (List Line)) (old : List (Option (List Line))) → left ≡ bodies → IsPut group bodies old old left
+put_none group bodies left old is = record {
+  put = [];
+  joined = append_none left ∙ is;
+  long = refl;
+  each = λ number lines here. inl here;
+}
+  where
+    append_none : (l : List (List Line)) → l ++ [] ≡ l
+    append_none [] = refl
+    append_none (x ∷ l) = ap (λ t. x ∷ t) (append_none l)
+
+-- the members of a group are procedures
+pub members_within : (procs : List Proc) (groups : List (List ℕ)) (group : List ℕ) → AreGroupsOf procs groups → Contains groups group → All (λ n. n < length procs) group
+members_within procs groups group are (k, less, is) = λ i d within.
+    let at : group_at groups k ≡ group = get_or_default groups k [] group less ∙ is in
+    (are.nodes (get_or group i d)).1 (k, less, subst (λ g. Contains g (get_or group i d)) (sym at) (Contains-get_or group i d within))
+
+-- The lines of a group's members are told.
+pub lists_more : (analysis : Analysis) (group : List ℕ) (bodies : List (List Line)) (old new : List (Option (List Line)))
+    → IsAnalysis analysis → Contains analysis.groups group → length bodies ≡ length group
+    → AreLinesOf (object_in analysis) analysis.lattice.now.roles (procs_in analysis) analysis.sigs.now analysis.schemes group bodies
+    → All (All (HasConstantsBelow (size_of analysis.lattice.now))) bodies → All (HasGlobalsOf (object_in analysis)) bodies
+    → ((number : ℕ) (lines : List Line) → get_or new number None ≡ Some lines → (get_or old number None ≡ Some lines) ⊎ IsBodyOf group bodies number lines)
+    → AreListsOf told.Constraints analysis old → AreListsOf told.Constraints analysis new
+lists_more analysis group bodies old new is_analysis is_group one_each are_lines constants globals each before = λ number lines here. by number lines (each number lines here)
+  where
+    by : (number : ℕ) (lines : List Line) → (get_or old number None ≡ Some lines) ⊎ IsBodyOf group bodies number lines
+        → AreToldOf told.Constraints (object_in analysis) analysis.lattice.now analysis.sigs.now (procs_in analysis) analysis.schemes number lines
+    by number lines (inl there) = before number lines there
+    by number lines (inr body) =
+        let within : body.place < length bodies = omega (arith, body.within, one_each) in
+        record {
+          are_told = record {
+            groups = analysis.groups;
+            are_groups = is_analysis.groups;
+            group = group;
+            is_group = is_group;
+            bodies = bodies;
+            are_lines = are_lines;
+            place = body.place;
+            within = body.within;
+            is_member = body.is_member;
+            lines_are = body.lines_are;
+          };
+          are_kept = record {
+            constants = subst (All (HasConstantsBelow (size_of analysis.lattice.now))) (sym body.lines_are) (constants body.place [] within);
+            globals = subst (HasGlobalsOf (object_in analysis)) (sym body.lines_are) (globals body.place [] within);
+          };
+        }
+
+-- nothing is told yet
+pub lists_none : (analysis : Analysis) (lists : List (Option (List Line))) → ((number : ℕ) → get_or lists number None ≡ None) → AreListsOf told.Constraints analysis lists
+lists_none analysis lists none = λ number lines here. absurd (by (sym (none number) ∙ here))
+  where
+    by : {lines : List Line} → None ≡ Some lines → ⊥
+    by e = cc
+
+-- Schemes.
+
+abbrev pub scheme_lines : Option Scheme → Option (List Line)
+scheme_lines given = option_map (λ (s : Scheme). s.lines) given
+
+-- the lines of the schemes are told
+pub schemes_told : (analysis : Analysis) (lists : List (Option (List Line))) → IsAnalysis analysis
+    → lists ≡ map scheme_lines analysis.schemes → AreListsOf told.Schemes analysis lists
+schemes_told analysis lists is_analysis is = λ number lines here.
+    by number lines (get_or analysis.schemes number None) refl (sym (at analysis.schemes number) ∙ subst (λ l. get_or l number None ≡ Some lines) is here)
+  where
+    at : (schemes : List (Option Scheme)) (number : ℕ) → get_or (map scheme_lines schemes) number None ≡ scheme_lines (get_or schemes number None)
+    at schemes number = get_or-map_same scheme_lines schemes number None
+
+    by : (number : ℕ) (lines : List Line) (given : Option Scheme) → get_or analysis.schemes number None ≡ given → scheme_lines given ≡ Some lines
+        → AreToldOf told.Schemes (object_in analysis) analysis.lattice.now analysis.sigs.now (procs_in analysis) analysis.schemes number lines
+    by number lines None found none = absurd (is_none none)
+      where
+        is_none : None ≡ Some lines → ⊥
+        is_none e = cc
+    by number lines (Some scheme) found own =
+        let same : lines ≡ scheme.lines = sym (some_is scheme.lines lines own) in
+        let given = is_analysis.given number scheme found in
+        record {
+          are_told = record { scheme = scheme; is_scheme = found; lines_are = same };
+          are_kept = record {
+            constants = subst (All (HasConstantsBelow (size_of analysis.lattice.now))) (sym same) given.constants;
+            globals = subst (HasGlobalsOf (object_in analysis)) (sym same) given.globals;
+          };
+        }

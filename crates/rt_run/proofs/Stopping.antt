@@ -1,0 +1,115 @@
+-- How a command stops, and what it writes.
+use Rattle.std.proofs.Common.{Bor, ◌≡◌, ◌∙◌, ℕ, ◌≤◌, List, Option, Some, None, ap, arith, inl, inr, subst, sym}
+use Rattle.std.specs.Prelude.{IfSome}
+use Rattle.rt_base.specs.Outside.{Rose, Tells}
+use Rattle.rt_lattice.specs.Lattices.{NamedOrder}
+use Rattle.rt_sigs.specs.Signatures.{Signature}
+use Rattle.rt_sigs.specs.SignatureTexts.{IsFileOf}
+use Rattle.rt_run.specs.declared.refusal.Refusal.{Refusal}
+use Rattle.rt_run.specs.declared.stop.Stop.{Stop}
+use Rattle.rt_run.specs.declared.stop.Stop.TheVariants.{Refused, NoRead, NoMemory}
+use Rattle.rt_run.specs.declared.no_text.NoText.{NoText}
+use Rattle.rt_run.specs.declared.no_text.NoText.TheVariants.{Refused as RefusedText, Memory as NoTextMemory}
+use Rattle.rt_run.specs.Errors.{read_line, refusal_line}
+use Rattle.rt_run.specs.Objects.{IsNoText}
+use Rattle.rt_run.specs.Entails.{IsNoEntailText}
+use Rattle.rt_run.specs.Words.{Command, Report, Entail, Step, OfLattice, OfSignatures, OfInput, lattice_of, signatures_of, input_of}
+use Rattle.rt_run.specs.Inputs.{Contents, IsLatticeFor, AreSignaturesFor, IsLatticeRefused, IsSignaturesRefused}
+use Rattle.rt_run.specs.Status.{AreInputs, ComesTo, IsInputRefused, IsRefusedBy, of_lattice, of_signatures, of_input, IsStopFor, Stops, StopsAt, StopsFor}
+
+-- a count that rose later rose from before
+rose_from : (a b c : ℕ) → a ≤ b → Rose b c → Rose a c
+rose_from a b c le (inl less) = inl (omega (arith, le, less))
+rose_from a b c le (inr end) = inr end
+
+-- what stops later, when no content has changed and faults only rose, stops
+pub stops_from : (P : List ℕ → Refusal → Type 0) (content content' : Contents) (before faults faults' : List ℕ → ℕ) (name : List ℕ) (stop : Stop)
+    → ((n : List ℕ) → content' n ≡ content n) → ((n : List ℕ) → before n ≤ faults n) → StopsAt P content' faults faults' name stop → StopsAt P content before faults' name stop
+stops_from P content content' before faults faults' name (Refused refusal) same counted h = subst (λ o. IfSome o (λ (bytes : List ℕ). P bytes refusal)) (same name) h
+stops_from P content content' before faults faults' name (NoRead unread) same counted h = (h.0, rose_from (before name) (faults name) (faults' name) (counted name) h.1)
+stops_from P content content' before faults faults' name NoMemory same counted h = tt
+
+-- Each file stops the command.
+
+pub stops_at_lattice : (command : Command) (content : Contents) (faults faults' : List ℕ → ℕ) (name : Option (List ℕ)) (stop : Stop) → lattice_of command ≡ name
+    → StopsFor IsLatticeRefused content faults faults' name stop → Stops command content faults faults' stop
+stops_at_lattice command content faults faults' None stop named h = subst (Stops command content faults faults') (sym h) tt
+stops_at_lattice command content faults faults' (Some name) (Refused refusal) named h = of_lattice name named h
+stops_at_lattice command content faults faults' (Some name) (NoRead unread) named h =
+    (OfLattice, named ∙ ap Some (sym h.0), subst (λ n. Rose (faults n) (faults' n)) (sym h.0) h.1)
+stops_at_lattice command content faults faults' (Some name) NoMemory named h = tt
+
+pub stops_at_signatures : (command : Command) (content content' : Contents) (before faults faults' : List ℕ → ℕ) (name : Option (List ℕ)) (order : NamedOrder) (names : List (List ℕ)) (stop : Stop)
+    → ((n : List ℕ) → content' n ≡ content n) → ((n : List ℕ) → before n ≤ faults n) → IsLatticeFor content (lattice_of command) order → signatures_of command ≡ name → names ≡ order.names
+    → StopsFor (IsSignaturesRefused names) content' faults faults' name stop → Stops command content before faults' stop
+stops_at_signatures command content content' before faults faults' None order names stop same counted lattice named known h = subst (Stops command content before faults') (sym h) tt
+stops_at_signatures command content content' before faults faults' (Some name) order names stop same counted lattice named known h =
+    by stop (stops_from (IsSignaturesRefused order.names) content content' before faults faults' name stop same counted (subst (λ (ns : List (List ℕ)). StopsAt (IsSignaturesRefused ns) content' faults faults' name stop) known h))
+  where
+    by : (stop : Stop) → StopsAt (IsSignaturesRefused order.names) content before faults' name stop → Stops command content before faults' stop
+    by (Refused refusal) h = of_signatures name order lattice named h
+    by (NoRead unread) h = (OfSignatures, ((order, lattice), named ∙ ap Some (sym h.0)), subst (λ n. Rose (before n) (faults' n)) (sym h.0) h.1)
+    by NoMemory h = tt
+
+pub stops_at_input : (command : Command) (content content' : Contents) (before faults faults' : List ℕ → ℕ) (order : NamedOrder) (signatures : List Signature) (stop : Stop)
+    → ((n : List ℕ) → content' n ≡ content n) → ((n : List ℕ) → before n ≤ faults n) → AreInputs command content order signatures
+    → StopsAt (IsInputRefused command order) content' faults faults' (input_of command) stop → Stops command content before faults' stop
+stops_at_input command content content' before faults faults' order signatures stop same counted inputs h =
+    by stop (stops_from (IsInputRefused command order) content content' before faults faults' (input_of command) stop same counted h)
+  where
+    by : (stop : Stop) → StopsAt (IsInputRefused command order) content before faults' (input_of command) stop → Stops command content before faults' stop
+    by (Refused refusal) h = of_input order signatures inputs h
+    by (NoRead unread) h = (OfInput, ((order, signatures, inputs), sym h.0), subst (λ n. Rose (before n) (faults' n)) (sym h.0) h.1)
+    by NoMemory h = tt
+
+-- The signatures are those of before, when no content has changed.
+pub signatures_from : (content content' : Contents) (names : List (List ℕ)) (name : Option (List ℕ)) (signatures : List Signature) → ((n : List ℕ) → content' n ≡ content n)
+    → AreSignaturesFor content' names name signatures → AreSignaturesFor content names name signatures
+signatures_from content content' names None signatures same h = h
+signatures_from content content' names (Some name) signatures same h = subst (λ o. IfSome o (λ (text : List ℕ). IsFileOf names text signatures)) (same name) h
+
+pub are_inputs : (command : Command) (content content' : Contents) (order : NamedOrder) (names : List (List ℕ)) (signatures : List Signature) → ((n : List ℕ) → content' n ≡ content n) → names ≡ order.names
+    → IsLatticeFor content (lattice_of command) order → AreSignaturesFor content' names (signatures_of command) signatures → AreInputs command content order signatures
+are_inputs command content content' order names signatures same known lattice signed = record {
+  is_lattice = lattice;
+  are_signatures = signatures_from content content' order.names (signatures_of command) signatures same (subst (λ (ns : List (List ℕ)). AreSignaturesFor content' ns (signatures_of command) signatures) known signed);
+}
+
+-- There is no text of its own file.
+abbrev pub IsNoTextFor : Command → NamedOrder → List ℕ → NoText → Type 0
+IsNoTextFor (Report told options object) order = IsNoText
+IsNoTextFor (Entail lattice file judgement) order = IsNoEntailText order.names judgement
+
+some_found : (content : Option (List ℕ)) (P : List ℕ → Type 0) (found shown : List ℕ) → IfSome content (λ (b : List ℕ). found ≡ b) → shown ≡ found → P shown → IfSome content P
+some_found None P found shown told same h = tt
+some_found (Some bytes) P found shown told same h = subst P (same ∙ told) h
+
+refused_for : (command : Command) (order : NamedOrder) (bytes : List ℕ) (refusal : Refusal) → IsNoTextFor command order bytes (RefusedText refusal) → IsInputRefused command order bytes refusal
+refused_for (Report told options object) order bytes refusal h = h
+refused_for (Entail lattice file judgement) order bytes refusal h = h
+
+pub stops_for : (command : Command) (content content' : Contents) (faults faults' : List ℕ → ℕ) (order : NamedOrder) (signatures : List Signature) (found shown : List ℕ) (why : NoText) (stop : Stop)
+    → ((n : List ℕ) → content' n ≡ content n) → AreInputs command content order signatures → IfSome (content' (input_of command)) (λ (bytes : List ℕ). found ≡ bytes) → shown ≡ found
+    → IsNoTextFor command order shown why → IsStopFor stop why → Stops command content faults faults' stop
+stops_for command content content' faults faults' order signatures found shown (RefusedText refusal) stop same inputs told is refused is_stop =
+    subst (Stops command content faults faults') (sym is_stop) (of_input order signatures inputs
+    (some_found (content (input_of command)) (λ (bytes : List ℕ). IsInputRefused command order bytes refusal) found shown
+    (subst (λ o. IfSome o (λ (bytes : List ℕ). found ≡ bytes)) (same (input_of command)) told) is (refused_for command order shown refusal refused)))
+stops_for command content content' faults faults' order signatures found shown NoTextMemory stop same inputs told is refused is_stop = subst (Stops command content faults faults') (sym is_stop) tt
+
+-- What is told of a command that stopped.
+
+pub unread_told : (asked : Option Command) (command : Command) (content : Contents) (faults faults' : List ℕ → ℕ) (stop : Stop) (unread : Bor (List ℕ)) (puts puts' : ℕ) (old new : Option (List ℕ))
+    → asked ≡ Some command → stop ≡ NoRead unread → Stops command content faults faults' stop → Tells puts puts' old new (read_line unread.now)
+    → IfSome asked (λ (command : Command). (step : Step) × (name : List ℕ) × ComesTo command content step name × Rose (faults name) (faults' name) × Tells puts puts' old new (read_line name))
+unread_told asked command content faults faults' stop unread puts puts' old new is is_stop stops told =
+    let (step, comes, rose) = subst (Stops command content faults faults') is_stop stops in
+    subst (λ o. IfSome o (λ (command : Command). (step : Step) × (name : List ℕ) × ComesTo command content step name × Rose (faults name) (faults' name) × Tells puts puts' old new (read_line name))) (sym is)
+    (step, unread.now, comes, rose, told)
+
+pub refused_told : (asked : Option Command) (command : Command) (content : Contents) (faults faults' : List ℕ → ℕ) (stop : Stop) (refusal : Refusal) (puts puts' : ℕ) (old new : Option (List ℕ))
+    → asked ≡ Some command → stop ≡ Refused refusal → Stops command content faults faults' stop → Tells puts puts' old new (refusal_line refusal)
+    → IfSome asked (λ (command : Command). (refusal : Refusal) × IsRefusedBy command content refusal × Tells puts puts' old new (refusal_line refusal))
+refused_told asked command content faults faults' stop refusal puts puts' old new is is_stop stops told =
+    let refused : IsRefusedBy command content refusal = subst (Stops command content faults faults') is_stop stops in
+    subst (λ o. IfSome o (λ (command : Command). (refusal : Refusal) × IsRefusedBy command content refusal × Tells puts puts' old new (refusal_line refusal))) (sym is) (refusal, refused, told)

@@ -1,0 +1,58 @@
+-- What is worked out of an object before it is told.
+use Rattle.std.specs.Prelude.{◌≡◌, ℕ, ◌<◌, All, Option, Some, None, List, [], get_or, length, slice_index_or}
+use Rattle.rt_terms.specs.declared.line.Line.{Line}
+use Rattle.rt_terms.specs.Lines.{HasConstantsBelow}
+use Rattle.rt_lattice.specs.Lattices.{NamedOrder, size_of}
+use Rattle.rt_elf.specs.declared.object.Object.{Object}
+use Rattle.rt_proc.specs.declared.proc.Proc.{Proc}
+use Rattle.rt_calls.specs.Calls.{AreGroupsOf}
+use Rattle.rt_scheme.specs.declared.scheme.Scheme.{Scheme}
+use Rattle.rt_sigs.specs.Signatures.{Signature, AreSignatures}
+use Rattle.rt_table.specs.Facts.{IsFactsOf}
+use Rattle.rt_table.specs.Lists.{AreGiven, HasGlobalsOf}
+use Rattle.rt_solve.specs.Solved.{AreSolved}
+use Rattle.rt_run.specs.declared.analysis.Analysis.{Analysis}
+use Rattle.rt_run.specs.declared.content.Content.{Content}
+use Rattle.rt_run.specs.Reports.{IsTold}
+
+-- its object, and the object's procedures
+abbrev pub object_in : Analysis → Object
+object_in analysis = analysis.facts.object.now
+
+abbrev pub procs_in : Analysis → List Proc
+procs_in analysis = analysis.facts.procs.now
+
+-- its parts belong together
+pub record IsAnalysis (analysis : Analysis) : Type 0 where
+  pub facts : IsFactsOf (object_in analysis) (procs_in analysis) analysis.facts.sigs.now analysis.facts
+  pub same : analysis.sigs.now ≡ analysis.facts.sigs.now
+  pub signatures : AreSignatures (size_of analysis.lattice.now) analysis.sigs.now
+  pub groups : AreGroupsOf (procs_in analysis) analysis.groups
+  pub solved : AreSolved (object_in analysis) analysis.lattice.now.roles (procs_in analysis) analysis.sigs.now analysis.groups analysis.schemes
+  pub given : AreGiven (object_in analysis) (size_of analysis.lattice.now) analysis.schemes
+
+-- lines of which constants are below a count and globals are symbols
+pub record AreKept (object : Object) (count : ℕ) (lines : List Line) : Type 0 where
+  pub constants : All (HasConstantsBelow count) lines
+  pub globals : HasGlobalsOf object lines
+
+-- lines that are told of the procedure of a number
+pub record AreToldOf (told : Content) (object : Object) (order : NamedOrder) (signatures : List Signature) (procs : List Proc) (schemes : List (Option Scheme)) (number : ℕ) (lines : List Line) : Type 0 where
+  pub are_told : IsTold told object order signatures procs schemes number lines
+  pub are_kept : AreKept object (size_of order) lines
+
+-- of each number the lines are such, where there are any
+abbrev pub AreLists : Content → Object → NamedOrder → List Signature → List Proc → List (Option Scheme) → List (Option (List Line)) → Type 0
+AreLists told object order signatures procs schemes lists =
+    (number : ℕ) (lines : List Line) → slice_index_or lists number None ≡ Some lines → AreToldOf told object order signatures procs schemes number lines
+
+-- the same for those of an analysis
+abbrev pub AreListsOf : Content → Analysis → List (Option (List Line)) → Type 0
+AreListsOf told analysis = AreLists told (object_in analysis) analysis.lattice.now analysis.sigs.now (procs_in analysis) analysis.schemes
+
+-- the lines are those of a group's member of this number, by the places of both
+pub record IsBodyOf (group : List ℕ) (bodies : List (List Line)) (number : ℕ) (lines : List Line) : Type 0 where
+  pub place : ℕ
+  pub within : place < length group
+  pub is_member : get_or group place 0 ≡ number
+  pub lines_are : lines ≡ get_or bodies place []

@@ -1,0 +1,36 @@
+-- The lattice and the signatures that a command works with, and when their files are refused.
+use Rattle.std.specs.Prelude.{◌≡◌, ◌≢◌, ℕ, Option, Some, None, IfSome, List, []}
+use Rattle.rt_lattice.specs.declared.fault.LatFault.TheVariants as lattice
+use Rattle.rt_lattice.specs.Faults.{IsFirstFault, IsLatticeIn}
+use Rattle.rt_lattice.specs.Lattices.{NamedOrder, IsLatticeOf}
+use Rattle.rt_lattice.specs.Standard.{standard_file}
+use Rattle.rt_sigs.specs.declared.fault.SigFault.TheVariants as signatures
+use Rattle.rt_sigs.specs.Faults.{IsFault}
+use Rattle.rt_sigs.specs.Signatures.{Signature}
+use Rattle.rt_sigs.specs.SignatureTexts.{IsFileOf}
+use Rattle.rt_run.specs.declared.refusal.Refusal.{Refusal}
+use Rattle.rt_run.specs.declared.refusal.Refusal.TheVariants.{BadLattice, BadSignatures}
+
+-- what names hold, where it is told
+abbrev pub Contents : Type 0
+Contents = List ℕ → Option (List ℕ)
+
+-- the lattice of a file, where one is named, and else the standard one
+abbrev pub IsLatticeFor : Contents → Option (List ℕ) → NamedOrder → Type 0
+IsLatticeFor content None order = IsLatticeOf standard_file order
+IsLatticeFor content (Some name) order = IfSome (content name) (λ (text : List ℕ). IsLatticeIn text order)
+
+-- the signatures of a file, where one is named, with the constants of these names, and else none
+abbrev pub AreSignaturesFor : Contents → List (List ℕ) → Option (List ℕ) → List Signature → Type 0
+AreSignaturesFor content names None sigs = sigs ≡ []
+AreSignaturesFor content names (Some name) sigs = IfSome (content name) (λ (text : List ℕ). IsFileOf names text sigs)
+
+-- the content of a lattice file is refused so: by its first fault
+abbrev pub IsLatticeRefused : List ℕ → Refusal → Type 0
+IsLatticeRefused text (BadLattice fault) = (fault ≢ lattice.Memory) × IsFirstFault text fault
+IsLatticeRefused text other = ⊥
+
+-- the content of a file of signatures is refused so: by its first fault
+abbrev pub IsSignaturesRefused : List (List ℕ) → List ℕ → Refusal → Type 0
+IsSignaturesRefused names text (BadSignatures fault) = (fault ≢ signatures.Memory) × IsFault names text fault
+IsSignaturesRefused names text other = ⊥

@@ -1,0 +1,72 @@
+// What is worked out of an object before it is told.
+ghost use Rattle.std.specs.Prelude.{◌≡◌, None, IfOk};
+
+use rt_base::Memory;
+use rt_calls::{Groups, groups_of};
+use rt_elf::Object;
+use rt_lattice::Lattice;
+use rt_link::Links;
+use rt_proc::Procs;
+use rt_scheme::Schemes;
+use rt_sigs::Sigs;
+use rt_solve::solve_all;
+use rt_table::{Facts, prepare};
+use std::alloc::Global;
+
+/// What is known of an object's procedures, the groups of those that call each other, and their schemes.
+#[derive(Drop)]
+pub struct Analysis<'a> {
+    /// What is known of the procedures.
+    pub facts: Facts<'a>,
+    /// Their groups, callees first.
+    pub groups: Groups,
+    /// Their schemes.
+    pub schemes: Schemes,
+    /// The signatures of functions outside.
+    pub sigs: &'a Sigs,
+    /// The lattice of the constants.
+    pub lattice: &'a Lattice,
+}
+
+impl<'a> Analysis<'a> {
+    ghost use Rattle.rt_lattice.specs.Lattices.{size_of};
+    ghost use Rattle.rt_elf.specs.Object.{IsInFile, IsLinkable};
+    ghost use Rattle.rt_link.specs.Checks.{link_fault};
+    ghost use Rattle.rt_link.specs.Links.{AreLinksOf};
+    ghost use Rattle.rt_proc.specs.Procs.{AreProcs};
+    ghost use Rattle.rt_sigs.specs.Signatures.{AreSignatures};
+    ghost use Rattle.rt_run.specs.Analyses.{IsAnalysis, object_in, procs_in};
+
+    /// The analysis of an object, with these signatures and this lattice.
+    pub fn of(
+        alloc: Global,
+        object: &'a Object,
+        links: &Links,
+        procs: &'a Procs,
+        sigs: &'a Sigs,
+        lattice: &'a Lattice,
+    ) -> Result<Analysis<'a>, Memory>
+        requires in_file { IsInFile object.now }
+        requires linkable { IsLinkable object.now }
+        requires linked { link_fault object.now ≡ None }
+        requires links { AreLinksOf object.now links.now }
+        requires procs { AreProcs object.now procs.now }
+        requires signatures { AreSignatures (size_of lattice.now) sigs.now }
+        ensures is_analysis { IfOk result IsAnalysis }
+        ensures object { IfOk result (λ analysis. object_in analysis ≡ object.now) }
+        ensures procs { IfOk result (λ analysis. procs_in analysis ≡ procs.now) }
+        ensures signatures { IfOk result (λ analysis. analysis.sigs.now ≡ sigs.now) }
+        ensures lattice { IfOk result (λ analysis. analysis.lattice.now ≡ lattice.now) }
+    {
+        let facts = prepare(alloc, object, links, procs, sigs)?;
+        let groups = groups_of(alloc, procs)?;
+        let schemes = solve_all(alloc, &facts, &groups, sigs, lattice)?;
+        Ok(Analysis {
+            facts,
+            groups,
+            schemes,
+            sigs,
+            lattice,
+        })
+    }
+}

@@ -1,0 +1,4 @@
+pub mod Finding
+pub mod Constants
+pub mod Parts
+pub mod Files

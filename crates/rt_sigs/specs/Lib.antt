@@ -1,0 +1,4 @@
+pub mod Signatures
+pub mod SignatureTexts
+pub mod Faults
+pub mod Readings

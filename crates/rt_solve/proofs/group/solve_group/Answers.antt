@@ -1,0 +1,14 @@
+use Rattle.std.proofs.Common.{◌≡◌, Ok, ap, subst, ◌∙◌}
+use Rattle.std.proofs.lemmas.Result.{IfOk-weaker}
+use Rattle.rt_solve.specs.Groups.{AreSchemesOf, TellsOutside, joined}
+use Rattle.rt_solve.proofs.Grouping.{schemes_of, settled_tells}
+use Rattle.rt_solve.proofs.group.solve_group.Goals as goal
+
+pub returns : goal.returns
+returns c =
+    let is : c.in_ok-all.all ≡ joined c.args.lists.now = c.in_ok-all.ensures ∙ ap joined c.items.ensures in
+    IfOk-weaker c.schemes_for.result (AreSchemesOf c.args.members.now c.in_ok-settled.settled) (AreSchemesOf c.args.members.now (joined c.args.lists.now))
+    (λ r are. schemes_of c.args.members.now (joined c.args.lists.now) c.in_ok-settled.settled r
+    (λ own. subst (λ lines. TellsOutside own lines c.in_ok-settled.settled) is
+    (settled_tells own c.in_ok-all.all (Ok c.in_ok-settled.settled) c.in_ok-settled.ensures.alike c.in_ok-settled.ensures.constants c.in_ok-settled.ensures.bases)) are)
+    c.schemes_for.ensures

@@ -1,0 +1,4 @@
+pub mod Parts
+pub mod There
+pub mod Back
+pub mod Placed

@@ -1,0 +1,44 @@
+use Rattle.std.proofs.Common.{All, map, sym, subst, ◌∙◌}
+use Rattle.std.proofs.lemmas.Result.{IfOk-weaker}
+use Rattle.rt_terms.specs.declared.variable.Base.TheVariants.{Global}
+use Rattle.rt_terms.specs.Lines.{HasConstantsBelow}
+use Rattle.rt_rules.specs.Alike.{Alike, is_inside_for}
+use Rattle.rt_rules.specs.Laws.{NamesBase}
+use Rattle.rt_scheme.specs.Schemes.{AreSchemeLines}
+use Rattle.rt_split.specs.Places.{is_other, place_in}
+use Rattle.rt_split.specs.Splitting.{split_line}
+use Rattle.rt_split.proofs.Placed.{split-alike, split-constants, split-globals, split-scheme}
+use Rattle.rt_split.proofs.splitting.split.Goals as goal
+
+pub returns-clause-alike : goal.returns-clause-alike
+returns-clause-alike c =
+    let lines = c.args.lines.now in
+    let places = c.in_ok-places.places in
+    let by = c.in_ok-places.ensures in
+    IfOk-weaker c.split_lines.result _ _
+    (λ made e order.
+    subst (Alike order (is_inside_for c.args.own) lines)
+    (sym (e ∙ (λ i. map (split_line (is_other (by.own i)) (place_in places.first (by.found i))) lines)))
+    (split-alike c.args.own places.first lines c.requires by.free order)) c.split_lines.ensures
+
+pub returns-clause-constants : goal.returns-clause-constants
+returns-clause-constants c =
+    let places = c.in_ok-places.places in
+    IfOk-weaker c.split_lines.result _ _
+    (λ made e count h. subst (All (HasConstantsBelow count)) (sym e) (split-constants (is_other places.own) (place_in places.first places.found.keys) c.args.lines.now count h))
+    c.split_lines.ensures
+
+pub returns-clause-globals : goal.returns-clause-globals
+returns-clause-globals c =
+    let places = c.in_ok-places.places in
+    IfOk-weaker c.split_lines.result _ _
+    (λ made e n names. split-globals (is_other places.own) (place_in places.first places.found.keys) c.args.lines.now n (subst (λ lines. NamesBase lines (Global n)) e names))
+    c.split_lines.ensures
+
+pub returns-clause-scheme : goal.returns-clause-scheme
+returns-clause-scheme c =
+    let places = c.in_ok-places.places in
+    IfOk-weaker c.split_lines.result _ _
+    (λ made e.
+    subst (λ own. AreSchemeLines own made) c.in_ok-places.ensures.own
+    (subst (AreSchemeLines places.own) (sym e) (split-scheme places.own (place_in places.first places.found.keys) c.args.lines.now c.requires))) c.split_lines.ensures

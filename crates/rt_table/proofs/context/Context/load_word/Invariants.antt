@@ -1,8 +1,0 @@
-use Rattle.std.proofs.Common.{◌≡◌, ◌++◌, flat_map, take}
-use Rattle.rt_table.specs.Table.{definition, word_flow}
-use Rattle.rt_table.specs.Told.{context_of}
-use Rattle.rt_table.proofs.context.Context.load_word.Given as goal
-
-abbrev pub invariant-loop-def : goal.invariant-loop-def
-invariant-loop-def l =
-    l.rows ≡ l.initial.rows ++ flat_map (word_flow (context_of l.self) l.offset (definition (context_of l.self) l.site l.to)) (take l.def-index l.def-items)

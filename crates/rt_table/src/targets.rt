@@ -1,0 +1,132 @@
+// How calls are told, and those of sites.
+ghost use Rattle.std.specs.Prelude.{◌≡◌, ◌<◌, [], All, IfOk, IsTrue, option_copied, slice_index_or};
+ghost use Rattle.rt_body.specs.Symbols.{symbol_of};
+ghost use Rattle.rt_body.specs.Told.{sites_in};
+ghost use Rattle.rt_interface.specs.Calls.{HasCallRegister};
+ghost use Rattle.rt_interface.specs.Programs.{signature_at};
+ghost use Rattle.rt_scheme.specs.Instances.{IsInstance};
+ghost use Rattle.rt_table.specs.Lists.{scheme_target, words_at};
+ghost use Rattle.rt_table.specs.Parts.{IsTargetWithin};
+ghost use Rattle.rt_table.specs.Table.{is_call_site};
+ghost use Rattle.rt_table.specs.Told.{context_of, known_in, program_in, procedure_target, target_in, target_of};
+ghost use Rattle.rt_table.specs.Words.{AreStackWords};
+
+use crate::context::{Context, Outside};
+use crate::target::Target;
+use rt_base::Memory;
+use rt_body::Action;
+use rt_interface::Call;
+use rt_proc::Callee;
+use rt_scheme::{Instance, Scheme, instantiate, laws};
+use std::alloc::{AllocError, Global};
+
+// By a scheme, where there is one.
+fn scheme_target(scheme: Option<&Scheme>) -> Target<'_>
+    ensures target { target_of result ≡ scheme_target (option_copied scheme.entry) }
+    ensures within { IsTargetWithin (target_of result) }
+{
+    match scheme {
+        Some(scheme) => Target::Scheme(scheme),
+        None => Target::Unknown,
+    }
+}
+
+/// The instance of a scheme whose existentials are numbered from 0 on. The error is want of memory; a scheme of 2^31 lines or more
+/// wants more than there is.
+pub(crate) fn instance_of(alloc: Global, scheme: &Scheme) -> Result<Instance, Memory>
+    ensures { IfOk result (IsInstance scheme.now.base scheme.now.lines 0) }
+{
+    laws::few_are_new();
+    if scheme.lines.len() >= 2_147_483_648 {
+        return Err(AllocError);
+    }
+    instantiate(alloc, scheme, 0)
+}
+
+impl<'a> Outside<'a> {
+    // The offsets of the words of the stack that the procedure of a number takes.
+    fn words(&self, procedure: u32) -> &'a [u32]
+        ensures words { result.now ≡ words_at (known_in self.now.facts.now) procedure }
+        ensures stack { AreStackWords result.now }
+    {
+        match self.facts.frames.get(procedure as usize) {
+            Some(framed) => framed.words.items(),
+            None => &[],
+        }
+    }
+
+    // The signature of the function outside that a symbol names, if there is one.
+    fn signature(&self, symbol: u32) -> Option<&'a Scheme>
+        ensures { option_copied result ≡ signature_at (program_in self.now.facts.now) symbol }
+    {
+        match self.facts.object.symbols.items().get(symbol as usize) {
+            Some(symbol) => self.facts.sigs.find(symbol.name.items()),
+            None => self.facts.sigs.find(b""),
+        }
+    }
+
+    // How a call is told.
+    fn target(&self, call: &Call) -> Target<'a>
+        requires register { HasCallRegister call.now }
+        ensures target { target_of result ≡ target_in self.now call.now }
+        ensures within { IsTargetWithin (target_of result) }
+    {
+        match call.callee {
+            Callee::Proc(procedure) => self.procedure_target(procedure),
+            Callee::Extern(symbol) => scheme_target(self.signature(symbol)),
+            Callee::Unknown(register) => {
+                if call.is_plain {
+                    Target::Held(register)
+                } else {
+                    Target::Unknown
+                }
+            }
+        }
+    }
+
+    // How a procedure is told: by its own variables, where it is of the group, else by its scheme.
+    fn procedure_target(&self, procedure: u32) -> Target<'a>
+        ensures target { target_of result ≡ procedure_target self.now procedure }
+        ensures within { IsTargetWithin (target_of result) }
+    {
+        if self.members.contains(&procedure) {
+            let words = self.words(procedure);
+            Target::Member { procedure, words }
+        } else {
+            scheme_target(self.schemes.get(procedure))
+        }
+    }
+}
+
+impl<'a> Context<'a> {
+    // Whether a site is a call.
+    pub(crate) fn is_call_site(&self, site: u32) -> bool
+        ensures is_call { result ≡ is_call_site (context_of self.now) site }
+        ensures within { IsTrue result → site < sites_in self.now.body.now }
+    {
+        match self.body.actions().get(site as usize) {
+            Some(Action::Call { .. }) => true,
+            _ => false,
+        }
+    }
+
+    // The calls of a site.
+    pub(crate) fn calls_at(&self, site: u32) -> &'a [Call]
+        ensures calls { result.now ≡ slice_index_or self.now.calls.now site [] }
+        ensures registers { All HasCallRegister result.now }
+    {
+        match self.calls.get(site as usize) {
+            Some(calls) => calls.items(),
+            None => &[],
+        }
+    }
+
+    // How a call is told.
+    pub(crate) fn target(&self, call: &Call) -> Target<'a>
+        requires register { HasCallRegister call.now }
+        ensures target { target_of result ≡ target_in self.now.outside call.now }
+        ensures within { IsTargetWithin (target_of result) }
+    {
+        self.outside.target(call)
+    }
+}
