@@ -17,7 +17,8 @@ use Rattle.rt_rules.specs.Laws.{NamesBase}
 use Rattle.rt_elf.specs.declared.object.Object.{Object}
 use Rattle.rt_scheme.specs.declared.report.Entry.{Entry}
 use Rattle.rt_table.specs.Lists.{HasGlobalsOf}
-use Rattle.rt_run.specs.Globals.{AreGlobals, IsNamedIn, base_globals, entries_globals, global_of, line_globals, lines_globals}
+use Rattle.rt_reports.specs.Globals.{base_globals, entries_globals, line_globals, lines_globals}
+use Rattle.rt_run.specs.Globals.{AreGlobals, IsNamedIn, global_of}
 
 -- Lists.
 

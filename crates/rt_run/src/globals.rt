@@ -4,7 +4,8 @@ ghost use Rattle.std.specs.BTreeSet.{insert_key};
 ghost use Rattle.std.specs.List.Sorted.{IsStrictlyIncreasing};
 ghost use Rattle.std.specs.Ordering.{nat_cmp};
 ghost use Rattle.rt_table.specs.Lists.{HasGlobalsOf};
-ghost use Rattle.rt_run.specs.Globals.{AreGlobals, base_globals, entries_globals, global_of, line_globals, lines_globals};
+ghost use Rattle.rt_reports.specs.Globals.{base_globals, entries_globals, line_globals, lines_globals};
+ghost use Rattle.rt_run.specs.Globals.{AreGlobals, global_of};
 
 use rt_base::Memory;
 use rt_elf::Object;

@@ -7,7 +7,7 @@ use Rattle.rt_terms.specs.declared.line.Line.{Line}
 use Rattle.rt_elf.specs.declared.object.Object.{Object}
 use Rattle.rt_rules.specs.Laws.{NamesBase}
 use Rattle.rt_table.specs.Lists.{HasGlobalsOf}
-use Rattle.rt_solve.specs.Groups.{joined}
+use Rattle.rt_settle.specs.Groups.{joined}
 
 joined-cons : (list : List Line) (lists : List (List Line)) → joined (list ∷ lists) ≡ list ++ joined lists
 joined-cons list lists = flat_map-cons (λ l. l) list lists

@@ -16,7 +16,7 @@ use Rattle.rt_calls.specs.Calls.{AreGroupsOf}
 use Rattle.rt_scheme.specs.declared.scheme.Scheme.{Scheme}
 use Rattle.rt_sigs.specs.Signatures.{Signature}
 use Rattle.rt_table.specs.Lists.{AreGiven, HasGlobalsOf, IsGiven}
-use Rattle.rt_solve.specs.Groups.{AreSchemesOf, joined}
+use Rattle.rt_settle.specs.Groups.{AreSchemesOf, joined}
 use Rattle.rt_solve.specs.Solved.{AddsSchemesOf, AreSolved, HasSchemeOf, IsGroupSolved, with_scheme}
 use Rattle.rt_solve.proofs.Gathering.{All-joined, globals-joined}
 use Rattle.rt_solve.proofs.Linking.{AgreeFor, element_of, lines_same}
@@ -100,6 +100,7 @@ module _ (object : Object) (roles : Roles) (procs : List Proc) (signatures : Lis
           is_scheme = elsewhere (get_or (group_at groups j) i 0) (apart i within) ∙ has.is_scheme;
           own = has.own;
           alike = has.alike;
+          chosen = has.chosen;
         };
       }
         where
@@ -130,6 +131,7 @@ module _ (object : Object) (roles : Roles) (procs : List Proc) (signatures : Lis
                     ∙ sym (ap (λ n. get_or (fold with_scheme old adds.found) n None) is.base_is) ∙ stands;
                 own = is.base_is;
                 alike = is.tells.alike;
+                chosen = is.chosen;
               }
 
       pub solved_more : AreSolvedTo object roles procs signatures groups (k + 1) new

@@ -9,14 +9,16 @@ use Rattle.rt_proc.specs.declared.proc.Proc.{Proc}
 use Rattle.rt_sigs.specs.Signatures.{Signature}
 use Rattle.rt_scheme.specs.declared.scheme.Scheme.{Scheme}
 use Rattle.rt_table.specs.Lists.{AreLinesOf}
-use Rattle.rt_solve.specs.Groups.{AreSchemesOf, joined}
+use Rattle.rt_settle.specs.Chosen.{IsChosen}
+use Rattle.rt_settle.specs.Groups.{AreSchemesOf, joined}
 
--- a procedure has a scheme, which tells whoever calls it the same as some lines
+-- a procedure has a scheme, which tells whoever calls it the same as some lines, and is the one that is chosen from them
 pub record HasSchemeOf (schemes : List (Option Scheme)) (lines : List Line) (number : ℕ) : Type 0 where
   pub scheme : Scheme
   pub is_scheme : slice_index_or schemes number None ≡ Some scheme
   pub own : scheme.base ≡ number
   pub alike : (order : Below) → Alike order (is_inside_for number) lines scheme.lines
+  pub chosen : IsChosen number lines scheme.lines
 
 -- each member of a group has a scheme of the lists of all members together, where callees outside the group have these schemes
 pub record IsGroupSolved (object : Object) (roles : Roles) (procs : List Proc) (signatures : List Signature) (schemes : List (Option Scheme)) (group : List ℕ) : Type 0 where

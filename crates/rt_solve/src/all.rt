@@ -7,11 +7,11 @@ ghost use Rattle.rt_table.specs.Facts.{IsFactsOf};
 ghost use Rattle.rt_table.specs.Lists.{AreGiven};
 ghost use Rattle.rt_solve.specs.Solved.{AreSolved, AddsSchemesOf, with_scheme};
 
-use crate::group::{GroupSchemes, solve_group};
 use rt_base::Memory;
 use rt_calls::Groups;
 use rt_lattice::Lattice;
 use rt_scheme::Schemes;
+use rt_settle::{GroupSchemes, solve_group};
 use rt_sigs::Sigs;
 use rt_table::{Facts, lines_of};
 use std::alloc::{AllocError, Global};

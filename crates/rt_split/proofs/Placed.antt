@@ -31,7 +31,7 @@ both false b e = cc
 
 -- Bounds of existentials.
 
-base-weaker : (a b : ℕ) (base : Base) → a ≤ b → IsExistentialBelow a base → IsExistentialBelow b base
+pub base-weaker : (a b : ℕ) (base : Base) → a ≤ b → IsExistentialBelow a base → IsExistentialBelow b base
 base-weaker a b (Proc n) le h = tt
 base-weaker a b (Global n) le h = tt
 base-weaker a b (Exist n) le h = omega arith

@@ -1,5 +1,5 @@
 -- Which existential stands for which argument or result of other procedures.
-use Rattle.std.specs.Prelude.{ℕ, ◌+◌, ◌<◌, nat_eq, Bool, not, List, [], fold}
+use Rattle.std.specs.Prelude.{ℕ, ◌+◌, ◌<◌, max, nat_eq, Bool, not, List, [], fold, map}
 use Rattle.std.specs.List.{position_or_len}
 use Rattle.indexmap.specs.IndexSet.{insert_key}
 use Rattle.rt_terms.specs.declared.variable.Base.{Base}
@@ -8,7 +8,7 @@ use Rattle.rt_terms.specs.declared.line.Line.{Line}
 use Rattle.rt_terms.specs.declared.line.Line.TheVariants.{Var, Same, Sub, Low, Up}
 use Rattle.rt_split.specs.declared.interface.Interface.{Interface}
 use Rattle.rt_split.specs.contracts.interface.InterfacePartialEq.TheImpl as the_interface
-use Rattle.rt_split.specs.Splitting.{interfaces}
+use Rattle.rt_split.specs.Splitting.{interfaces, split_line}
 
 -- equality as `==` computes it
 abbrev pub interface_eq : Interface → Interface → Bool
@@ -40,3 +40,27 @@ HasExistentialsBelow bound (Same x y) = IsExistentialBelow bound x.base × IsExi
 HasExistentialsBelow bound (Sub x y) = IsExistentialBelow bound x.base × IsExistentialBelow bound y.base
 HasExistentialsBelow bound (Low k x) = IsExistentialBelow bound x.base
 HasExistentialsBelow bound (Up x k) = IsExistentialBelow bound x.base
+
+-- one above an existential, and 0 of another base
+abbrev pub above : Base → ℕ
+above (Proc n) = 0
+above (Global n) = 0
+above (Exist n) = n + 1
+above (Outer n) = 0
+
+-- one above the greatest existential of a line, or 0
+abbrev pub above_line : Line → ℕ
+above_line (Var x) = above x.base
+above_line (Same x y) = max (above x.base) (above y.base)
+above_line (Sub x y) = max (above x.base) (above y.base)
+above_line (Low k x) = above x.base
+above_line (Up x k) = above x.base
+
+-- one above the greatest existential of lines, or 0
+abbrev pub first_free : List Line → ℕ
+first_free lines = fold max 0 (map above_line lines)
+
+-- the lines with an existential for each argument and result of another procedure, numbered in the order in which they first stand, from the first
+-- number on that no line names
+abbrev pub split_for : ℕ → List Line → List Line
+split_for own lines = map (split_line (is_other own) (place_in (first_free lines) (other_interfaces own lines))) lines

@@ -1,8 +1,8 @@
 // Which existential stands for which argument or result.
-ghost use Rattle.std.specs.Prelude.{◌≡◌, All, IfOk, OnOk, fold, option_to_list};
+ghost use Rattle.std.specs.Prelude.{◌≡◌, IfOk, OnOk, All, fold, option_to_list};
 ghost use Rattle.indexmap.specs.IndexSet.{insert_key};
 ghost use Rattle.rt_terms.specs.Words.{IsLabel};
-ghost use Rattle.rt_split.specs.Places.{HasExistentialsBelow, IsExistentialBelow, interface_eq, is_other, other_interfaces, place_in};
+ghost use Rattle.rt_split.specs.Places.{above, above_line, first_free, interface_eq, is_other, other_interfaces, place_in};
 ghost use Rattle.rt_split.specs.Splitting.{interface_of, interfaces_of, split_line, split_side};
 
 use crate::interface::Interface;
@@ -28,7 +28,7 @@ impl Places {
     pub fn new(alloc: Global, own: u32, lines: &[Line]) -> Result<Places, Memory>
         ensures own { IfOk result (λ places. places.own ≡ own) }
         ensures found { IfOk result (λ places. places.found.keys ≡ other_interfaces own lines.now) }
-        ensures free { IfOk result (λ places. All (HasExistentialsBelow places.first) lines.now) }
+        ensures first { IfOk result (λ places. places.first ≡ first_free lines.now) }
     {
         let found = interfaces(alloc, own, lines)?;
         let first = first_free(lines);
@@ -168,7 +168,7 @@ fn interface_of(own: u32, base: Base, word: &Word) -> Option<Interface>
 
 // One above the greatest existential that the lines name, or 0.
 fn first_free(lines: &[Line]) -> u64
-    ensures { All (HasExistentialsBelow result) lines.now }
+    ensures { result ≡ first_free lines.now }
 {
     let mut first: u64 = 0;
     for line in lines {
@@ -179,7 +179,7 @@ fn first_free(lines: &[Line]) -> u64
 
 // One above the greatest existential of a line, or 0.
 fn above_line(line: &Line) -> u64
-    ensures { HasExistentialsBelow result line.now }
+    ensures { result ≡ above_line line.now }
 {
     match line {
         Line::Var(x) | Line::Low(_, x) | Line::Up(x, _) => above(x.base),
@@ -189,7 +189,7 @@ fn above_line(line: &Line) -> u64
 
 // One above an existential, 0 of another base.
 fn above(base: Base) -> u64
-    ensures { IsExistentialBelow result base }
+    ensures { result ≡ above base }
 {
     match base {
         Base::Exist(number) => u64::from(number) + 1,

@@ -5,7 +5,7 @@ ghost use Rattle.rt_terms.specs.Orders.{Below};
 ghost use Rattle.rt_rules.specs.Alike.{Alike, is_inside_for};
 ghost use Rattle.rt_rules.specs.Laws.{NamesBase};
 ghost use Rattle.rt_scheme.specs.Schemes.{AreSchemeLines, is_interface};
-ghost use Rattle.rt_split.specs.Places.{is_other, place_in};
+ghost use Rattle.rt_split.specs.Places.{is_other, place_in, split_for};
 ghost use Rattle.rt_split.specs.Splitting.{AreInterfaceLines, is_interface_line, is_interface_variable, split_line};
 
 use crate::places::Places;
@@ -22,6 +22,7 @@ pub fn split(alloc: Global, lines: &[Line], own: u32) -> Result<Lines, Memory>
     ensures constants { IfOk result (λ made. (count : ℕ) → All (HasConstantsBelow count) lines.now → All (HasConstantsBelow count) made) }
     ensures globals { IfOk result (λ made. (n : ℕ) → NamesBase made (Base.Global n) → NamesBase lines.now (Base.Global n)) }
     ensures scheme { IfOk result (AreSchemeLines own) }
+    ensures exact { IfOk result (λ made. made ≡ split_for own lines.now) }
 {
     let places = Places::new(alloc, own, lines)?;
     split_lines(alloc, &places, lines)

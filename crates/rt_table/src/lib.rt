@@ -26,8 +26,6 @@ mod stores;
 mod taken;
 mod target;
 mod targets;
-#[cfg(test)]
-mod tests;
 mod traced;
 mod variables;
 mod words;

@@ -1,6 +1,6 @@
-use Rattle.std.proofs.Common.{All, take}
-use Rattle.rt_split.specs.Places.{HasExistentialsBelow}
+use Rattle.std.proofs.Common.{◌≡◌, max, take, fold, map}
+use Rattle.rt_split.specs.Places.{above_line}
 use Rattle.rt_split.proofs.places.first_free.Given as goal
 
 abbrev pub invariant-loop-line : goal.invariant-loop-line
-invariant-loop-line l = All (HasExistentialsBelow l.first) (take l.line-index l.lines)
+invariant-loop-line l = l.first ≡ fold max 0 (map above_line (take l.line-index l.lines))

@@ -5,9 +5,10 @@ use Rattle.rt_terms.specs.Lines.{HasConstantsBelow}
 use Rattle.rt_rules.specs.Alike.{Alike, is_inside_for}
 use Rattle.rt_rules.specs.Laws.{NamesBase}
 use Rattle.rt_scheme.specs.Schemes.{AreSchemeLines}
-use Rattle.rt_split.specs.Places.{is_other, place_in}
+use Rattle.rt_split.specs.Places.{HasExistentialsBelow, is_other, place_in}
 use Rattle.rt_split.specs.Splitting.{split_line}
 use Rattle.rt_split.proofs.Placed.{split-alike, split-constants, split-globals, split-scheme}
+use Rattle.rt_split.proofs.Free.{first_free-free}
 use Rattle.rt_split.proofs.splitting.split.Goals as goal
 
 pub returns-clause-alike : goal.returns-clause-alike
@@ -19,7 +20,7 @@ returns-clause-alike c =
     (λ made e order.
     subst (Alike order (is_inside_for c.args.own) lines)
     (sym (e ∙ (λ i. map (split_line (is_other (by.own i)) (place_in places.first (by.found i))) lines)))
-    (split-alike c.args.own places.first lines c.requires by.free order)) c.split_lines.ensures
+    (split-alike c.args.own places.first lines c.requires (subst (λ first. All (HasExistentialsBelow first) lines) (sym by.first) (first_free-free lines)) order)) c.split_lines.ensures
 
 pub returns-clause-constants : goal.returns-clause-constants
 returns-clause-constants c =
@@ -42,3 +43,11 @@ returns-clause-scheme c =
     (λ made e.
     subst (λ own. AreSchemeLines own made) c.in_ok-places.ensures.own
     (subst (AreSchemeLines places.own) (sym e) (split-scheme places.own (place_in places.first places.found.keys) c.args.lines.now c.requires))) c.split_lines.ensures
+
+pub returns-clause-exact : goal.returns-clause-exact
+returns-clause-exact c =
+    let lines = c.args.lines.now in
+    let places = c.in_ok-places.places in
+    let by = c.in_ok-places.ensures in
+    IfOk-weaker c.split_lines.result _ _
+    (λ made e. e ∙ (λ i. map (split_line (is_other (by.own i)) (place_in (by.first i) (by.found i))) lines)) c.split_lines.ensures

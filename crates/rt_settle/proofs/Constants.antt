@@ -1,0 +1,118 @@
+-- Each constant of a scheme that is chosen stands in the lines.
+use Rattle.std.proofs.Common.{◌≡◌, ℕ, ◌⊎◌, inl, inr, List, [], ◌∷◌, Bool, true, false, cond, filter, map, Contains, Option, refl, sym, subst}
+use Rattle.std.specs.List.Sorted.{ties}
+use Rattle.std.proofs.lemmas.Bool.{both_ways}
+use Rattle.rt_terms.specs.declared.variable.Dtv.{Dtv}
+use Rattle.rt_terms.specs.declared.line.Line.{Line}
+use Rattle.rt_terms.specs.declared.line.Line.TheVariants.{Var, Same, Sub, Low, Up}
+use Rattle.rt_terms.specs.Equality.{variable_eq}
+use Rattle.rt_rules.specs.Alike.{map_line}
+use Rattle.rt_rules.specs.Laws.{renamed}
+use Rattle.rt_rules.specs.Put.{put_each}
+use Rattle.rt_rules.proofs.Lists.{Contains-none, Contains-here, Contains-there, Contains-cons_cases, Contains-map_source}
+use Rattle.rt_numbering.specs.Numbering.{existentials, numbered, placed}
+use Rattle.rt_numbering.proofs.Deduplicating.{deduplicated-source}
+use Rattle.rt_split.specs.Places.{first_free, is_other, other_interfaces, place_in, split_for}
+use Rattle.rt_split.specs.Splitting.{split_variable}
+use Rattle.rt_settle.specs.Rounds.{after_put, IsAfter, PutsAway}
+use Rattle.rt_settle.specs.Rounds.PutsAway.{stays, goes_on}
+use Rattle.rt_settle.specs.Tidy.{AreNeeded, tidied, without_self}
+use Rattle.rt_settle.specs.Chosen.{AreInOrder, ConstantsStand, HasConstant, IsChosenFrom, IsSettled, is_before, NamesConstant}
+use Rattle.rt_settle.specs.Chosen.IsChosenFrom.{as_they_stand, split}
+use Rattle.rt_settle.proofs.Kept.{kept_source}
+use Rattle.rt_settle.proofs.OneOrder.{before_order, ties_itself}
+
+module _ {X : Type 0} (p : X → Bool) where
+  -- an element that passes is one of those that do
+  passing_has : (xs : List X) (x : X) → p x ≡ true → Contains xs x → Contains (filter p xs) x
+  passing_has [] x e c = absurd (Contains-none x c)
+  passing_has (y ∷ xs) x e c = by (Contains-cons_cases y xs x c) (p y) refl (passing_has xs x e)
+    where
+      by : (y ≡ x) ⊎ Contains xs x → (t : Bool) → p y ≡ t → (Contains xs x → Contains (filter p xs) x) → Contains (cond t (y ∷ filter p xs) (filter p xs)) x
+      by (inl f) true g rest = subst (Contains (y ∷ filter p xs)) f (Contains-here y (filter p xs))
+      by (inl f) false g rest = absurd (both_ways (p y) g (subst (λ z. p z ≡ true) (sym f) e))
+      by (inr d) true g rest = Contains-there y (filter p xs) x (rest d)
+      by (inr d) false g rest = rest d
+
+  -- what passes is an element
+  passing_source : (xs : List X) (x : X) → Contains (filter p xs) x → Contains xs x
+  passing_source [] x c = absurd (Contains-none x c)
+  passing_source (y ∷ xs) x c = by (p y) c (passing_source xs x)
+    where
+      by : (t : Bool) → Contains (cond t (y ∷ filter p xs) (filter p xs)) x → (Contains (filter p xs) x → Contains xs x) → Contains (y ∷ xs) x
+      by true d rest = either (Contains-cons_cases y (filter p xs) x d)
+        where
+          either : (y ≡ x) ⊎ Contains (filter p xs) x → Contains (y ∷ xs) x
+          either (inl f) = subst (Contains (y ∷ xs)) f (Contains-here y xs)
+          either (inr h) = Contains-there y xs x (rest h)
+      by false d rest = Contains-there y xs x (rest d)
+
+module _ (k : ℕ) where
+  among : (some lines : List Line) → ((l : Line) → Contains some l → Contains lines l) → NamesConstant some k → NamesConstant lines k
+  among some lines stand (l, c, has) = (l, stand l c, has)
+
+  changed : (f : Line → Line) → ((l : Line) → HasConstant k (f l) → HasConstant k l) → (lines : List Line) → NamesConstant (map f lines) k → NamesConstant lines k
+  changed f keeps lines (l, c, has) =
+      let s = Contains-map_source f lines l c in
+      (s.0, s.1, keeps s.0 (subst (HasConstant k) (sym s.2) has))
+
+  line_constant : (f : Dtv → Dtv) (l : Line) → HasConstant k (map_line f l) → HasConstant k l
+  line_constant f (Var x) has = has
+  line_constant f (Same x y) has = has
+  line_constant f (Sub x y) has = has
+  line_constant f (Low n x) has = has
+  line_constant f (Up x n) has = has
+
+  mapped_constant : (f : Dtv → Dtv) (lines : List Line) → NamesConstant (map (map_line f) lines) k → NamesConstant lines k
+  mapped_constant f lines names = changed (map_line f) (line_constant f) lines names
+
+  none_self : (x y : Dtv) (t : Bool) → HasConstant k (cond t (Var x) (Sub x y)) → ⊥
+  none_self x y true has = has
+  none_self x y false has = has
+
+  self_constant : (l : Line) → HasConstant k (without_self l) → HasConstant k l
+  self_constant (Var x) has = has
+  self_constant (Same x y) has = has
+  self_constant (Sub x y) has = none_self x y (variable_eq x y) has
+  self_constant (Low n x) has = has
+  self_constant (Up x n) has = has
+
+  tidied_constant : (lines : List Line) → NamesConstant (tidied lines) k → NamesConstant lines k
+  tidied_constant lines names = changed without_self self_constant lines (among (tidied lines) (map without_self lines) (deduplicated-source (map without_self lines)) names)
+
+  round_constant : (place : ℕ → Option Dtv) (lines : List Line) → NamesConstant (after_put place lines) k → NamesConstant lines k
+  round_constant place lines names = mapped_constant (put_each place) lines (tidied_constant (map (map_line (put_each place)) lines) names)
+
+  needed_constant : (lines needed : List Line) → AreNeeded lines needed → NamesConstant needed k → NamesConstant lines k
+  needed_constant lines needed are names = among needed lines (λ l c. kept_source lines are.flags l (subst (λ ls. Contains ls l) are.are_kept c)) names
+
+  after_constant : (place : ℕ → Option Dtv) (lines after : List Line) → IsAfter place lines after → NamesConstant after k → NamesConstant lines k
+  after_constant place lines after is names = round_constant place lines (needed_constant (after_put place lines) after is names)
+
+  left_constant : (left lines : List Line) → PutsAway left lines → NamesConstant left k → NamesConstant lines k
+  left_constant left lines (stays _ place followed round empty) names = after_constant followed.place lines left followed.is_after names
+  left_constant left lines (goes_on _ between after place followed round n z found is rest) names =
+      after_constant followed.place lines between followed.is_after (after_constant place between after is (left_constant left after rest names))
+
+  -- lines in order are those that were put in order
+  sorted_source : (lines sorted : List Line) → AreInOrder lines sorted → (l : Line) → Contains sorted l → Contains lines l
+  sorted_source lines sorted order l c =
+      let tied = passing_has (ties is_before l) sorted l (ties_itself is_before before_order l) c in
+      passing_source (ties is_before l) lines l (subst (λ ls. Contains ls l) (order.stable l) tied)
+
+  settled_constant : (lines settled : List Line) → IsSettled lines settled → NamesConstant settled k → NamesConstant lines k
+  settled_constant lines settled is names =
+      let in_order = among settled (numbered is.left) (sorted_source (numbered is.left) settled is.in_order) names in
+      let left = mapped_constant (renamed (placed (existentials is.left))) is.left in_order in
+      let needed = left_constant is.left is.leaves.needed is.leaves.put_away left in
+      tidied_constant lines (needed_constant (tidied lines) is.leaves.needed is.leaves.are_needed needed)
+
+  split_constant : (own : ℕ) (lines : List Line) → NamesConstant (split_for own lines) k → NamesConstant lines k
+  split_constant own lines names = mapped_constant (split_variable (is_other own) (place_in (first_free lines) (other_interfaces own lines))) lines names
+
+  chosen_constant : (own : ℕ) (settled chosen : List Line) → IsChosenFrom own settled chosen → NamesConstant chosen k → NamesConstant settled k
+  chosen_constant own settled chosen (as_they_stand scheme e) names = subst (λ ls. NamesConstant ls k) e names
+  chosen_constant own settled chosen (split none is) names = split_constant own settled (settled_constant (split_for own settled) chosen is names)
+
+pub constants_stand : ConstantsStand
+constants_stand own lines chosen k is names = settled_constant k lines is.settled is.is_settled (chosen_constant k own is.settled chosen is.is_chosen names)

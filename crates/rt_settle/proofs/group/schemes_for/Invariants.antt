@@ -1,0 +1,5 @@
+use Rattle.rt_settle.proofs.Grouping.{AreSchemesBelow}
+use Rattle.rt_settle.proofs.group.schemes_for.Given as goal
+
+abbrev pub invariant-loop-member : goal.invariant-loop-member
+invariant-loop-member l = AreSchemesBelow l.member-index l.members l.settled l.schemes.items

@@ -1,0 +1,42 @@
+-- The schemes of a group's members.
+use Rattle.std.specs.Prelude.{◌≡◌, ℕ, ◌<◌, List, All, flat_map, length, slice_index_or}
+use Rattle.rt_terms.specs.declared.variable.Base.TheVariants.{Global}
+use Rattle.rt_terms.specs.declared.line.Line.{Line}
+use Rattle.rt_terms.specs.Lines.{HasConstantsBelow}
+use Rattle.rt_terms.specs.Orders.{Below}
+use Rattle.rt_rules.specs.Alike.{Alike, is_inside_for}
+use Rattle.rt_rules.specs.Laws.{NamesBase}
+use Rattle.rt_scheme.specs.declared.scheme.Scheme.{Scheme}
+use Rattle.rt_settle.specs.Chosen.{IsChosen, IsChosenFrom}
+
+-- the lines of all lists, in their order
+abbrev pub joined : List (List Line) → List Line
+joined lists = flat_map (λ list. list) lists
+
+-- tells the outside of the procedure the same, with no constant and no global more
+pub record TellsOutside (own : ℕ) (first second : List Line) : Type 0 where
+  pub alike : (order : Below) → Alike order (is_inside_for own) first second
+  pub constants : (count : ℕ) → All (HasConstantsBelow count) first → All (HasConstantsBelow count) second
+  pub globals : (n : ℕ) → NamesBase second (Global n) → NamesBase first (Global n)
+
+-- the scheme of the procedure that is chosen, which tells the outside of it what the lines tell
+pub record IsSchemeFor (own : ℕ) (lines : List Line) (scheme : Scheme) : Type 0 where
+  pub base_is : scheme.base ≡ own
+  pub tells : TellsOutside own lines scheme.lines
+  pub chosen : IsChosen own lines scheme.lines
+
+-- one scheme for each member, in their order: the one that is chosen, which tells the outside of it what the lines tell
+pub record AreSchemesOf (members : List ℕ) (lines : List Line) (schemes : List Scheme) : Type 0 where
+  pub one_each : length schemes ≡ length members
+  pub each : (i : ℕ) (d : Scheme) → i < length members → IsSchemeFor (slice_index_or members i 0) lines (slice_index_or schemes i d)
+
+-- the scheme of the procedure that is chosen from the settled lines of its group, which tells the outside of it what they tell
+pub record IsSchemeFrom (own : ℕ) (settled : List Line) (scheme : Scheme) : Type 0 where
+  pub base_is : scheme.base ≡ own
+  pub tells : TellsOutside own settled scheme.lines
+  pub chosen : IsChosenFrom own settled scheme.lines
+
+-- such a scheme for each member, in their order
+pub record AreSchemesFrom (members : List ℕ) (settled : List Line) (schemes : List Scheme) : Type 0 where
+  pub one_each : length schemes ≡ length members
+  pub each : (i : ℕ) (d : Scheme) → i < length members → IsSchemeFrom (slice_index_or members i 0) settled (slice_index_or schemes i d)
