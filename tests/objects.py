@@ -3,13 +3,13 @@ import struct
 from typing import NamedTuple
 
 NULL, PROGBITS, SYMTAB, STRTAB, RELA, NOBITS, REL = 0, 1, 2, 3, 4, 8, 9
-# SHF_ALLOC with SHF_WRITE, and with SHF_EXECINSTR
-DATA, CODE = 3, 6
+# SHF_ALLOC alone, with SHF_WRITE, and with SHF_EXECINSTR
+CONSTANTS, DATA, CODE = 2, 3, 6
 LOCAL, GLOBAL = 0, 1
 NOTYPE, OBJECT, FUNC = 0, 1, 2
 # R_RISCV_32 and others
-WORD, CALL_PLT, PCREL_HI20, PCREL_LO12_I, ADD32, SUB32, RELAX = 1, 19, 23, 24, 35, 39, 51
-RA, SP, T0, S0, A0, RETURN = 1, 2, 5, 8, 10, 0x00008067
+WORD, CALL_PLT, PCREL_HI20, PCREL_LO12_I, HI20, LO12_I, ADD32, SUB32, RELAX = 1, 19, 23, 24, 26, 27, 35, 39, 51
+RA, SP, T0, T1, S0, A0, RETURN = 1, 2, 5, 6, 8, 10, 0x00008067
 
 
 class Section(NamedTuple):
@@ -37,6 +37,22 @@ def code(*words):
 
 def addi(rd, rs1, imm):
     return (imm & 0xFFF) << 20 | rs1 << 15 | rd << 7 | 0x13
+
+
+def slli(rd, rs1, amount):
+    return amount << 20 | rs1 << 15 | 1 << 12 | rd << 7 | 0x13
+
+
+def add(rd, rs1, rs2):
+    return rs2 << 20 | rs1 << 15 | rd << 7 | 0x33
+
+
+def lui(rd, high):
+    return (high & 0xFFFFF) << 12 | rd << 7 | 0x37
+
+
+def jalr(rd, rs1, imm):
+    return (imm & 0xFFF) << 20 | rs1 << 15 | rd << 7 | 0x67
 
 
 def lw(rd, rs1, imm):

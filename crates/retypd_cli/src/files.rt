@@ -1,7 +1,7 @@
 // The files of the system.
 ghost use Rattle.std.specs.Prelude.{◌≤◌, ◌+◌, IfOk, None, vec_len};
 
-use rt_outside::{FileFault, Files};
+use rt_io::{FileFault, Files};
 use std::alloc::{AllocError, Global};
 use std::io::{self, ErrorKind, Read};
 use std::{fs, rt};

@@ -6,7 +6,7 @@ mod out;
 
 use files::HostFiles;
 use out::HostOut;
-use rt_outside::Sink;
+use rt_io::Sink;
 use rt_run::run;
 use std::env::{self, Env};
 use std::io::ErrorKind;

@@ -1,7 +1,7 @@
 // A stream of the system that takes a text.
 ghost use Rattle.std.specs.Prelude.{None};
 
-use rt_outside::{Sink, SinkFault};
+use rt_io::{Sink, SinkFault};
 use std::io::Write;
 
 /// A stream of the system that takes a text in pieces. What was written is not told; each put that fails is counted.

@@ -1,6 +1,6 @@
 -- What is told of the symbols that stand at one place.
 use Rattle.std.specs.Prelude.{◌≡◌, ℕ, get_or}
-use Rattle.rt_elf.specs.declared.object.Object.{Object}
+use Rattle.rt_elf.specs.Parts.{Parts as Object}
 use Rattle.rt_body.specs.declared.symbols.Symbols.{Symbols}
 use Rattle.rt_body.specs.Symbols.{lowest}
 

@@ -1,6 +1,6 @@
 -- What is read of a procedure before its flow.
 use Rattle.std.specs.Prelude.{◌≡◌, ℕ, ◌<◌, All, List, length}
-use Rattle.rt_elf.specs.declared.object.Object.{Object}
+use Rattle.rt_elf.specs.Parts.{Parts as Object}
 use Rattle.rt_proc.specs.declared.proc.Proc.{Proc}
 use Rattle.rt_body.specs.declared.action.Action.{Action}
 use Rattle.rt_body.specs.Actions.{actions_of}

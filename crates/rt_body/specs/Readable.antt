@@ -1,6 +1,6 @@
 -- What is known of a procedure of an object.
 use Rattle.std.specs.Prelude.{◌<◌, All, List}
-use Rattle.rt_elf.specs.declared.object.Object.{Object}
+use Rattle.rt_elf.specs.Parts.{Parts as Object}
 use Rattle.rt_elf.specs.Object.{IsLinkable}
 use Rattle.rt_insn.specs.Range.{HasRange}
 use Rattle.rt_proc.specs.declared.proc.Proc.{Proc}

@@ -1,6 +1,6 @@
 -- When what is known of a procedure's registers is true.
 use Rattle.std.specs.Prelude.{◌≡◌, ℕ, pos, ◌<◌, Contains, length}
-use Rattle.rt_elf.specs.declared.object.Object.{Object}
+use Rattle.rt_elf.specs.Parts.{Parts as Object}
 use Rattle.rt_proc.specs.declared.proc.Proc.{Proc}
 use Rattle.rt_flow.specs.declared.def.Def.TheVariants.{At}
 use Rattle.rt_flow.specs.Bodies.{IsBody, AreReaching}

@@ -1,7 +1,7 @@
 -- Symbols that stand at one place.
-use Rattle.std.specs.Prelude.{ℕ, ◌==◌, ◌&&◌, Bool, if◌then◌else◌, get_or}
+use Rattle.std.specs.Prelude.{ℕ, ◌==◌, ◌&&◌, not, Bool, if◌then◌else◌, get_or}
 use Rattle.std.specs.List.{position_or_len}
-use Rattle.rt_elf.specs.declared.object.Object.{Object}
+use Rattle.rt_elf.specs.Parts.{Parts as Object}
 use Rattle.rt_elf.specs.declared.symbol.Symbol.{Symbol}
 use Rattle.rt_elf.specs.Object.{section_of}
 use Rattle.rt_elf.specs.Sections.{is_code_section}
@@ -22,6 +22,7 @@ lowest object index =
     let symbol = symbol_of object index in
     if has_no_section symbol then index else position_or_len (stands_with symbol) object.symbols
 
--- a symbol lies in an executable section
+-- a symbol lies in an executable section: an undefined, absolute or common one lies in none, whatever section has that index
 abbrev pub is_code_symbol : Object → ℕ → Bool
-is_code_symbol object index = is_code_section (section_of object (symbol_of object index).section)
+is_code_symbol object index = let symbol = symbol_of object index in
+    not (has_no_section symbol) && is_code_section (section_of object symbol.section)

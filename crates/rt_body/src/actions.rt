@@ -2,7 +2,7 @@
 ghost use Rattle.std.specs.Prelude.{◌≡◌, Option, None, IfOk, map};
 ghost use Rattle.rt_body.specs.declared.action.Action.TheVariants as action;
 ghost use Rattle.rt_link.specs.Links.{AreLinksOf};
-ghost use Rattle.rt_elf.specs.declared.object.Object.{Object};
+ghost use Rattle.rt_elf.specs.Parts.{Parts as Object};
 ghost use Rattle.rt_body.specs.Actions.{add_action, address_by, insn_action, kind_action, site_action, upper_action};
 ghost use Rattle.rt_body.specs.Lowest.{lowest_in, AreSymbolsOf};
 

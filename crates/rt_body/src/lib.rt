@@ -15,6 +15,3 @@ mod symbols;
 pub use action::{Action, Address, Loaded, Operation, Width};
 pub use body::Body;
 pub use symbols::{Symbols, is_code_symbol};
-
-#[cfg(test)]
-mod tests;

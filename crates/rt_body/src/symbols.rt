@@ -1,9 +1,9 @@
 // Symbols that stand at one place.
 ghost use Rattle.std.specs.Prelude.{◌≡◌, ◌<◌, Option, None, IfOk, OnOk, if◌then◌else◌, length, unwrap_or};
-ghost use Rattle.std.specs.HashMap.{get};
+ghost use Rattle.std.specs.BTreeMap.{get};
 ghost use Rattle.std.specs.Option.{option_or};
-ghost use Rattle.rt_elf.specs.Object.{IsLinkable};
 ghost use Rattle.rt_link.specs.Effects.{is_place};
+ghost use Rattle.rt_link.specs.Links.{place_cmp};
 ghost use Rattle.rt_proc.specs.Entries.{has_no_section, place_of};
 ghost use Rattle.rt_body.specs.Symbols.{is_code_symbol};
 ghost use Rattle.rt_body.specs.Lowest.{lowest_in, AreSymbolsOf};
@@ -12,7 +12,7 @@ use rt_base::Memory;
 use rt_elf::{Object, Symbol};
 use rt_proc::Place;
 use std::alloc::Global;
-use std::collections::HashMap;
+use std::collections::BTreeMap;
 
 // SHN_UNDEF, SHN_ABS and SHN_COMMON (ELF gABI, "Special Section Indexes").
 const UNDEFINED: u16 = 0;
@@ -45,10 +45,10 @@ fn place_of(symbol: &Symbol) -> Place
 }
 
 // The first symbol at a place, which is the one of this index where there was none.
-fn first_at(firsts: &mut HashMap<Place, u32>, place: Place, index: u32) -> Result<u32, Memory>
-    ensures first { IfOk result (λ first. first ≡ unwrap_or (get is_place firsts.old place) index) }
+fn first_at(firsts: &mut BTreeMap<Place, u32>, place: Place, index: u32) -> Result<u32, Memory>
+    ensures first { IfOk result (λ first. first ≡ unwrap_or (get place_cmp firsts.old place) index) }
     ensures noted { OnOk result ((other : Place)
-        → get is_place firsts.new other ≡ option_or (get is_place firsts.old other) (if is_place place other then Option.Some index else None)) }
+        → get place_cmp firsts.new other ≡ option_or (get place_cmp firsts.old other) (if is_place place other then Option.Some index else None)) }
 {
     if let Some(first) = firsts.get(&place) {
         return Ok(*first);
@@ -65,14 +65,13 @@ fn lowest_of(symbol: &Symbol, index: u32, first: u32) -> u32
 }
 
 impl Symbols {
-    /// The symbols of an object, in time linear in their number but for the hashing of places. The error is want of memory.
+    /// The symbols of an object, in time near linear in their number. The error is out of memory.
     pub fn of(alloc: Global, object: &Object) -> Result<Symbols, Memory>
-        requires { IsLinkable object.now }
         ensures { IfOk result (AreSymbolsOf object.now) }
     {
-        let mut firsts = HashMap::new(alloc);
-        let mut lowest = Vec::with_capacity(alloc, object.symbols.len())?;
-        for (index, symbol) in object.symbols.items().iter().enumerate() {
+        let mut firsts = BTreeMap::new(alloc);
+        let mut lowest = Vec::with_capacity(alloc, object.symbols().len())?;
+        for (index, symbol) in object.symbols().iter().enumerate() {
             let first = first_at(&mut firsts, place_of(symbol), index as u32)?;
             lowest.push(lowest_of(symbol, index as u32, first))?;
         }
@@ -91,12 +90,13 @@ impl Symbols {
     }
 }
 
-/// Whether a symbol lies in an executable section.
+/// Whether a symbol lies in an executable section. An undefined, absolute or common symbol lies in none (ELF gABI,
+/// "Special Section Indexes"), and so does one that the object hasn't.
 pub fn is_code_symbol(object: &Object, symbol: u32) -> bool
     ensures { result ≡ is_code_symbol object.now symbol }
 {
-    match object.symbols.items().get(symbol as usize) {
-        Some(symbol) => object.is_code(symbol.section),
-        None => object.is_code(UNDEFINED),
+    match object.symbols().get(symbol as usize) {
+        Some(symbol) => !has_no_section(symbol) && object.is_code(symbol.section),
+        None => false,
     }
 }

@@ -1,8 +1,8 @@
 -- Groups over another relation that holds of the same nodes.
 use Rattle.std.proofs.Common.{ℕ, List, length, subst}
-use Rattle.rt_groups.specs.Groups.{Reaches, AreTogether, AreGroups}
-use Rattle.rt_groups.specs.Groups.Reaches.{there, onward}
-use Rattle.rt_groups.specs.Graphs.{HasEdge}
+use Rattle.rt_components.specs.Groups.{Reaches, AreTogether, AreGroups}
+use Rattle.rt_components.specs.Groups.Reaches.{there, onward}
+use Rattle.rt_components.specs.Graphs.{HasEdge}
 use Rattle.rt_proc.specs.declared.proc.Proc as procedure
 use Rattle.rt_calls.specs.Calls.{Calls, AreGroupsOf, IsCallGraph}
 

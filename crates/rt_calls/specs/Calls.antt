@@ -1,7 +1,7 @@
 -- Which procedure calls which, and the groups of those that call each other.
 use Rattle.std.specs.Prelude.{◌≡◌, ◌≢◌, ℕ, ◌<◌, ◌⊎◌, List, length, Contains, Some, slice_get}
-use Rattle.rt_groups.specs.Graphs.{successors, HasEdge}
-use Rattle.rt_groups.specs.Groups.{AreGroups}
+use Rattle.rt_components.specs.Graphs.{successors, HasEdge}
+use Rattle.rt_components.specs.Groups.{AreGroups}
 use Rattle.rt_proc.specs.declared.proc.Proc as procedure
 use Rattle.rt_proc.specs.declared.site.Callee.TheVariants.{Proc}
 use Rattle.rt_proc.specs.declared.site.Kind.TheVariants.{Call}

@@ -4,7 +4,7 @@ ghost use Rattle.rt_proc.specs.declared.site.Callee.TheVariants as callees;
 ghost use Rattle.rt_calls.specs.Calls.{AddsEdges, CallsAt, IsCallGraph, LeadTo, TailCallsAt};
 
 use rt_base::Memory;
-use rt_groups::Graph;
+use rt_components::Graph;
 use rt_proc::{Callee, Kind, Procs, Site};
 use std::alloc::{AllocError, Global};
 

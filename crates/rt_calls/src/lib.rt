@@ -5,11 +5,9 @@ ghost use Rattle.std.specs.Prelude.{IfOk};
 ghost use Rattle.rt_calls.specs.Calls.{AreGroupsOf};
 
 mod edges;
-#[cfg(test)]
-mod tests;
 
 use rt_base::Memory;
-pub use rt_groups::Groups;
+pub use rt_components::Groups;
 use rt_proc::Procs;
 use std::alloc::Global;
 
@@ -23,5 +21,5 @@ pub fn groups_of(alloc: Global, procs: &Procs) -> Result<Groups, Memory>
     ensures { IfOk result (AreGroupsOf procs.now) }
 {
     let graph = edges::call_graph(alloc, procs)?;
-    rt_groups::groups(alloc, &graph)
+    rt_components::groups(alloc, &graph)
 }

@@ -1,7 +1,7 @@
 -- The room of sites.
 use Rattle.std.proofs.Common.{◌≡◌, ℕ, ◌+◌, ◌%◌, ◌≤◌, ◌&&◌, IsTrue, Bool, true, refl, arith, eq-eqb}
 use Rattle.std.proofs.lemmas.Bool.{le-leb}
-use Rattle.rt_elf.specs.declared.object.Object.{Object}
+use Rattle.rt_elf.specs.Parts.{Parts as Object}
 use Rattle.rt_elf.specs.Object.{section_of}
 use Rattle.rt_link.specs.declared.place.Place.{Place}
 use Rattle.rt_link.specs.Laws.{IsFarCall}
@@ -11,7 +11,7 @@ use Rattle.rt_control.specs.Places.{is_good, HasRoom, after}
 pub far_room : (object : Object) (place : Place) (size : ℕ) → IsFarCall object place → size ≤ 8 → HasRoom object place size
 far_room object place size far few = record { is_code = far.is_code; is_within = let h = far.is_within in omega arith }
 
-all_true : (a b c : Bool) → a ≡ true → b ≡ true → c ≡ true → (a && b && c) ≡ true
+pub all_true : (a b c : Bool) → a ≡ true → b ≡ true → c ≡ true → (a && b && c) ≡ true
 all_true a b c e f g = rw (e, f, g) refl
 
 -- the place of the second is good

@@ -1,7 +1,7 @@
 -- The table of control: what a site does, by its relocation and its instruction.
 use Rattle.std.specs.Prelude.{ℕ, ℤ, pos, ◌==◌, ◌&&◌, Option, Some, None, Result, Ok, Err, if◌then◌else◌}
 use Rattle.std.specs.Ordering.{int_eq}
-use Rattle.rt_elf.specs.declared.object.Object.{Object}
+use Rattle.rt_elf.specs.Parts.{Parts as Object}
 use Rattle.rt_insn.specs.declared.insn.Insn.{Insn}
 use Rattle.rt_insn.specs.declared.insn.Insn.TheVariants.{Jal, Jalr, Beq, Bne, Blt, Bge, Bltu, Bgeu, Ebreak}
 use Rattle.rt_link.specs.declared.link.Link.{Link}
@@ -13,9 +13,11 @@ use Rattle.rt_control.specs.declared.form.Form.TheVariants.{Plain, Call, Tail, R
 use Rattle.rt_control.specs.declared.form.Target.{Target}
 use Rattle.rt_control.specs.declared.form.Target.TheVariants as target
 use Rattle.rt_control.specs.declared.form.Way.{Way}
-use Rattle.rt_control.specs.declared.form.Way.TheVariants.{On, Jump, Branch, Leave}
+use Rattle.rt_control.specs.declared.form.Way.TheVariants.{On, Jump, Branch, Leave, Table}
 use Rattle.rt_control.specs.declared.fault.SiteFault.{SiteFault}
 use Rattle.rt_control.specs.declared.fault.SiteFault.TheVariants as fault
+use Rattle.rt_control.specs.declared.outcome.Outcome.{Outcome}
+use Rattle.rt_control.specs.declared.outcome.Outcome.TheVariants.{NoTable, BadTarget, Targets}
 use Rattle.rt_control.specs.Places.{good_place, after, jump_target}
 
 -- the number of a fault
@@ -51,10 +53,17 @@ jal_form object place insn link None = Err fault.Target
 jal_form object place insn link (Some leads) =
     if link == 0 then Ok (Plain insn (way_to leads)) else Ok (call_form object (after place 4) link (called_at leads))
 
--- JALR with no far call: with x0 a return if it is `jalr x0,0(ra)`, else a call of what the base register holds
-abbrev pub jalr_form : Object → Place → ℕ → ℕ → ℤ → Result Form SiteFault
-jalr_form object place link base distance =
-    if link == 0 then (if base == 1 && int_eq distance (pos 0) then Ok Return else Err fault.Jump) else
+-- a jump through a register by what it comes to: to each entry of its table, if it has one that leads to code
+abbrev pub table_form : Insn → Outcome → Result Form SiteFault
+table_form insn NoTable = Err fault.Jump
+table_form insn BadTarget = Err fault.Target
+table_form insn (Targets places) = Ok (Plain insn (Table places))
+
+-- JALR with no far call: with x0 a return if it is `jalr x0,0(ra)`, or else a jump to an entry of a table; else a call
+-- of what the base register holds
+abbrev pub jalr_form : Object → Place → Insn → ℕ → ℕ → ℤ → Outcome → Result Form SiteFault
+jalr_form object place insn link base distance outcome =
+    if link == 0 then (if base == 1 && int_eq distance (pos 0) then Ok Return else table_form insn outcome) else
     Ok (call_form object (after place 4) link (called.Register base))
 
 -- a step to the continuation, if that is good
@@ -84,9 +93,10 @@ going_form object place link insn None = step_form insn (good_place object (afte
 going_form object place link insn (Some distance) =
     branch_form insn (jump_target object place link distance) (good_place object (after place 4))
 
--- what the site of an instruction at a place does, where a relocation may say the target
-unfoldable pub insn_form : Object → Place → Option Link → Insn → Result Form SiteFault
-insn_form object place link (Jal rd distance) = jal_form object place (Jal rd distance) rd (jump_target object place link distance)
-insn_form object place link (Jalr rd base distance) = jalr_form object place rd base distance
-insn_form object place link Ebreak = Ok Stop
-insn_form object place link insn = going_form object place link insn (branch_distance insn)
+-- what the site of an instruction at a place does, where a relocation may say the target, and a table where a jump
+-- through a register leads
+unfoldable pub insn_form : Object → Place → Option Link → Insn → Outcome → Result Form SiteFault
+insn_form object place link (Jal rd distance) outcome = jal_form object place (Jal rd distance) rd (jump_target object place link distance)
+insn_form object place link (Jalr rd base distance) outcome = jalr_form object place (Jalr rd base distance) rd base distance outcome
+insn_form object place link Ebreak outcome = Ok Stop
+insn_form object place link insn outcome = going_form object place link insn (branch_distance insn)

@@ -1,6 +1,6 @@
 -- What the forms of sites have in common.
-use Rattle.std.specs.Prelude.{◌≡◌, ℕ, ◌<◌, IsTrue, Option, Some, None, Result, Ok, get_or, length}
-use Rattle.rt_elf.specs.declared.object.Object.{Object}
+use Rattle.std.specs.Prelude.{◌≡◌, ℕ, ◌<◌, IsTrue, All, Option, Some, None, Result, Ok, get_or, length}
+use Rattle.rt_elf.specs.Parts.{Parts as Object}
 use Rattle.rt_elf.specs.Object.{IsLinkable}
 use Rattle.rt_elf.specs.Symbols.{zero_symbol}
 use Rattle.rt_insn.specs.Range.{HasRange}
@@ -13,7 +13,7 @@ use Rattle.rt_control.specs.declared.form.Form.TheVariants.{Plain, Call, Tail, R
 use Rattle.rt_control.specs.declared.form.Target.{Target}
 use Rattle.rt_control.specs.declared.form.Target.TheVariants as target
 use Rattle.rt_control.specs.declared.form.Way.{Way}
-use Rattle.rt_control.specs.declared.form.Way.TheVariants.{On, Jump, Branch, Leave}
+use Rattle.rt_control.specs.declared.form.Way.TheVariants.{On, Jump, Branch, Leave, Table}
 use Rattle.rt_control.specs.Places.{is_good}
 use Rattle.rt_control.specs.Sites.{IsAt}
 
@@ -42,6 +42,7 @@ IsGoodWay object (On after) = IsGood object after
 IsGoodWay object (Jump place) = IsGood object place
 IsGoodWay object (Branch place after) = IsGood object place × IsGood object after
 IsGoodWay object (Leave symbol) = Unit {0}
+IsGoodWay object (Table places) = All (IsGood object) places
 
 -- the place after a call is good, where it has one
 abbrev pub IsGoodAfter : Object → Option Place → Type 0
@@ -82,6 +83,7 @@ IsKnownWay object (On after) = Unit {0}
 IsKnownWay object (Jump place) = Unit {0}
 IsKnownWay object (Branch place after) = Unit {0}
 IsKnownWay object (Leave symbol) = IsUndefined object symbol
+IsKnownWay object (Table places) = Unit {0}
 
 -- each symbol of a form is an undefined one of the object, and each register is x0 to x31
 abbrev pub IsKnownForm : Object → Form → Type 0

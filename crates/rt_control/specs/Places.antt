@@ -1,13 +1,14 @@
 -- Places of code, and what leads to them.
-use Rattle.std.specs.Prelude.{ℕ, ℤ, ◌+◌, ◌%◌, ◌^◌, ◌≤◌, ◌==◌, ◌&&◌, ◌||◌, nat_le, Bool, IsTrue, Option, Some, None, get_or, if◌then◌else◌}
-use Rattle.std.specs.Int.{w32, cast_unsigned}
-use Rattle.rt_elf.specs.declared.object.Object.{Object}
+use Rattle.std.specs.Prelude.{ℕ, ℤ, ◌+◌, ◌%◌, ◌≤◌, ◌==◌, ◌&&◌, ◌||◌, nat_le, Bool, IsTrue, Option, Some, None, get_or, if◌then◌else◌}
+use Rattle.rt_elf.specs.Parts.{Parts as Object}
+use Rattle.rt_elf.specs.Fields.{word_at}
 use Rattle.rt_elf.specs.Object.{section_of}
 use Rattle.rt_elf.specs.Sections.{is_code_section}
 use Rattle.rt_elf.specs.Symbols.{zero_symbol}
 use Rattle.rt_link.specs.declared.link.Link.{Link}
 use Rattle.rt_link.specs.declared.link.Link.TheVariants as link
 use Rattle.rt_link.specs.declared.place.Place.{Place}
+use Rattle.rt_link.specs.Effects.{moved}
 use Rattle.rt_control.specs.declared.form.Target.{Target}
 use Rattle.rt_control.specs.declared.form.Target.TheVariants.{Code, Outside}
 
@@ -20,6 +21,10 @@ is_good object place = let section = section_of object place.section in
 abbrev pub good_place : Object → Place → Option Place
 good_place object place = if is_good object place then Some place else None
 
+-- the word at a place
+abbrev pub word_of : Object → Place → ℕ
+word_of object place = word_at object.bytes ((section_of object place.section).offset + place.offset)
+
 -- so many bytes from a place on are of a section of code
 pub record HasRoom (object : Object) (place : Place) (size : ℕ) : Type 0 where
   pub is_code : IsTrue (is_code_section (section_of object place.section))
@@ -28,10 +33,6 @@ pub record HasRoom (object : Object) (place : Place) (size : ℕ) : Type 0 where
 -- the place so many bytes on
 abbrev pub after : Place → ℕ → Place
 after place size = record { section = place.section; offset = place.offset + size }
-
--- the place at a distance from an offset of a section, modulo 2^32
-abbrev pub moved : ℕ → ℕ → ℤ → Place
-moved section offset distance = record { section = section; offset = (offset + cast_unsigned w32 distance) % 2 ^ 32 }
 
 -- the code at a place, if that is good
 abbrev pub code_target : Object → Place → Option Target

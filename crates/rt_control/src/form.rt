@@ -1,4 +1,5 @@
 // What sites do.
+use rt_base::Sequence;
 use rt_insn::Insn;
 use rt_link::Place;
 
@@ -23,12 +24,15 @@ pub enum Called {
 /// - Jump: to the target of a JAL with rd x0.
 /// - Branch: to its target or to its continuation.
 /// - Leave: a JAL with rd x0 to an undefined symbol, by its index.
-#[derive(Clone, Copy, Debug, PartialEq, Eq)]
+/// - Table: to an entry of a table of addresses, by a JALR with rd x0. Each place that the entries lead to stands once,
+///   in the order of the entries.
+#[derive(Debug, Drop)]
 pub enum Way {
     On(Place),
     Jump(Place),
     Branch { target: Place, after: Place },
     Leave(u32),
+    Table(Sequence<Place>),
 }
 
 /// What a site does.
@@ -38,7 +42,7 @@ pub enum Way {
 /// - Tail: a far call that keeps no return address, rd being x0.
 /// - Return: `jalr x0,0(ra)`.
 /// - Stop: EBREAK.
-#[derive(Clone, Copy, Debug, PartialEq, Eq)]
+#[derive(Debug, Drop)]
 pub enum Form {
     Plain {
         insn: Insn,

@@ -13,7 +13,7 @@ pub fn is_good(object: &Object, place: Place) -> bool
     if !object.is_code(place.section) || place.offset % 4 != 0 {
         return false;
     }
-    match object.sections.items().get(place.section as usize) {
+    match object.sections().get(place.section as usize) {
         Some(section) => place.offset as u64 + 4 <= section.size as u64,
         None => false,
     }
@@ -36,7 +36,7 @@ pub(crate) fn after(object: &Object, place: Place, size: u32) -> Place
     ensures { result ≡ after place size }
 {
     // The bytes are of the section, so the offset after them fits as the section's size does.
-    let _size = object.sections.items()[place.section as usize].size;
+    let _size = object.sections()[place.section as usize].size;
     Place {
         section: place.section,
         offset: place.offset + size,

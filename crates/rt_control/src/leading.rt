@@ -1,6 +1,7 @@
 // Where symbols and distances lead.
 ghost use Rattle.std.specs.Prelude.{◌≡◌, ◌<◌, length};
-ghost use Rattle.rt_control.specs.Places.{moved, code_target, symbol_target, jump_target};
+ghost use Rattle.rt_control.specs.Places.{code_target, symbol_target, jump_target};
+ghost use Rattle.rt_link.specs.Effects.{moved};
 ghost use Rattle.rt_link.specs.Laws.{IsAboutSymbol};
 
 use crate::form::Target;
@@ -42,7 +43,7 @@ pub(crate) fn symbol_target(object: &Object, symbol: u32, addend: i32) -> Option
     requires { symbol < length object.now.symbols }
     ensures { result ≡ symbol_target object.now symbol addend }
 {
-    let entry = &object.symbols.items()[symbol as usize];
+    let entry = &object.symbols()[symbol as usize];
     match entry.section {
         UNDEFINED => Some(Target::Outside(symbol)),
         ABSOLUTE | COMMON => None,

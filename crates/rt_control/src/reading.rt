@@ -1,9 +1,8 @@
 // The words at places, and what they say.
 ghost use Rattle.std.specs.Prelude.{◌≡◌, IsTrue, Option};
-ghost use Rattle.rt_elf.specs.Object.{IsInFile};
 ghost use Rattle.rt_insn.specs.declared.insn.Insn.{Insn};
-ghost use Rattle.rt_control.specs.Places.{is_good};
-ghost use Rattle.rt_control.specs.Sites.{word_of, register_of, IsInsnOf};
+ghost use Rattle.rt_control.specs.Places.{is_good, word_of};
+ghost use Rattle.rt_control.specs.Sites.{register_of, IsInsnOf};
 
 use rt_elf::Object;
 use rt_insn::{Insn, decode};
@@ -11,8 +10,7 @@ use rt_link::Place;
 
 // The word at a good place.
 pub(crate) fn word_of(object: &Object, place: Place) -> u32
-    requires in_file { IsInFile object.now }
-    requires good { IsTrue (is_good object.now place) }
+    requires { IsTrue (is_good object.now place) }
     ensures { result ≡ word_of object.now place }
 {
     object.word(place.section, place.offset).unwrap()
@@ -20,8 +18,7 @@ pub(crate) fn word_of(object: &Object, place: Place) -> u32
 
 // The instruction at a good place, if its word is one.
 pub(crate) fn insn_at(object: &Object, place: Place) -> Option<Insn>
-    requires in_file { IsInFile object.now }
-    requires good { IsTrue (is_good object.now place) }
+    requires { IsTrue (is_good object.now place) }
     ensures found { IsInsnOf (word_of object.now place) result }
     ensures only { (other : Option Insn) → IsInsnOf (word_of object.now place) other → other ≡ result }
 {

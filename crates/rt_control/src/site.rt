@@ -1,26 +1,29 @@
 // What sites do.
-ghost use Rattle.std.specs.Prelude.{◌≡◌, IsTrue, Option, Some, None, Result, Ok, Err, IfOk};
-ghost use Rattle.rt_elf.specs.Object.{IsInFile, IsLinkable};
+ghost use Rattle.std.specs.Prelude.{◌≡◌, IsTrue, Option, Some, None, Result, Ok, Err, IfOk, IfErr};
 ghost use Rattle.rt_link.specs.Checks.{link_fault};
 ghost use Rattle.rt_link.specs.Effects.{link_at};
 ghost use Rattle.rt_link.specs.Links.{AreLinksOf};
 ghost use Rattle.rt_link.specs.declared.link.Link.TheVariants.{Pair};
-ghost use Rattle.rt_control.specs.Control.{called_at, call_form, pair_form, way_to, jal_form, jalr_form, step_form, branch_form, branch_distance, going_form, insn_form};
+ghost use Rattle.rt_control.specs.Control.{called_at, call_form, pair_form, way_to, jal_form, table_form, jalr_form, step_form, branch_form, branch_distance, going_form, insn_form};
 ghost use Rattle.rt_control.specs.Laws.{IsGoodForm, IsKnownForm};
-ghost use Rattle.rt_control.specs.Places.{is_good, HasRoom, after, symbol_target};
-ghost use Rattle.rt_control.specs.Sites.{word_of, register_of, form_of, IsAt};
+ghost use Rattle.rt_control.specs.Places.{is_good, HasRoom, after, symbol_target, word_of};
+ghost use Rattle.rt_control.specs.Sites.{register_of, form_of, IsAt, IsFormFault, IsAnswer};
 ghost use Rattle.rt_link.specs.Laws.{IsAboutSymbol};
 ghost use Rattle.rt_control.specs.declared.fault.SiteFault.{SiteFault};
 ghost use Rattle.rt_control.specs.declared.form.Form.{Form};
 
-use crate::fault::SiteFault;
+use crate::fault::{FormFault, SiteFault};
 use crate::form::{Called, Form, Target, Way};
 use crate::good::{after, good_place};
 use crate::leading::{jump_target, symbol_target};
+use crate::outcome::Outcome;
 use crate::reading::{insn_at, register_of, word_of};
+use crate::table::entries_at;
+use crate::targets::outcome_of;
 use rt_elf::Object;
 use rt_insn::Insn;
 use rt_link::{Link, Links, Place};
+use std::alloc::Global;
 
 // Registers x0 and ra (RISC-V psABI, "Register Convention").
 const ZERO: u8 = 0;
@@ -98,16 +101,32 @@ fn jal_form(
     Ok(call_form(object, after(object, place, 4), link, called_at(target)))
 }
 
+// A jump through a register, by what it comes to.
+fn table_form(insn: Insn, outcome: Outcome) -> Result<Form, SiteFault>
+    ensures { result ≡ table_form insn outcome }
+{
+    match outcome {
+        Outcome::NoTable => Err(SiteFault::Jump),
+        Outcome::BadTarget => Err(SiteFault::Target),
+        Outcome::Targets(places) => Ok(Form::Plain {
+            insn,
+            way: Way::Table(places),
+        }),
+    }
+}
+
 // JALR with no far call.
 fn jalr_form(
     object: &Object,
     place: Place,
+    insn: Insn,
     link: u8,
     base: u8,
     distance: i32,
+    outcome: Outcome,
 ) -> Result<Form, SiteFault>
     requires { HasRoom object.now place 4 }
-    ensures { result ≡ jalr_form object.now place link base distance }
+    ensures { result ≡ jalr_form object.now place insn link base distance outcome }
 {
     if link != ZERO {
         return Ok(call_form(
@@ -120,7 +139,7 @@ fn jalr_form(
     if base == RETURN_ADDRESS && distance == 0 {
         return Ok(Form::Return);
     }
-    Err(SiteFault::Jump)
+    table_form(insn, outcome)
 }
 
 // A branch.
@@ -200,17 +219,20 @@ fn insn_form(
     place: Place,
     link: Option<Link>,
     insn: Insn,
+    outcome: Outcome,
 ) -> Result<Form, SiteFault>
     requires room { HasRoom object.now place 4 }
     requires symbol { IsAboutSymbol object.now link }
-    ensures { result ≡ insn_form object.now place link insn }
+    ensures { result ≡ insn_form object.now place link insn outcome }
 {
     match insn {
         Insn::Jal(register, distance) => {
             let target = jump_target(object, place, link, distance);
             jal_form(object, place, insn, register, target)
         }
-        Insn::Jalr(register, base, distance) => jalr_form(object, place, register, base, distance),
+        Insn::Jalr(register, base, distance) => {
+            jalr_form(object, place, insn, register, base, distance, outcome)
+        }
         Insn::Ebreak => Ok(Form::Stop),
         _ => going_form(object, place, link, insn),
     }
@@ -218,36 +240,37 @@ fn insn_form(
 
 // The two words of a far call.
 fn far_form(object: &Object, place: Place, symbol: u32, addend: i32) -> Result<Form, SiteFault>
-    requires in_file { IsInFile object.now }
-    requires linkable { IsLinkable object.now }
     requires linked { link_fault object.now ≡ None }
     requires far { link_at object.now place ≡ Some (Pair symbol addend) }
     ensures { result ≡ pair_form object.now place (register_of (word_of object.now (after place 4))) (symbol_target object.now symbol addend) }
 {
+    // The relocations are of the object's code and about its symbols, so both words are of the section.
+    let _relocs = object.relocs();
     let second = word_of(object, after(object, place, 4));
     let target = symbol_target(object, symbol, addend);
     pair_form(object, place, register_of(second), target)
 }
 
-// What the site at a good place does, by the relocation and the instruction there.
+// What the site at a good place does, by the relocation and the instruction there, and by what a jump through a register
+// comes to.
 fn form_of(
     object: &Object,
     place: Place,
     link: Option<Link>,
     insn: Option<Insn>,
+    outcome: Outcome,
 ) -> Result<Form, SiteFault>
-    requires in_file { IsInFile object.now }
-    requires linkable { IsLinkable object.now }
     requires linked { link_fault object.now ≡ None }
     requires good { IsTrue (is_good object.now place) }
     requires link { link ≡ link_at object.now place }
-    ensures { result ≡ form_of object.now place link insn }
+    requires symbol { IsAboutSymbol object.now link }
+    ensures { result ≡ form_of object.now place link insn outcome }
 {
     if let Some(Link::Pair { symbol, addend }) = link {
         return far_form(object, place, symbol, addend);
     }
     match insn {
-        Some(insn) => insn_form(object, place, link, insn),
+        Some(insn) => insn_form(object, place, link, insn, outcome),
         None => Err(SiteFault::Instruction),
     }
 }
@@ -256,23 +279,33 @@ fn form_of(
 /// Transfer Instructions").
 ///
 /// A relocation of a far call makes the AUIPC and the JALR at its place one site; that of a branch or a JAL says its
-/// target; any other is passed over. An error is the first fault of the site, in the order of [`SiteFault`].
+/// target; that of an ADDI may say where the table of a jump begins; any other is passed over. An error is the first
+/// fault of the site, in the order of [`SiteFault`], or memory runs out.
 ///
-/// Conditions: the object is one that `rt_elf::read` gives, the links are those that `rt_link::resolve` gives for it,
-/// and the place is good.
+/// Conditions: the links are those that `rt_link::resolve` gives for the object, and the place is good.
 ///
-/// It takes constant time, but for the hashing of places, and no memory.
-pub fn form_at(object: &Object, links: &Links, place: Place) -> Result<Form, SiteFault>
-    requires in_file { IsInFile object.now }
-    requires linkable { IsLinkable object.now }
+/// It takes constant time, but for looking up places, and no memory. A jump to an entry of a table takes time near
+/// linear in the entries, and memory linear in them.
+pub fn form_at(
+    alloc: Global,
+    object: &Object,
+    links: &Links,
+    place: Place,
+) -> Result<Form, FormFault>
     requires links { AreLinksOf object.now links.now }
     requires linked { link_fault object.now ≡ None }
     requires is_good { IsTrue (is_good object.now place) }
-    ensures found { IsAt object.now place result }
-    ensures only { (other : Result Form SiteFault) → IsAt object.now place other → other ≡ result }
+    ensures found { IfOk result (λ form. IsAt object.now place (Ok form)) }
+    ensures bad { IfErr result (IsFormFault object.now place) }
+    ensures only { (other : Result Form SiteFault) → IsAt object.now place other → IsAnswer result other }
     ensures good { IfOk result (IsGoodForm object.now) }
     ensures known { IfOk result (IsKnownForm object.now) }
 {
+    // The relocations are about the object's symbols, so the link and the entries of a table are too.
+    let _relocs = object.relocs();
     let link = links.at(place.section, place.offset);
-    form_of(object, place, link, insn_at(object, place))
+    let insn = insn_at(object, place);
+    let entries = entries_at(alloc, object, links, place, insn)?;
+    let outcome = outcome_of(alloc, object, &entries)?;
+    Ok(form_of(object, place, link, insn, outcome)?)
 }

@@ -1,5 +1,5 @@
 -- Tests, and the faults of checks.
-use Rattle.std.proofs.Common.{◌≡◌, ℕ, ◌+◌, ◌<◌, ◌≤◌, ◌⊎◌, inl, inr, Bool, true, false, ◌&&◌, ◌==◌, not, nat_lt, Option, Some, None, Ok, refl, arith}
+use Rattle.std.proofs.Common.{◌≡◌, ℕ, ◌+◌, ◌<◌, ◌≤◌, ◌⊎◌, inl, inr, Bool, true, false, ◌&&◌, ◌||◌, ◌==◌, not, nat_lt, Option, Some, None, Ok, refl, arith}
 use Rattle.std.proofs.lemmas.Bool.{ltb-true, ltb-false}
 use Rattle.std.proofs.lemmas.Bool.Decides.{Decides-eqb}
 use Rattle.rt_base.specs.First.{fault_if, then_of, first_each}
@@ -25,6 +25,10 @@ and-true false b e = cc
 pub and-rest_false : (a b : Bool) → (a && b) ≡ false → a ≡ true → b ≡ false
 and-rest_false true b e h = e
 and-rest_false false b e h = cc
+
+pub or-first : (a b : Bool) → a ≡ true → (a || b) ≡ true
+or-first true b e = refl
+or-first false b e = cc
 
 pub not-false : (b : Bool) → not b ≡ false → b ≡ true
 not-false true e = refl

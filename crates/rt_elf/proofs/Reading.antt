@@ -7,14 +7,14 @@ use Rattle.std.proofs.lemmas.List.Elements.{All-nil}
 use Rattle.rt_base.specs.First.{first_of, first_each}
 use Rattle.rt_elf.specs.Fields.{word_at}
 use Rattle.rt_elf.specs.Header.{header_place, section_count}
-use Rattle.rt_elf.specs.Object.{IsObject, IsInFile, IsOfObject, section_of, null_section}
-use Rattle.rt_elf.specs.Relocs.{is_reloc_section, is_about_code, reloc_at, reloc_fault, relocs_fault, reloc_section_fault, reloc_part_fault, reloc_part}
+use Rattle.rt_elf.specs.Object.{IsObject, IsInFile, IsOfObject, IsSound, section_of, null_section}
+use Rattle.rt_elf.specs.Parts.{Parts as Object}
+use Rattle.rt_elf.specs.Relocs.{is_reloc_section, is_read, reloc_at, reloc_fault, relocs_fault, reloc_section_fault, reloc_part_fault, reloc_part}
 use Rattle.rt_elf.specs.Sections.{section_at, section_by, has_bytes, is_code_section, sections_of, section_fault, sections_fault, is_kind_at, AreWithin}
 use Rattle.rt_elf.specs.Symbols.{symbol_table, is_symbol_table, symbol_list}
-use Rattle.rt_elf.specs.declared.object.Object.{Object}
 use Rattle.rt_elf.specs.declared.reloc.Reloc.{Reloc}
 use Rattle.rt_elf.specs.declared.section.Section.{Section}
-use Rattle.rt_elf.proofs.Booleans.{split, eqb-is, and-true, and-rest_false, not-false, fault_if-none, then_of-none, none_at}
+use Rattle.rt_elf.proofs.Booleans.{split, eqb-is, and-true, and-rest_false, not-false, fault_if-none, then_of-none, none_at, or-first}
 use Rattle.rt_elf.proofs.Lists.{get_or-entries, length-entries, All-entries, All-joined}
 
 section-within : (bytes : List ℕ) (h : ℕ) → section_fault bytes h ≡ None → IsTrue (has_bytes (section_at bytes h))
@@ -49,7 +49,7 @@ section_of-there : (bytes : List ℕ) (object : Object) (index : ℕ) → IsObje
 section_of-there bytes object index is there =
     ap (λ (sections : List Section). get_or sections index null_section) is.sections ∙ get_or-entries (section_by bytes) (section_count bytes) index null_section there
 
-pub in_file : (bytes : List ℕ) (object : Object) → IsObject bytes object → AreWithin bytes → IsInFile object
+in_file : (bytes : List ℕ) (object : Object) → IsObject bytes object → AreWithin bytes → IsInFile object
 in_file bytes object is within index code =
     elim (split (section_count bytes) index) [
       | inr there ↦
@@ -63,23 +63,27 @@ in_file bytes object is within index code =
           absurd (false≢true (rw empty at code))
     ]
 
--- a part that is there where two tests hold, by the faults of both
-part-all : {F X : Type 0} (P : X → Type 0) (a b : Bool) (early later : Option F) (list : List X)
-    → (if a then first_of (early ∷ (if b then later else None) ∷ []) else None) ≡ None
-    → (early ≡ None → b ≡ true → later ≡ None → All P list) → All P (if a && b then list else [])
-part-all P true true early later list none h =
+-- a part that is there where the second of two tests holds, and so the first, by the faults of both
+part-all : {F X : Type 0} (P : X → Type 0) (a b : Bool) (early middle later : Option F) (list : List X) → (b ≡ true → a ≡ true)
+    → (if a then first_of (early ∷ middle ∷ (if b then later else None) ∷ []) else None) ≡ None
+    → (early ≡ None → b ≡ true → later ≡ None → All P list) → All P (if b then list else [])
+part-all P true true early middle later list implied none h =
     let both = then_of-none _ _ none in
-    h both.0 refl (then_of-none _ _ both.1).0
-part-all P true false early later list none h = All-nil P
-part-all P false b early later list none h = All-nil P
+    h both.0 refl (then_of-none _ _ (then_of-none _ _ both.1).1).0
+part-all P false true early middle later list implied none h = absurd (false≢true (implied refl))
+part-all P a false early middle later list implied none h = All-nil P
+
+-- relocations that are read are relocations
+read-is_reloc : (bytes : List ℕ) (section : Section) → is_read bytes section ≡ true → is_reloc_section section ≡ true
+read-is_reloc bytes section read = or-first (section.kind == 4) (section.kind == 9) (and-true (section.kind == 4) _ read).0
 
 reloc_part-all : (bytes : List ℕ) (table : Option ℕ) (n k : ℕ) (object : Object) → IsObject bytes object → n ≡ length object.symbols
     → reloc_part_fault bytes table n k ≡ None → All (IsOfObject object) (reloc_part bytes k)
 unfolding reloc_section_fault
 reloc_part-all bytes table n k object is count none =
     let section = section_by bytes k in
-    part-all (IsOfObject object) (is_reloc_section section) (is_about_code bytes section) _ _ _ none
-    (λ early code later.
+    part-all (IsOfObject object) (is_reloc_section section) (is_read bytes section) _ _ _ _ (read-is_reloc bytes section) none
+    (λ early read later.
     let there : section.info < section_count bytes = ltb-true _ _ (not-false _ (fault_if-none _ _ early)) in
     let same : section_of object section.info ≡ section_by bytes section.info = section_of-there bytes object section.info is there in
     let relocs : relocs_fault bytes n section ≡ None = (then_of-none _ _ (then_of-none _ _ later).1).0 in
@@ -88,15 +92,28 @@ reloc_part-all bytes table n k object is count none =
     let fault : reloc_fault bytes n (section.offset + 12 * j) ≡ None =
     none_at (λ (j : ℕ). reloc_fault bytes n (section.offset + 12 * j)) (section.size / 12) j relocs (omega arith) in
     let symbol : word_at bytes (section.offset + 12 * j + 4) / 256 < n = ltb-true _ _ (not-false _ (fault_if-none _ _ fault)) in
-    (rw same code, rw (← count) symbol)))
+    (rw same (and-true _ _ read).1, rw (← count) symbol)))
 
--- the relocations are of the object's code and about its symbols
-pub relocs-of_object : (bytes : List ℕ) (table : Option ℕ) (n : ℕ) (object : Object) → IsObject bytes object → n ≡ length object.symbols
+-- the relocations are of the object's code and data, and about its symbols
+relocs-of_object : (bytes : List ℕ) (table : Option ℕ) (n : ℕ) (object : Object) → IsObject bytes object → n ≡ length object.symbols
     → first_each (reloc_part_fault bytes table n) 0 (section_count bytes) ≡ None → All (IsOfObject object) object.relocs
 relocs-of_object bytes table n object is count none =
     subst (λ (relocs : List Reloc). All (IsOfObject object) relocs) (sym is.relocs)
     (All-joined (IsOfObject object) (reloc_part bytes) 0 (section_count bytes)
     (λ k low high. reloc_part-all bytes table n k object is count (none_at (reloc_part_fault bytes table n) (section_count bytes) k none (omega arith))))
+
+-- what each object that was read keeps
+pub sound : (bytes : List ℕ) (table : Option ℕ) (n : ℕ) (object : Object) → IsObject bytes object → AreWithin bytes → n ≡ length object.symbols
+    → first_each (reloc_part_fault bytes table n) 0 (section_count bytes) ≡ None
+    → length object.sections < 65536 → length object.symbols ≤ length bytes → length bytes ≤ 16777216 → IsSound object
+sound bytes table n object is within count none sections symbols short = record {
+  in_file = in_file bytes object is within;
+  linkable = record {
+    relocs = relocs-of_object bytes table n object is count none;
+    sections_fit = omega (arith, sections);
+    symbols_fit = omega (arith, symbols, short);
+  };
+}
 
 -- the type of the symbol table
 pub symbol_table-kind : (bytes : List ℕ) (sections : List Section) (index : ℕ) → sections ≡ sections_of bytes

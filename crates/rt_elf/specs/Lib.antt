@@ -4,6 +4,7 @@ pub mod Fields
 pub mod Header
 pub mod Names
 pub mod Object
+pub mod Parts
 pub mod Relocs
 pub mod Sections
 pub mod Symbols

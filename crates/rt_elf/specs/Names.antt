@@ -1,5 +1,5 @@
 -- Names in string tables (ELF gABI, "String Table").
-use Rattle.std.specs.Prelude.{ℕ, ◌≡◌, ◌==◌, nat_lt, Bool, List, [], ◌∷◌, drop, if◌then◌else◌}
+use Rattle.std.specs.Prelude.{ℕ, ◌≡◌, ◌+◌, ◌≤◌, ◌==◌, nat_lt, Bool, List, [], ◌∷◌, drop, length, slice_index, if◌then◌else◌}
 use Rattle.std.specs.List.{list_any}
 
 -- the bytes before the first zero byte
@@ -18,3 +18,8 @@ has_end strings offset = list_any (λ b. b == 0) (drop offset strings)
 -- the names that have an end are those that begin before a place
 abbrev pub EndsAt : List ℕ → ℕ → Type 0
 EndsAt strings place = (offset : ℕ) → has_end strings offset ≡ nat_lt offset place
+
+-- at each offset, and at the end, the place where the name from there on ends
+pub record AreEnds (strings ends : List ℕ) : Type 0 where
+  pub len : length ends ≡ length strings + 1
+  pub each : (offset : ℕ) → offset ≤ length strings → slice_index ends offset ≡ offset + length (up_to_zero (drop offset strings))

@@ -1,11 +1,11 @@
 -- What an object holds.
-use Rattle.std.specs.Prelude.{◌≡◌, ℕ, ◌+◌, ◌*◌, ◌/◌, ◌%◌, ◌^◌, ◌<◌, ◌≤◌, IsTrue, All, List, length, get_or}
+use Rattle.std.specs.Prelude.{◌≡◌, ℕ, ◌+◌, ◌*◌, ◌/◌, ◌%◌, ◌^◌, ◌<◌, ◌≤◌, ◌||◌, IsTrue, All, List, length, get_or}
 use Rattle.rt_base.specs.First.{entries}
 use Rattle.rt_elf.specs.declared.section.Section.{Section}
-use Rattle.rt_elf.specs.declared.object.Object.{Object}
 use Rattle.rt_elf.specs.declared.reloc.Reloc.{Reloc}
 use Rattle.rt_elf.specs.Fields.{word_at}
-use Rattle.rt_elf.specs.Sections.{sections_of, is_code_section}
+use Rattle.rt_elf.specs.Parts.{Parts as Object}
+use Rattle.rt_elf.specs.Sections.{sections_of, is_code_section, is_data_section}
 use Rattle.rt_elf.specs.Symbols.{symbols_of}
 use Rattle.rt_elf.specs.Relocs.{relocs_of}
 
@@ -36,17 +36,22 @@ IsInFile object =
     (index : ℕ) → IsTrue (is_code_section (section_of object index))
     → (section_of object index).offset + (section_of object index).size ≤ length object.bytes
 
--- a relocation is of a section of code, and about a symbol of the object
+-- a relocation is of a section of code or of data, and about a symbol of the object
 abbrev pub IsOfObject : Object → Reloc → Type 0
-IsOfObject object reloc =
-    IsTrue (is_code_section (section_of object reloc.section)) × (reloc.symbol < length object.symbols)
+IsOfObject object reloc = let section = section_of object reloc.section in
+    IsTrue (is_code_section section || is_data_section section) × (reloc.symbol < length object.symbols)
 
--- what is known of an object that was read: its relocations are of its code and about its symbols, and the indices
--- of sections and symbols fit their types
+-- the links of an object can be read: its relocations are of its code and data and about its symbols, and the
+-- indices of sections and symbols fit their types
 pub record IsLinkable (object : Object) : Type 0 where
   pub relocs : All (IsOfObject object) object.relocs
   pub sections_fit : length object.sections < 2 ^ 16
   pub symbols_fit : length object.symbols < 2 ^ 32
+
+-- what each object keeps
+pub record IsSound (object : Object) : Type 0 where
+  pub in_file : IsInFile object
+  pub linkable : IsLinkable object
 
 -- the words of a section, in order
 abbrev pub section_words : Object → ℕ → List ℕ

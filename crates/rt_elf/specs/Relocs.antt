@@ -1,4 +1,4 @@
--- The relocations of code (ELF gABI, "Relocation"), and the checks of them.
+-- The relocations of code and of data (ELF gABI, "Relocation"), and the checks of them.
 use Rattle.std.specs.Prelude.{ℕ, zero, suc, ◌+◌, ◌*◌, ◌/◌, ◌%◌, ◌==◌, ◌&&◌, ◌||◌, nat_lt, not, Bool, false, Option, Some, None, List, [], ◌∷◌, ◌++◌, if◌then◌else◌}
 use Rattle.std.specs.Int.{w32, cast_signed}
 use Rattle.rt_base.specs.First.{fault_if, first_of, first_each, entries}
@@ -8,15 +8,20 @@ use Rattle.rt_elf.specs.declared.section.Section.{Section}
 use Rattle.rt_elf.specs.declared.reloc.Reloc.{Reloc}
 use Rattle.rt_elf.specs.Fields.{word_at}
 use Rattle.rt_elf.specs.Header.{header_place, section_count}
-use Rattle.rt_elf.specs.Sections.{section_by, is_code_section}
+use Rattle.rt_elf.specs.Sections.{section_by, is_code_section, is_data_section}
 
 -- SHT_RELA and SHT_REL
 abbrev pub is_reloc_section : Section → Bool
 is_reloc_section section = (section.kind == 4) || (section.kind == 9)
 
--- the section that is changed, sh_info, is executable
-abbrev pub is_about_code : List ℕ → Section → Bool
-is_about_code bytes section = is_code_section (section_by bytes section.info)
+-- SHT_REL, without addends, where the section that is changed, sh_info, is executable
+abbrev pub lacks_addends : List ℕ → Section → Bool
+lacks_addends bytes section = (section.kind == 9) && is_code_section (section_by bytes section.info)
+
+-- SHT_RELA, where the section that is changed is of code or of data: its relocations are read
+abbrev pub is_read : List ℕ → Section → Bool
+is_read bytes section = let about = section_by bytes section.info in
+    (section.kind == 4) && (is_code_section about || is_data_section about)
 
 -- an index is that of the symbol table
 abbrev pub is_index : ℕ → Option ℕ → Bool
@@ -42,23 +47,23 @@ abbrev pub relocs_fault : List ℕ → ℕ → Section → Option ElfFault
 relocs_fault bytes symbols section =
     first_each (λ j. reloc_fault bytes symbols (section.offset + 12 * j)) 0 (section.size / 12)
 
--- the checks of the header of relocations of code: they have addends, sh_entsize, sh_size, and sh_link, which is the
--- index of the symbol table
-unfoldable pub code_header_fault : List ℕ → Option ℕ → ℕ → Option ElfFault
-code_header_fault bytes table k = let h = header_place bytes k in first_of (
-    fault_if ((section_by bytes k).kind == 9) (Bad 13 (h + 4))
-    ∷ fault_if (not (word_at bytes (h + 36) == 12)) (Bad 13 (h + 36))
+-- the checks of the header of relocations that are read: sh_entsize, sh_size, and sh_link, which is the index of the
+-- symbol table
+unfoldable pub reloc_header_fault : List ℕ → Option ℕ → ℕ → Option ElfFault
+reloc_header_fault bytes table k = let h = header_place bytes k in first_of (
+    fault_if (not (word_at bytes (h + 36) == 12)) (Bad 13 (h + 36))
     ∷ fault_if (not ((section_by bytes k).size % 12 == 0)) (Bad 13 (h + 20))
     ∷ fault_if (not (is_index (section_by bytes k).link table)) (Bad 13 (h + 24))
     ∷ [])
 
--- the checks of a section of relocations: it is about a section, and if that is executable, its header and each
--- relocation
+-- the checks of a section of relocations: it is about a section, it has addends if that is executable, and if it is
+-- read, its header and each relocation
 unfoldable pub reloc_section_fault : List ℕ → Option ℕ → ℕ → ℕ → Option ElfFault
 reloc_section_fault bytes table symbols k = let section = section_by bytes k in first_of (
     fault_if (not (nat_lt section.info (section_count bytes))) (Bad 13 (header_place bytes k + 28))
-    ∷ (if is_about_code bytes section
-    then first_of (code_header_fault bytes table k ∷ relocs_fault bytes symbols section ∷ [])
+    ∷ fault_if (lacks_addends bytes section) (Bad 13 (header_place bytes k + 4))
+    ∷ (if is_read bytes section
+    then first_of (reloc_header_fault bytes table k ∷ relocs_fault bytes symbols section ∷ [])
     else None)
     ∷ [])
 
@@ -71,18 +76,15 @@ reloc_part_fault bytes table symbols k =
 abbrev pub section_relocs : List ℕ → Section → List Reloc
 section_relocs bytes section = entries (λ j. reloc_at bytes section.info (section.offset + 12 * j)) 0 (section.size / 12)
 
--- the relocations of the section of an index: those of code alone
+-- the relocations of the section of an index, if they are read
 abbrev pub reloc_part : List ℕ → ℕ → List Reloc
-reloc_part bytes k = let section = section_by bytes k in
-    if is_reloc_section section && is_about_code bytes section
-    then section_relocs bytes section
-    else []
+reloc_part bytes k = let section = section_by bytes k in if is_read bytes section then section_relocs bytes section else []
 
 -- the lists from index i on, n of them, one after the other
 abbrev pub joined : {X : Type 0} → (ℕ → List X) → ℕ → ℕ → List X
 joined at i zero = []
 joined at i (suc n) = at i ++ joined at (i + 1) n
 
--- all relocations of code, by sections and in these by places
+-- all relocations of code and of data, by sections of relocations and in these by places
 abbrev pub relocs_of : List ℕ → List Reloc
 relocs_of bytes = joined (reloc_part bytes) 0 (section_count bytes)

@@ -34,6 +34,10 @@ has_bytes section = not (section.kind == 0) && not (section.kind == 8)
 abbrev pub is_code_section : Section → Bool
 is_code_section section = (section.kind == 1) && (section.flags / 4 % 2 == 1)
 
+-- data: SHT_PROGBITS with SHF_ALLOC
+abbrev pub is_data_section : Section → Bool
+is_data_section section = (section.kind == 1) && (section.flags / 2 % 2 == 1)
+
 -- compressed: SHF_COMPRESSED, 0x800
 abbrev pub is_compressed : Section → Bool
 is_compressed section = section.flags / 2 ^ 11 % 2 == 1

@@ -6,7 +6,7 @@ ghost use Rattle.rt_elf.specs.declared.fault.ElfFault.TheVariants.{Memory};
 
 use std::alloc::AllocError;
 
-/// Why an object can't be read: a number and a place of the file, or want of memory. The sections' names are those
+/// Why an object can't be read: a number and a place of the file, or out of memory. The sections' names are those
 /// of the ELF gABI, and the places are byte offsets in the file.
 ///
 /// - 16 at 16777216: the file is longer than 16,777,216 bytes.
@@ -22,8 +22,9 @@ use std::alloc::AllocError;
 ///   don't fill it, or its link is no string table.
 /// - 11 at the symbol: its name has no end in the string table.
 /// - 12 at st_shndx: there is no such section.
-/// - 13 at the field: relocations are of no section; or relocations of code are without addends, not of 12 bytes,
-///   don't fill their section, or aren't about the symbol table.
+/// - 13 at the field: relocations are of no section (sh_info); those of code are without addends (sh_type, SHT_REL);
+///   or those with addends (SHT_RELA) of code or data aren't of 12 bytes (sh_entsize), don't fill their section
+///   (sh_size), or aren't about the symbol table (sh_link).
 /// - 14 at r_info: there is no such symbol.
 #[derive(Clone, Copy, Debug, PartialEq, Eq)]
 pub enum ElfFault {

@@ -4,6 +4,7 @@
 mod fault;
 mod field;
 mod header;
+mod name;
 mod names;
 mod object;
 mod reader;
@@ -16,11 +17,9 @@ mod symbols;
 mod words;
 
 pub use fault::ElfFault;
+pub use name::Name;
 pub use object::Object;
 pub use reader::read;
 pub use reloc::{Reloc, Relocs};
 pub use section::{Section, Sections};
 pub use symbol::{Symbol, Symbols};
-
-#[cfg(test)]
-mod tests;

@@ -1,9 +1,12 @@
 // Names in string tables (ELF gABI, "String Table").
-ghost use Rattle.std.specs.Prelude.{◌≡◌, ◌+◌, ◌<◌, ◌≤◌, IfOk, length};
-ghost use Rattle.rt_elf.specs.Names.{name_at, up_to_zero, EndsAt};
+ghost use Rattle.std.specs.Prelude.{◌≡◌, ◌+◌, ◌<◌, ◌≤◌, ◌^◌, IfOk, length};
+ghost use Rattle.rt_elf.specs.Names.{name_at, EndsAt, AreEnds};
 
+use crate::name::Name;
 use rt_base::Bytes;
 use std::alloc::{AllocError, Global};
+use std::marker::Model;
+use std::rc::Rc;
 
 // The place after the last zero byte, or 0: the names that begin before it have an end.
 pub(crate) fn end_of_names(strings: &[u8]) -> usize
@@ -19,26 +22,60 @@ pub(crate) fn end_of_names(strings: &[u8]) -> usize
     end
 }
 
-// The bytes before the first zero byte.
-fn up_to_zero(bytes: &[u8]) -> &[u8]
-    ensures { result.now ≡ up_to_zero bytes.now }
+// For each offset of a string table, and for its end, the place of the first zero byte from there on, or the end.
+fn ends_of(alloc: Global, strings: &[u8]) -> Result<Vec<u32>, AllocError>
+    requires { length strings.now < 2 ^ 32 }
+    ensures { IfOk result (λ ends. AreEnds strings.now ends.items) }
 {
-    for (i, byte) in bytes.iter().enumerate() {
-        if *byte == 0 {
-            return &bytes[..i];
-        }
+    let end = strings.len();
+    let mut ends = vec![in alloc; end as u32; end + 1]?;
+    for k in (0..end).rev() {
+        ends[k] = if strings[k] == 0 {
+            k as u32
+        } else {
+            ends[k + 1]
+        };
     }
-    bytes
+    Ok(ends)
 }
 
-// The name at an offset.
-pub(crate) fn name_at(alloc: Global, strings: &[u8], offset: usize) -> Result<Bytes, AllocError>
-    requires { offset ≤ length strings.now }
-    ensures { IfOk result (λ name. name ≡ name_at strings.now offset) }
-{
-    if offset == 0 {
-        return Ok(Bytes::new(alloc));
+// A string table, with the place where the name from each offset on ends. Contracts see it as its bytes.
+#[derive(Drop)]
+pub(crate) struct Strings {
+    block: Rc<Bytes>,
+    ends: Vec<u32>,
+}
+
+impl Model for Strings {
+    ghost use Rattle.std.specs.Prelude.{ℕ, List};
+    ghost use Rattle.rt_elf.specs.Names.{AreEnds};
+
+    ghost Value = { List ℕ };
+
+    ghost view = { λ strings. strings.block.value };
+
+    ghost invariant = { λ strings. AreEnds strings.block.value strings.ends.items };
+}
+
+impl Strings {
+    pub(crate) fn new(alloc: Global, strings: &[u8]) -> Result<Strings, AllocError>
+        requires { length strings.now < 2 ^ 32 }
+        ensures { IfOk result (λ made. made ≡ strings.now) }
+    {
+        let ends = ends_of(alloc, strings)?;
+        let block = Rc::new(alloc, Bytes::from_vec(strings.to_vec(alloc)?))?;
+        Ok(Strings { block, ends })
     }
-    let name = up_to_zero(&strings[offset..]).to_vec(alloc)?;
-    Ok(Bytes::from_vec(name))
+
+    // The name at an offset.
+    pub(crate) fn name_at(&self, offset: usize) -> Result<Name, AllocError>
+        requires { offset ≤ length self.now }
+        ensures { IfOk result (λ name. name ≡ name_at self.now offset) }
+    {
+        if offset == 0 {
+            return Name::in_block(&self.block, 0, 0);
+        }
+        let end = self.ends[offset] as usize;
+        Name::in_block(&self.block, offset, end)
+    }
 }

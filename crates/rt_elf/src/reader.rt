@@ -2,7 +2,7 @@
 ghost use Rattle.std.specs.Prelude.{◌≡◌, None, IfErr, IfOk, OnOk};
 ghost use Rattle.rt_elf.specs.Checks.{first_fault};
 ghost use Rattle.rt_elf.specs.Faults.{IsFaultOf};
-ghost use Rattle.rt_elf.specs.Object.{IsObject, IsInFile, IsLinkable};
+ghost use Rattle.rt_elf.specs.Object.{IsObject, IsSound};
 
 use crate::fault::ElfFault;
 use crate::header::check_header;
@@ -14,20 +14,21 @@ use rt_base::Bytes;
 use std::alloc::Global;
 
 /// Reads a relocatable ELF32 object of RISC-V (ELF gABI, "Object Files"): its sections, its symbols, the relocations
-/// of its code, and its bytes. Names of sections and all else aren't read.
+/// with addends (SHT_RELA) of its code and its data (SHT_PROGBITS with SHF_ALLOC), and its bytes. Names of sections,
+/// relocations without addends of data, and all else aren't read.
 ///
 /// An error is the first check that fails: of the file header, of each section header, of the symbol table and each
-/// symbol, and of each section of relocations, with each entry where it is of code. [`ElfFault`] lists the checks with
+/// symbol, and of each section of relocations, with each entry where it is read. [`ElfFault`] lists the checks with
 /// their numbers and places.
 ///
-/// Time and memory are linear in the length and in the lengths of all names.
+/// Time and memory are linear in the length of the file and in the sum of the sizes of the sections of relocations that
+/// are read: such sections may share bytes, and each has its own relocations. Names share the bytes of their table.
 #[tactic(auto, unfolding(crate::specs::Checks::first_fault))]
 pub fn read(alloc: Global, bytes: &[u8]) -> Result<Object, ElfFault>
     ensures bad { IfErr result (IsFaultOf (first_fault bytes.now)) }
     ensures none { OnOk result (first_fault bytes.now ≡ None) }
     ensures found { IfOk result (IsObject bytes.now) }
-    ensures in_file { IfOk result IsInFile }
-    ensures linkable { IfOk result IsLinkable }
+    ensures sound { IfOk result IsSound }
 {
     check_header(bytes)?;
     let sections = read_sections(alloc, bytes)?;

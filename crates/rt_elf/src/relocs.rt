@@ -1,17 +1,17 @@
 // The relocations of a file.
-ghost use Rattle.std.specs.Prelude.{◌≡◌, ◌+◌, ◌*◌, ◌/◌, ◌<◌, ◌≤◌, ◌++◌, IfErr, IfOk, OnOk, Option, None, length};
+ghost use Rattle.std.specs.Prelude.{◌≡◌, ◌+◌, ◌*◌, ◌/◌, ◌<◌, ◌≤◌, ◌++◌, IfErr, IfOk, OnOk, IsTrue, Option, None, length};
 ghost use Rattle.rt_base.specs.First.{first_each};
 ghost use Rattle.rt_elf.specs.Faults.{checked, IsFaultOf};
 ghost use Rattle.rt_elf.specs.Header.{header_place, section_count, HasTable};
 ghost use Rattle.rt_elf.specs.Sections.{section_by, AreWithin};
-ghost use Rattle.rt_elf.specs.Relocs.{is_reloc_section, is_index, reloc_at, reloc_fault, relocs_fault, section_relocs, code_header_fault, reloc_section_fault, reloc_part_fault, reloc_part, relocs_of};
+ghost use Rattle.rt_elf.specs.Relocs.{is_reloc_section, is_index, lacks_addends, is_read, reloc_at, reloc_fault, relocs_fault, section_relocs, reloc_header_fault, reloc_section_fault, reloc_part_fault, reloc_part, relocs_of};
 
 use crate::fault::{ElfFault, check};
 use crate::field::word_at;
 use crate::header::{header_place, section_count};
 use crate::reloc::{Reloc, Relocs};
 use crate::section::Section;
-use crate::sections::{is_code_section, section_by};
+use crate::sections::{is_code_section, is_data_section, section_by};
 use rt_base::Sequence;
 use std::alloc::Global;
 
@@ -20,6 +20,26 @@ fn is_reloc_section(section: &Section) -> bool
     ensures { result ≡ is_reloc_section section.now }
 {
     section.kind == 4 || section.kind == 9
+}
+
+// Whether a section of relocations is of SHT_REL, without addends, and about code.
+fn lacks_addends(bytes: &[u8], section: &Section) -> bool
+    requires table { HasTable bytes.now }
+    requires about { section.now.info < section_count bytes.now }
+    ensures { result ≡ lacks_addends bytes.now section.now }
+{
+    section.kind == 9 && is_code_section(&section_by(bytes, section.info as usize))
+}
+
+// Whether a section of relocations is of SHT_RELA, and about code or data.
+fn is_read(bytes: &[u8], section: &Section) -> bool
+    requires table { HasTable bytes.now }
+    requires about { section.now.info < section_count bytes.now }
+    ensures read { result ≡ is_read bytes.now section.now }
+    ensures kind { IsTrue result → section.now.kind ≡ 4 }
+{
+    let about = section_by(bytes, section.info as usize);
+    section.kind == 4 && (is_code_section(&about) || is_data_section(&about))
 }
 
 // Whether an index is that of the symbol table.
@@ -47,17 +67,15 @@ fn reloc_at(bytes: &[u8], section: u16, place: usize) -> Reloc
     }
 }
 
-// The header of relocations of code.
-#[tactic(auto, unfolding(crate::specs::Relocs::code_header_fault))]
-fn check_code_header(bytes: &[u8], table: Option<usize>, index: usize) -> Result<(), ElfFault>
+// The header of relocations that are read.
+#[tactic(auto, unfolding(crate::specs::Relocs::reloc_header_fault))]
+fn check_reloc_header(bytes: &[u8], table: Option<usize>, index: usize) -> Result<(), ElfFault>
     requires table { HasTable bytes.now }
     requires there { index < section_count bytes.now }
-    ensures exact { result ≡ checked (code_header_fault bytes.now table index) }
-    ensures with_addends { OnOk result ((section_by bytes.now index).kind ≡ 9 → ⊥) }
+    ensures { result ≡ checked (reloc_header_fault bytes.now table index) }
 {
     let place = header_place(bytes, index);
     let section = section_by(bytes, index);
-    check(section.kind == 9, 13, place + 4)?;
     check(word_at(bytes, place + 36) != 12, 13, place + 36)?;
     check(section.size % 12 != 0, 13, place + 20)?;
     check(!is_index(section.link, table), 13, place + 24)
@@ -96,7 +114,7 @@ fn read_relocs(
     Ok(())
 }
 
-// Adds the relocations of the section of an index, if it is of relocations of code.
+// Adds the relocations of the section of an index, if it is of relocations that are read.
 #[tactic(auto, unfolding(crate::specs::Relocs::reloc_section_fault))]
 fn read_reloc_section(
     bytes: &[u8],
@@ -116,20 +134,21 @@ fn read_reloc_section(
     if !is_reloc_section(&section) {
         return Ok(());
     }
-    let about = section.info as usize;
+    let place = header_place(bytes, index);
     check(
-        about >= section_count(bytes),
+        section.info as usize >= section_count(bytes),
         13,
-        header_place(bytes, index) + 28,
+        place + 28,
     )?;
-    if !is_code_section(&section_by(bytes, about)) {
+    check(lacks_addends(bytes, &section), 13, place + 4)?;
+    if !is_read(bytes, &section) {
         return Ok(());
     }
-    check_code_header(bytes, table, index)?;
+    check_reloc_header(bytes, table, index)?;
     read_relocs(bytes, symbols, &section, relocs)
 }
 
-// All relocations of code.
+// All relocations of code and of data.
 pub(crate) fn relocs_of(
     alloc: Global,
     bytes: &[u8],

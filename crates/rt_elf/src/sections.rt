@@ -2,7 +2,7 @@
 ghost use Rattle.std.specs.Prelude.{◌≡◌, ◌+◌, ◌<◌, ◌≤◌, IfErr, IfOk, OnOk, None, length};
 ghost use Rattle.rt_elf.specs.Faults.{checked, IsFaultOf};
 ghost use Rattle.rt_elf.specs.Header.{header_place, section_count, HasTable};
-ghost use Rattle.rt_elf.specs.Sections.{section_at, section_by, sections_of, has_bytes, is_code_section, is_compressed, section_fault, sections_fault, is_kind_at, bytes_of, AreWithin};
+ghost use Rattle.rt_elf.specs.Sections.{section_at, section_by, sections_of, has_bytes, is_code_section, is_data_section, is_compressed, section_fault, sections_fault, is_kind_at, bytes_of, AreWithin};
 
 use crate::fault::{ElfFault, check};
 use crate::field::word_at;
@@ -47,6 +47,13 @@ pub(crate) fn is_code_section(section: &Section) -> bool
     ensures { result ≡ is_code_section section.now }
 {
     section.kind == 1 && section.flags / 4 % 2 == 1
+}
+
+// Whether a section is of data: SHT_PROGBITS with SHF_ALLOC.
+pub(crate) fn is_data_section(section: &Section) -> bool
+    ensures { result ≡ is_data_section section.now }
+{
+    section.kind == 1 && section.flags / 2 % 2 == 1
 }
 
 fn is_compressed(section: &Section) -> bool

@@ -1,15 +1,16 @@
 // Symbols.
-ghost use Rattle.std.specs.Prelude.{◌≡◌};
+ghost use Rattle.std.specs.Prelude.{◌≡◌, IfOk};
 ghost use Rattle.rt_elf.specs.Symbols.{zero_symbol};
 
-use rt_base::{Bytes, Sequence};
-use std::alloc::Global;
+use crate::name::Name;
+use rt_base::Sequence;
+use std::alloc::{AllocError, Global};
 
 /// An entry of the symbol table (ELF gABI, "Symbol Table"): its name, its value, its size, its binding, its type,
 /// and the index of the section that it is of.
 #[derive(Debug, Drop)]
 pub struct Symbol {
-    pub name: Bytes,
+    pub name: Name,
     pub value: u32,
     pub size: u32,
     pub bind: u8,
@@ -22,16 +23,16 @@ pub type Symbols = Sequence<Symbol>;
 
 impl Symbol {
     /// The symbol of index 0: all zero, with the empty name.
-    pub fn zero(alloc: Global) -> Symbol
-        ensures { result ≡ zero_symbol }
+    pub fn zero(alloc: Global) -> Result<Symbol, AllocError>
+        ensures { IfOk result (λ symbol. symbol ≡ zero_symbol) }
     {
-        Symbol {
-            name: Bytes::new(alloc),
+        Ok(Symbol {
+            name: Name::empty(alloc)?,
             value: 0,
             size: 0,
             bind: 0,
             kind: 0,
             section: 0,
-        }
+        })
     }
 }

@@ -1,5 +1,5 @@
 // The symbols of a file.
-ghost use Rattle.std.specs.Prelude.{◌≡◌, ◌+◌, ◌*◌, ◌<◌, ◌≤◌, IfErr, IfOk, OnOk, IsTrue, Option, None, length};
+ghost use Rattle.std.specs.Prelude.{◌≡◌, ◌+◌, ◌*◌, ◌^◌, ◌<◌, ◌≤◌, IfErr, IfOk, OnOk, IsTrue, Option, None, length};
 ghost use Rattle.rt_elf.specs.Faults.{checked, IsFaultOf};
 ghost use Rattle.rt_elf.specs.Fields.{word_at};
 ghost use Rattle.rt_elf.specs.Header.{header_place, section_count, HasTable};
@@ -10,7 +10,7 @@ ghost use Rattle.rt_elf.specs.Symbols.{symbol_table, symbol_table_fault, symbol_
 use crate::fault::{ElfFault, check};
 use crate::field::{byte_at, half_at, word_at};
 use crate::header::{header_place, section_count};
-use crate::names::{end_of_names, name_at};
+use crate::names::{Strings, end_of_names};
 use crate::section::Section;
 use crate::sections::{bytes_of, is_kind_at, section_by};
 use crate::symbol::{Symbol, Symbols};
@@ -72,19 +72,14 @@ fn check_symbol(bytes: &[u8], strings: &[u8], end: usize, place: usize) -> Resul
 }
 
 // The symbol at a place.
-fn symbol_at(
-    alloc: Global,
-    bytes: &[u8],
-    strings: &[u8],
-    place: usize,
-) -> Result<Symbol, AllocError>
+fn symbol_at(bytes: &[u8], strings: &Strings, place: usize) -> Result<Symbol, AllocError>
     requires there { place + 16 ≤ length bytes.now }
     requires named { word_at bytes.now place ≤ length strings.now }
     ensures { IfOk result (λ symbol. symbol ≡ symbol_at bytes.now strings.now place) }
 {
     let info = byte_at(bytes, place + 12);
     Ok(Symbol {
-        name: name_at(alloc, strings, word_at(bytes, place) as usize)?,
+        name: strings.name_at(word_at(bytes, place) as usize)?,
         value: word_at(bytes, place + 4),
         size: word_at(bytes, place + 8),
         bind: info / 16,
@@ -104,6 +99,7 @@ fn read_symbols(
     requires long { 52 ≤ length bytes.now }
     requires short { length bytes.now ≤ 16777216 }
     requires there { place + 16 * count ≤ length bytes.now }
+    requires named { length strings.now < 2 ^ 32 }
     ensures bad { IfErr result (IsFaultOf (symbols_fault bytes.now strings.now place count)) }
     ensures none { OnOk result (symbols_fault bytes.now strings.now place count ≡ None) }
     ensures found { IfOk result (λ symbols. symbols ≡ symbol_list bytes.now strings.now place count) }
@@ -114,11 +110,12 @@ fn read_symbols(
         return Ok(symbols);
     }
     let end = end_of_names(strings);
-    symbols.push(Symbol::zero(alloc))?;
+    let names = Strings::new(alloc, strings)?;
+    symbols.push(Symbol::zero(alloc)?)?;
     for index in 1..count {
         let at = place + 16 * index;
         check_symbol(bytes, strings, end, at)?;
-        symbols.push(symbol_at(alloc, bytes, strings, at)?)?;
+        symbols.push(symbol_at(bytes, &names, at)?)?;
     }
     Ok(symbols)
 }

@@ -15,11 +15,12 @@ impl Object {
         requires in_file { (section_of self.now section).offset + (section_of self.now section).size ≤ length self.now.bytes }
         ensures { IfOk result (λ words. words.items ≡ section_words self.now section) }
     {
-        let section = &self.sections.items()[section as usize];
+        let section = &self.sections()[section as usize];
+        let bytes = self.bytes();
         let count = section.size as usize / 4;
         let mut words = Vec::with_capacity(alloc, count)?;
         for k in 0..count {
-            words.push(word_at(self.bytes.items(), section.offset as usize + 4 * k))?;
+            words.push(word_at(bytes, section.offset as usize + 4 * k))?;
         }
         Ok(words)
     }

@@ -1,6 +1,6 @@
 -- Judgements that a variable exists.
 use Rattle.std.proofs.Common.{◌≡◌, ℕ, List, ◌⊎◌, inl, inr, length, sym, ◌∙◌}
-use Rattle.rt_terms.specs.declared.line.Judge.TheVariants.{Var}
+use Rattle.rt_lines.specs.declared.line.Judge.TheVariants.{Var}
 use Rattle.rt_texts.specs.declared.fault.TextFault.{TextFault}
 use Rattle.rt_texts.specs.declared.fault.TextFault.TheVariants.{BadText, Memory}
 use Rattle.rt_texts.specs.Goods.{IsDtv, IsJudge}

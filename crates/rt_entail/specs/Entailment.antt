@@ -1,9 +1,9 @@
 -- Whether a judgement is derivable from the lines of a text.
 use Rattle.std.specs.Prelude.{◌≡◌, ℕ, ◌↔◌, ◌++◌, codes, List, Bool, IsTrue}
-use Rattle.rt_terms.specs.declared.variable.Dtv.{Dtv}
-use Rattle.rt_terms.specs.declared.line.Line.{Line}
-use Rattle.rt_terms.specs.declared.line.Line.TheVariants.{Var}
-use Rattle.rt_terms.specs.Orders.{Below}
+use Rattle.rt_lines.specs.declared.variable.Dtv.{Dtv}
+use Rattle.rt_lines.specs.declared.line.Line.{Line}
+use Rattle.rt_lines.specs.declared.line.Line.TheVariants.{Var}
+use Rattle.rt_lines.specs.Orders.{Below}
 use Rattle.rt_texts.specs.Goods.{IsDtv}
 use Rattle.rt_texts.specs.Readings.{IsNoText}
 use Rattle.rt_texts.specs.Texts.{dtv_text}

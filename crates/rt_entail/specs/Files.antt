@@ -1,6 +1,6 @@
 -- Texts of lines, each with its line end, and where one is bad.
 use Rattle.std.specs.Prelude.{◌≡◌, ◌≢◌, ℕ, ◌⊎◌, List, [], ◌++◌, All, length, Result, MatchResult}
-use Rattle.rt_terms.specs.declared.line.Line.{Line}
+use Rattle.rt_lines.specs.declared.line.Line.{Line}
 use Rattle.rt_texts.specs.declared.fault.TextFault.{TextFault}
 use Rattle.rt_texts.specs.declared.fault.TextFault.TheVariants.{BadText, Memory}
 use Rattle.rt_texts.specs.Goods.{IsLine}

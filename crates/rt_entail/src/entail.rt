@@ -6,8 +6,8 @@ ghost use Rattle.rt_entail.specs.Entailment.{IsRefusal, IsAnswer, var_text};
 
 use crate::fault::EntailFault;
 use crate::file::read_file;
+use rt_lines::{Dtv, Judge, Names};
 use rt_shape::of;
-use rt_terms::{Dtv, Judge, Names};
 use rt_texts::{TextFault, read_judge};
 use std::alloc::Global;
 

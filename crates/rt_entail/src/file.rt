@@ -2,7 +2,7 @@
 ghost use Rattle.std.specs.Prelude.{◌<◌, ◌^◌, length};
 ghost use Rattle.rt_entail.specs.Files.{ReadsFile};
 
-use rt_terms::{Lines, Names};
+use rt_lines::{Lines, Names};
 use rt_texts::{TextFault, read_line, split_before};
 use std::alloc::Global;
 

@@ -4,8 +4,6 @@
 mod entail;
 mod fault;
 mod file;
-#[cfg(test)]
-mod tests;
 
 pub use entail::entails;
 pub use fault::EntailFault;

@@ -15,8 +15,6 @@ mod rows;
 mod source;
 mod tables;
 mod targets;
-#[cfg(test)]
-mod tests;
 
 use blocks::Blocks;
 pub use def::Def;

@@ -8,7 +8,7 @@ use Rattle.rt_flow.specs.Bodies.{Body, AreReaching}
 use Rattle.rt_flow.specs.Reaching.{IsReachOf, sites_of}
 use Rattle.rt_flow.specs.Sources.{defs_in}
 use Rattle.rt_body.specs.Readings.{Reading}
-use Rattle.rt_interface.specs.declared.call.Call.{Call}
+use Rattle.rt_liveness.specs.declared.call.Call.{Call}
 use Rattle.rt_frame.specs.Frames.{AreRising, Layout, IsFrameOf, IsSaved, IsTaken, frame_body}
 
 module _ (graph : Body) (reach : Reach) (is : IsReachOf graph reach) (told : (site : ℕ) (loc : ℤ) → site < sites_of reach → AreReaching graph loc site (defs_in reach site loc)) where

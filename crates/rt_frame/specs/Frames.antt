@@ -13,7 +13,7 @@ use Rattle.rt_body.specs.declared.action.Address.{Address}
 use Rattle.rt_body.specs.declared.action.Width.{Width}
 use Rattle.rt_body.specs.declared.action.Width.TheVariants as width
 use Rattle.rt_body.specs.Readings.{Reading, action_at}
-use Rattle.rt_interface.specs.declared.call.Call.{Call}
+use Rattle.rt_liveness.specs.declared.call.Call.{Call}
 use Rattle.rt_frame.specs.declared.spot.Spot.{Spot}
 use Rattle.rt_frame.specs.declared.spot.Spot.TheVariants as spot
 use Rattle.rt_frame.specs.declared.question.Question.{Question}

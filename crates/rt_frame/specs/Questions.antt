@@ -20,8 +20,8 @@ use Rattle.rt_body.specs.Readings.{Reading, action_at}
 use Rattle.rt_body.specs.Told.{IsDefWithin}
 use Rattle.rt_proc.specs.declared.site.Callee.{Callee}
 use Rattle.rt_proc.specs.declared.site.Callee.TheVariants as callee
-use Rattle.rt_interface.specs.declared.call.Call.{Call}
-use Rattle.rt_interface.specs.Calls.{gives_result, taken_registers}
+use Rattle.rt_liveness.specs.declared.call.Call.{Call}
+use Rattle.rt_liveness.specs.Calls.{gives_result, taken_registers}
 use Rattle.rt_frame.specs.declared.addition.Addition.{Addition}
 use Rattle.rt_frame.specs.declared.addition.Addition.TheVariants.{IndexLeft, IndexRight, Indices, Untold}
 use Rattle.rt_frame.specs.declared.question.Question.{Question}

@@ -3,7 +3,7 @@ ghost use Rattle.std.specs.Prelude.{◌≡◌, ◌<◌, [], ◌∷◌, ◌++◌,
 ghost use Rattle.rt_body.specs.Readings.{action_at};
 ghost use Rattle.rt_body.specs.Registers.{HasAddressRegister, HasRegisters};
 ghost use Rattle.rt_body.specs.Told.{reading_of, sites_in};
-ghost use Rattle.rt_interface.specs.Calls.{taken_registers, takes_register};
+ghost use Rattle.rt_liveness.specs.Calls.{taken_registers, takes_register};
 ghost use Rattle.rt_frame.specs.Questions.{action_questions, addition_questions, address_questions, call_questions, compute_questions, data_questions, questions, result_questions, target_questions, IsQuestionWithin};
 
 use crate::addition::Addition;
@@ -11,7 +11,7 @@ use crate::question::Question;
 use crate::questions::{addition, calls_at, is_kept, is_multi, results};
 use rt_base::{Memory, Sequence};
 use rt_body::{Action, Address, Body, Operation, Width};
-use rt_interface::Call;
+use rt_liveness::Call;
 use rt_proc::Callee;
 use std::alloc::Global;
 

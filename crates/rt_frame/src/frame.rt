@@ -13,7 +13,7 @@ use crate::taken::taken;
 use rt_base::{Memory, Sequence};
 use rt_body::Body;
 use rt_flow::{Def, Reach, reaching};
-use rt_interface::Call;
+use rt_liveness::Call;
 use std::alloc::Global;
 
 /// The frame of a procedure.
@@ -32,7 +32,7 @@ pub struct Frame {
 
 impl Frame {
     ghost use Rattle.rt_body.specs.Told.{reading_of, sites_in};
-    ghost use Rattle.rt_interface.specs.Calls.{HasCallRegister};
+    ghost use Rattle.rt_liveness.specs.Calls.{HasCallRegister};
     ghost use Rattle.rt_frame.specs.Frames.{IsFrameOf, spot_at};
     ghost use Rattle.rt_frame.specs.Told.{layout_of, frame_of, frame_sites};
 

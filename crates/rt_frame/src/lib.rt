@@ -12,8 +12,6 @@ mod saved;
 mod spot;
 mod stored;
 mod taken;
-#[cfg(test)]
-mod tests;
 
 pub use addition::Addition;
 pub use frame::Frame;

@@ -9,7 +9,7 @@ use crate::addition::Addition;
 use rt_base::{Memory, Sequence};
 use rt_body::{Action, Address, Body, Operation};
 use rt_flow::Def;
-use rt_interface::Call;
+use rt_liveness::Call;
 use rt_track::Value;
 use std::alloc::Global;
 

@@ -2,7 +2,7 @@
 ghost use Rattle.std.specs.Prelude.{◌≡◌, ◌<◌, ◌↔◌, ℤ, All, Contains, IfOk, OnOk};
 ghost use Rattle.rt_body.specs.Readings.{action_at};
 ghost use Rattle.rt_body.specs.Told.{reading_of, sites_in, IsDefWithin};
-ghost use Rattle.rt_interface.specs.Calls.{HasCallRegister};
+ghost use Rattle.rt_liveness.specs.Calls.{HasCallRegister};
 ghost use Rattle.rt_frame.specs.Frames.{IsOfFrame, IsTaken};
 ghost use Rattle.rt_frame.specs.Gathering.{Among, Gains};
 ghost use Rattle.rt_frame.specs.Questions.{def_value, questions, IsQuestionWithin};
@@ -14,7 +14,7 @@ use crate::questions::def_value;
 use rt_base::{Memory, Sequence};
 use rt_body::Body;
 use rt_flow::Def;
-use rt_interface::Call;
+use rt_liveness::Call;
 use rt_track::Value;
 use std::alloc::Global;
 

@@ -11,8 +11,6 @@ mod immediates;
 mod insn;
 pub mod laws;
 mod opcodes;
-#[cfg(test)]
-mod tests;
 
 pub use decoder::decode;
 pub use encoder::encode;

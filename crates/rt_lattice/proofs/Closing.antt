@@ -1,9 +1,9 @@
 -- Closures of pairs of names, with one pair more.
 use Rattle.std.proofs.Common.{◌≡◌, ℕ, ◌<◌, ◌⊎◌, inl, inr, List, [], ◌∷◌, ◌++◌, length, refl, subst, sym, ◌∙◌, arith}
 use Rattle.std.proofs.lemmas.List.Elements.{Contains-append_left, Contains-push, Contains-push_cases}
-use Rattle.rt_terms.specs.Names.{AreNames, HasName}
-use Rattle.rt_terms.specs.Orders.{Below}
-use Rattle.rt_terms.specs.OrderFacts.{IsFlat}
+use Rattle.rt_lines.specs.Names.{AreNames, HasName}
+use Rattle.rt_lines.specs.Orders.{Below}
+use Rattle.rt_lines.specs.OrderFacts.{IsFlat}
 use Rattle.rt_lattice.specs.declared.file.Pair.{Pair}
 use Rattle.rt_lattice.specs.Closures.{IsPairOf, IsUnder, itself, onwards, Closes, AddsPair}
 use Rattle.rt_lattice.proofs.Known.{one_number}

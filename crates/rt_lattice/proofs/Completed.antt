@@ -1,9 +1,9 @@
 -- A lattice from an order and the bounds of all its pairs.
 use Rattle.std.proofs.Common.{◌≡◌, ℕ, ◌<◌, ◌≤◌, Option, Some, None, List, length, inl, inr, IsSomeAnd, refl}
 use Rattle.std.proofs.lemmas.Bool.{cases_eq}
-use Rattle.rt_terms.specs.Names.{AreNames, HasName}
-use Rattle.rt_terms.specs.Orders.{Below, IsAtOrBelow}
-use Rattle.rt_terms.specs.OrderFacts.{IsTransitive}
+use Rattle.rt_lines.specs.Names.{AreNames, HasName}
+use Rattle.rt_lines.specs.Orders.{Below, IsAtOrBelow}
+use Rattle.rt_lines.specs.OrderFacts.{IsTransitive}
 use Rattle.rt_lattice.specs.declared.bounds.Bounds.{Bounds}
 use Rattle.rt_lattice.specs.declared.fault.LatFault.{LatFault}
 use Rattle.rt_lattice.specs.declared.fault.LatFault.TheVariants.{NotToml, Shape, Unknown, Cycle, NoTop, NoBottom, NoJoin, NoRole, TooMany, Memory}

@@ -8,7 +8,7 @@ use Rattle.std.proofs.lemmas.List.{get_or_default}
 use Rattle.std.proofs.lemmas.List.Folds.{find-append}
 use Rattle.std.proofs.lemmas.List.Elements.{Decides-contains}
 use Rattle.std.proofs.lemmas.Slice.Eq.{bytes_eq-Decides}
-use Rattle.rt_terms.specs.Names.{AreNames, HasName}
+use Rattle.rt_lines.specs.Names.{AreNames, HasName}
 use Rattle.rt_lattice.specs.declared.file.Pair.{Pair}
 use Rattle.rt_lattice.specs.Closures.{first_unknown, names_in}
 use Rattle.rt_lattice.specs.Spelling.{has_name}

@@ -9,7 +9,7 @@ use Rattle.std.proofs.lemmas.List.Kept.{AllPairs-cons}
 use Rattle.rt_lattice.specs.declared.fault.LatFault.TheVariants.{Shape}
 use Rattle.rt_lattice.specs.Faults.{names_fault}
 use Rattle.std.proofs.lemmas.Bool.Decides.{Decides-and, Decides-or, Decides-not, Decides-like, Decides-by_and, Decides-eqb, nat_tests}
-use Rattle.rt_terms.specs.Names.{IsLetter, IsNameByte, IsName, AreNames}
+use Rattle.rt_lines.specs.Names.{IsLetter, IsNameByte, IsName, AreNames}
 use Rattle.rt_lattice.specs.Spelling.{is_letter, is_name_byte, is_spelled, has_name, are_distinct, are_names}
 use Rattle.rt_lattice.proofs.Known.{has_name-Decides}
 

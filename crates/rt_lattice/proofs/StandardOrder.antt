@@ -7,7 +7,7 @@ use Rattle.std.proofs.lemmas.Bool.Decides.{Decides-below_and, Decides-by_or}
 use Rattle.std.proofs.lemmas.List.{get_or_default}
 use Rattle.std.proofs.lemmas.List.Elements.{Contains-get_or}
 use Rattle.std.proofs.lemmas.Slice.Eq.{bytes_eq-Decides}
-use Rattle.rt_terms.specs.Names.{AreNames, HasName}
+use Rattle.rt_lines.specs.Names.{AreNames, HasName}
 use Rattle.rt_lattice.specs.declared.file.Pair.{Pair}
 use Rattle.rt_lattice.specs.Bounds.{HasNoCycle, HasJoins}
 use Rattle.rt_lattice.specs.Closures.{IsPairOf, IsUnder, itself, onwards}

@@ -3,7 +3,7 @@ use Rattle.std.proofs.Common.{◌≡◌, ◌≢◌, ℕ, ◌⊎◌, inl, inr, tr
 use Rattle.std.proofs.lemmas.Bool.{cases_lt, cases_eq}
 use Rattle.std.proofs.lemmas.Option.{same_Some}
 use Rattle.toml.specs.Data.{Members}
-use Rattle.rt_terms.specs.Names.{HasName}
+use Rattle.rt_lines.specs.Names.{HasName}
 use Rattle.rt_lattice.specs.declared.fault.LatFault.{LatFault}
 use Rattle.rt_lattice.specs.declared.fault.LatFault.TheVariants.{Unknown, Cycle, NoJoin, NoRole, Memory}
 use Rattle.rt_lattice.specs.declared.file.File.{File}

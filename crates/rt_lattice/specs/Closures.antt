@@ -1,9 +1,9 @@
 -- The order that the pairs of a file give to its names.
 use Rattle.std.specs.Prelude.{◌≡◌, ◌↔◌, ℕ, ◌<◌, Bool, false, not, if◌then◌else◌, Option, Some, None, option_map, unwrap_or, List, [], ◌∷◌, length, find, Contains, IsSomeAnd}
 use Rattle.std.specs.Str.{bytes_eq}
-use Rattle.rt_terms.specs.Names.{HasName}
-use Rattle.rt_terms.specs.Orders.{Below, IsAtOrBelow}
-use Rattle.rt_terms.specs.OrderFacts.{PutsBelow}
+use Rattle.rt_lines.specs.Names.{HasName}
+use Rattle.rt_lines.specs.Orders.{Below, IsAtOrBelow}
+use Rattle.rt_lines.specs.OrderFacts.{PutsBelow}
 use Rattle.rt_lattice.specs.declared.fault.LatFault.{LatFault}
 use Rattle.rt_lattice.specs.declared.fault.LatFault.TheVariants.{Unknown, NoRole, Memory}
 use Rattle.rt_lattice.specs.declared.file.Pair.{Pair}

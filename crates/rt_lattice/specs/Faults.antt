@@ -2,7 +2,7 @@
 use Rattle.std.specs.Prelude.{◌≡◌, ℕ, ◌<◌, ◌≤◌, nat_lt, not, is_none, Option, Some, None, option_map, List, [], ◌∷◌, length, codes}
 use Rattle.toml.specs.Data.{Members}
 use Rattle.rt_base.specs.First.{fault_if, first_of}
-use Rattle.rt_terms.specs.Names.{HasName}
+use Rattle.rt_lines.specs.Names.{HasName}
 use Rattle.rt_lattice.specs.declared.fault.LatFault.{LatFault}
 use Rattle.rt_lattice.specs.declared.fault.LatFault.TheVariants.{NotToml, Shape, Unknown, Cycle, NoTop, NoBottom, NoJoin, NoRole, TooMany, Memory}
 use Rattle.rt_lattice.specs.declared.file.File.{File}

@@ -1,8 +1,8 @@
 -- Lattices of names.
 use Rattle.std.specs.Prelude.{◌≡◌, ◌↔◌, ℕ, ◌<◌, ◌≤◌, List, length}
-use Rattle.rt_terms.specs.Names.{AreNames}
-use Rattle.rt_terms.specs.Orders.{Below, IsAtOrBelow}
-use Rattle.rt_terms.specs.OrderFacts.{IsTransitive}
+use Rattle.rt_lines.specs.Names.{AreNames}
+use Rattle.rt_lines.specs.Orders.{Below, IsAtOrBelow}
+use Rattle.rt_lines.specs.OrderFacts.{IsTransitive}
 use Rattle.rt_lattice.specs.declared.file.File.{File}
 use Rattle.rt_lattice.specs.declared.bounds.Bounds.{Bounds}
 use Rattle.rt_lattice.specs.declared.role.Role.{Role}

@@ -1,7 +1,7 @@
 // The bounds of all pairs of an order.
 ghost use Rattle.std.specs.Prelude.{◌≡◌, ◌≢◌, OnOk, IfOk, IfErr, length};
-ghost use Rattle.rt_terms.specs.Orders.{IsAtOrBelow};
-ghost use Rattle.rt_terms.specs.OrderFacts.{IsTransitive};
+ghost use Rattle.rt_lines.specs.Orders.{IsAtOrBelow};
+ghost use Rattle.rt_lines.specs.OrderFacts.{IsTransitive};
 ghost use Rattle.rt_lattice.specs.declared.fault.LatFault.TheVariants.{Memory};
 ghost use Rattle.rt_lattice.specs.Bounds.{HasNoCycle};
 ghost use Rattle.rt_lattice.specs.Faults.{IsOrderFault};
@@ -13,7 +13,7 @@ use crate::fault::LatFault;
 use crate::grid::Grid;
 use crate::joins::joins_of;
 use crate::meets::meets_of;
-use rt_terms::{Names, Order};
+use rt_lines::{Names, Order};
 use std::alloc::Global;
 
 // The number that is above all, the number that is below all, and the bounds of all pairs.

@@ -1,12 +1,12 @@
 // The order of a file's names.
 ghost use Rattle.std.specs.Prelude.{◌≡◌, ◌<◌, [], ◌∷◌, None, IfOk, OnOk, IfErr, length};
-ghost use Rattle.rt_terms.specs.Names.{AreNames, HasName};
+ghost use Rattle.rt_lines.specs.Names.{AreNames, HasName};
 ghost use Rattle.rt_lattice.specs.Closures.{Closes, AddsPair, IsUnknownIn, first_unknown, unknown_name, names_in};
 
 use crate::fault::LatFault;
 use crate::file::{File, Pair};
 use rt_base::Bytes;
-use rt_terms::{Names, Order};
+use rt_lines::{Names, Order};
 use std::alloc::{AllocError, Global};
 
 // The number of a name.

@@ -12,7 +12,7 @@ use crate::fault::LatFault;
 use crate::file::{File, Pair, RoleName};
 use crate::spelling::{names_of, shape};
 use rt_base::{Bytes, Sequence};
-use rt_terms::Names;
+use rt_lines::Names;
 use std::alloc::{AllocError, Global};
 use toml::{Table, Value};
 

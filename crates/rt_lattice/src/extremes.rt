@@ -1,10 +1,10 @@
 // Tops, bottoms and cycles of an order.
 ghost use Rattle.std.specs.Prelude.{◌↔◌, ◌<◌, IsTrue, MatchOption};
-ghost use Rattle.rt_terms.specs.Orders.{IsAtOrBelow};
-ghost use Rattle.rt_terms.specs.OrderFacts.{IsTransitive};
+ghost use Rattle.rt_lines.specs.Orders.{IsAtOrBelow};
+ghost use Rattle.rt_lines.specs.OrderFacts.{IsTransitive};
 ghost use Rattle.rt_lattice.specs.Bounds.{IsTop, IsBottom, HasPartner, HasTop, HasBottom, HasNoCycle, IsFirstOnCycle};
 
-use rt_terms::Order;
+use rt_lines::Order;
 
 // Whether the number is above all.
 fn is_top(order: &Order, top: u16) -> bool

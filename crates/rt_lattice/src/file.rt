@@ -1,6 +1,6 @@
 // What a lattice file says.
 use rt_base::{Bytes, Sequence};
-use rt_terms::Names;
+use rt_lines::Names;
 
 // A name, and one that it is below.
 #[derive(Drop)]

@@ -1,7 +1,7 @@
 // Least upper bounds.
 ghost use Rattle.std.specs.Prelude.{◌≡◌, ◌↔◌, ◌+◌, ◌<◌, IsTrue, MatchOption, OnOk, IfOk, IfErr, length};
-ghost use Rattle.rt_terms.specs.Orders.{IsAtOrBelow};
-ghost use Rattle.rt_terms.specs.OrderFacts.{IsTransitive};
+ghost use Rattle.rt_lines.specs.Orders.{IsAtOrBelow};
+ghost use Rattle.rt_lines.specs.OrderFacts.{IsTransitive};
 ghost use Rattle.rt_lattice.specs.Bounds.{IsTop, IsLeastUpper, HaveJoin, IsFirstWithoutJoin};
 ghost use Rattle.rt_lattice.specs.Searches.{IsLowUpper, IsBelowUppers};
 ghost use Rattle.rt_lattice.specs.Faults.{IsJoinFault};
@@ -10,7 +10,7 @@ ghost use Rattle.rt_lattice.specs.Grids.{IsFilledTo};
 use crate::closure::name_of;
 use crate::fault::LatFault;
 use crate::grid::Grid;
-use rt_terms::{Names, Order};
+use rt_lines::{Names, Order};
 use std::alloc::Global;
 
 // Whether a number is at or above two numbers.

@@ -13,7 +13,7 @@ use crate::fault::LatFault;
 use crate::file::File;
 use crate::role::Role;
 use crate::roles::{Roles, roles_of};
-use rt_terms::{Names, Order};
+use rt_lines::{Names, Order};
 use std::alloc::Global;
 use std::marker::Model;
 

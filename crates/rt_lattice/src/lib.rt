@@ -21,6 +21,3 @@ pub use fault::LatFault;
 pub use lattice::Lattice;
 pub use reader::{read, standard};
 pub use role::Role;
-
-#[cfg(test)]
-mod tests;

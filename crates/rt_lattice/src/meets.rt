@@ -1,11 +1,11 @@
 // Greatest lower bounds.
 ghost use Rattle.std.specs.Prelude.{◌↔◌, ◌+◌, ◌<◌, IsTrue, OnOk, IfOk};
-ghost use Rattle.rt_terms.specs.Orders.{IsAtOrBelow};
+ghost use Rattle.rt_lines.specs.Orders.{IsAtOrBelow};
 ghost use Rattle.rt_lattice.specs.Bounds.{IsBottom, IsLeastUpper, IsGreatestLower};
 ghost use Rattle.rt_lattice.specs.Grids.{IsFilledTo};
 
 use crate::grid::Grid;
-use rt_terms::Order;
+use rt_lines::Order;
 use std::alloc::{AllocError, Global};
 
 // Whether a number is at or below two numbers.

@@ -1,12 +1,12 @@
 // Names from strings.
 ghost use Rattle.std.specs.Prelude.{◌≡◌, ◌↔◌, None, Some, IsTrue, Contains, OnOk, IfOk, IfErr};
-ghost use Rattle.rt_terms.specs.Names.{IsName};
+ghost use Rattle.rt_lines.specs.Names.{IsName};
 ghost use Rattle.rt_lattice.specs.declared.fault.LatFault.TheVariants.{Shape};
 ghost use Rattle.rt_lattice.specs.Faults.{IsFaultOf, names_fault};
 
 use crate::fault::LatFault;
 use rt_base::Bytes;
-use rt_terms::{Names, is_name};
+use rt_lines::{Names, is_name};
 use std::alloc::Global;
 
 // The fault of a key.

@@ -8,18 +8,17 @@ use Rattle.rt_elf.specs.declared.object.Object.{Object}
 use Rattle.rt_elf.specs.declared.reloc.Reloc.{Reloc}
 use Rattle.rt_elf.specs.declared.symbol.Symbol.{Symbol}
 use Rattle.rt_link.specs.declared.heads.Heads.{Heads}
-use Rattle.rt_link.specs.declared.links.Links.{Links}
 use Rattle.rt_link.specs.declared.kind.Kind.{Kind}
 use Rattle.rt_link.specs.declared.kind.Kind.TheVariants.{Passed, Jump, Call, PcrelHigh, High, Low, PcrelLow}
 use Rattle.rt_link.specs.declared.place.Place.{Place}
 use Rattle.rt_link.specs.Checks.{place_fault, partner_fault, reloc_by, no_reloc, places_fault, partners_fault}
-use Rattle.rt_link.specs.Effects.{place_of, is_place, is_head, head_at, is_high, high_at, low_of, meaning, symbol_place}
+use Rattle.rt_link.specs.Effects.{place_of, is_place, is_head, head_at, is_high, high_at, low_of, link_of, meaning, symbol_place}
 use Rattle.rt_link.specs.Kinds.{kind_of, has_effect, is_pcrel_high, is_pcrel_low}
-use Rattle.rt_link.specs.Links.{head_of, head_in, low_in, low_of_head, meaning_in, link_in, AreHeads, high_of, HoldAll, AreLinksOf}
+use Rattle.rt_link.specs.Links.{head_of, head_in, low_in, low_of_head, meaning_in, link_held, AreHeads, high_of, HoldAll}
 use Rattle.rt_elf.proofs.Booleans.{cases_bool, not-false, and-true, and-rest_false, eqb-is, fault_if-none, then_of-none, none_at}
 
 -- a relocation after others, where a place has none of those before, or isn't its own
-option_or-none : {X : Type 0} (o : Option X) → option_or o None ≡ o
+pub option_or-none : {X : Type 0} (o : Option X) → option_or o None ≡ o
 option_or-none None = refl
 option_or-none (Some x) = refl
 
@@ -27,7 +26,7 @@ is_some-false : {X : Type 0} (o : Option X) → is_some o ≡ false → o ≡ No
 is_some-false None e = refl
 is_some-false (Some x) e = cc
 
-place-same : (s t o u : ℕ) → s ≡ t → o ≡ u → let p : Place = record { section = s; offset = o } in let q : Place = record { section = t; offset = u } in p ≡ q
+pub place-same : (s t o u : ℕ) → s ≡ t → o ≡ u → let p : Place = record { section = s; offset = o } in let q : Place = record { section = t; offset = u } in p ≡ q
 place-same s t o u e f = rw (e, f) refl
 
 pub is_place-same : (p q : Place) → is_place p q ≡ true → p ≡ q
@@ -36,7 +35,7 @@ is_place-same p q e =
     place-same p.section q.section p.offset q.offset (eqb-is _ _ both.0) (eqb-is _ _ both.1)
 
 -- the one more element of a search
-find-more : {X : Type 0} (test : X → Bool) (xs : List X) (x : X) → find test (xs ++ x ∷ []) ≡ option_or (find test xs) (if test x then Some x else None)
+pub find-more : {X : Type 0} (test : X → Bool) (xs : List X) (x : X) → find test (xs ++ x ∷ []) ≡ option_or (find test xs) (if test x then Some x else None)
 find-more test xs x = find-append test xs (x ∷ [])
 
 -- no head stands where a relocation with an effect comes next
@@ -110,24 +109,24 @@ highs-more object earlier reloc q are none = elim (cases_bool (is_place (place_o
 ]
 
 -- of all relocations
-pub highs-are_heads : (object : Object) (q : Place) → places_fault object ≡ None → (n : ℕ) → n ≤ length object.relocs
-    → high_at (take n object.relocs) q ≡ high_of (head_at (take n object.relocs) q)
-highs-are_heads object q none zero h = refl
-highs-are_heads object q none (suc n) h =
-    let more : take (suc n) object.relocs ≡ take n object.relocs ++ reloc_by object n ∷ [] = ap (λ (k : ℕ). take k object.relocs) (sym (add-one n)) ∙ take_more object.relocs n no_reloc (omega arith) in
-    let fault : place_fault object (take n object.relocs) (reloc_by object n) ≡ None =
-    none_at (λ (i : ℕ). place_fault object (take i object.relocs) (reloc_by object i)) (length object.relocs) n none (omega arith) in
-    rw more (highs-more object (take n object.relocs) (reloc_by object n) q (highs-are_heads object q none n (omega arith)) fault)
+pub highs-are_heads : (object : Object) (relocs : List Reloc) (q : Place) → places_fault object relocs ≡ None → (n : ℕ) → n ≤ length relocs
+    → high_at (take n relocs) q ≡ high_of (head_at (take n relocs) q)
+highs-are_heads object relocs q none zero h = refl
+highs-are_heads object relocs q none (suc n) h =
+    let more : take (suc n) relocs ≡ take n relocs ++ reloc_by relocs n ∷ [] = ap (λ (k : ℕ). take k relocs) (sym (add-one n)) ∙ take_more relocs n no_reloc (omega arith) in
+    let fault : place_fault object (take n relocs) (reloc_by relocs n) ≡ None =
+    none_at (λ (i : ℕ). place_fault object (take i relocs) (reloc_by relocs i)) (length relocs) n none (omega arith) in
+    rw more (highs-more object (take n relocs) (reloc_by relocs n) q (highs-are_heads object relocs q none n (omega arith)) fault)
 
 -- all heads are held once all relocations are read
-pub holds_all : (object : Object) (heads : Heads) (n : ℕ) → length object.relocs ≤ n → places_fault object ≡ None
-    → AreHeads object.symbols (take n object.relocs) heads → HoldAll object heads
-holds_all object heads n h none are =
-    let all : take n object.relocs ≡ object.relocs = take_all n object.relocs h in
-    let whole : take (length object.relocs) object.relocs ≡ object.relocs = take_all (length object.relocs) object.relocs (omega arith) in
+pub holds_all : (object : Object) (relocs : List Reloc) (heads : Heads) (n : ℕ) → length relocs ≤ n → places_fault object relocs ≡ None
+    → AreHeads object.symbols (take n relocs) heads → HoldAll object.symbols relocs heads
+holds_all object relocs heads n h none are =
+    let all : take n relocs ≡ relocs = take_all n relocs h in
+    let whole : take (length relocs) relocs ≡ relocs = take_all (length relocs) relocs (omega arith) in
     record {
       are_heads = subst (λ (relocs : List Reloc). AreHeads object.symbols relocs heads) all are;
-      highs = λ q. subst (λ (relocs : List Reloc). high_at relocs q ≡ high_of (head_at relocs q)) whole (highs-are_heads object q none (length object.relocs) (omega arith));
+      highs = λ q. subst (λ (relocs : List Reloc). high_at relocs q ≡ high_of (head_at relocs q)) whole (highs-are_heads object relocs q none (length relocs) (omega arith));
     }
 
 -- What heads mean.
@@ -141,35 +140,44 @@ low-mapped symbols None = refl
 low-mapped symbols (Some reloc) = elim (cases_bool (is_pcrel_high (kind_of reloc.kind))) [ inl e ↦ rw e refl | inr e ↦ rw e refl ]
 
 -- what the low bits are at a place
-pub low-held : (object : Object) (heads : Heads) (place : Place) → HoldAll object heads → low_in heads place ≡ option_map low_of (high_at object.relocs place)
-low-held object heads place all =
-    ap (option_and_then low_of_head) (all.are_heads place) ∙ low-mapped object.symbols (head_at object.relocs place) ∙ ap (option_map low_of) (sym (all.highs place))
+pub low-held : (symbols : List Symbol) (relocs : List Reloc) (heads : Heads) (place : Place) → HoldAll symbols relocs heads
+    → low_in heads place ≡ option_map low_of (high_at relocs place)
+low-held symbols relocs heads place all =
+    ap (option_and_then low_of_head) (all.are_heads place) ∙ low-mapped symbols (head_at relocs place) ∙ ap (option_map low_of) (sym (all.highs place))
 
 -- whether a PCREL_HI20 stands there
-pub some-held : (object : Object) (heads : Heads) (place : Place) → HoldAll object heads → is_some (low_in heads place) ≡ is_some (high_at object.relocs place)
-some-held object heads place all = ap is_some (low-held object heads place all) ∙ some-mapped low_of (high_at object.relocs place)
+pub some-held : (symbols : List Symbol) (relocs : List Reloc) (heads : Heads) (place : Place) → HoldAll symbols relocs heads
+    → is_some (low_in heads place) ≡ is_some (high_at relocs place)
+some-held symbols relocs heads place all = ap is_some (low-held symbols relocs heads place all) ∙ some-mapped low_of (high_at relocs place)
 
 -- whether a head stands there
 pub some-head : (symbols : List Symbol) (relocs : List Reloc) (heads : Heads) (place : Place) → AreHeads symbols relocs heads
     → is_some (head_in heads place) ≡ is_some (head_at relocs place)
 some-head symbols relocs heads place are = ap is_some (are place) ∙ some-mapped (head_of symbols) (head_at relocs place)
 
-meaning-held : (object : Object) (heads : Heads) (reloc : Reloc) (kind : Option Kind) → HoldAll object heads
-    → meaning_in heads kind (head_of object.symbols reloc) ≡ meaning object.symbols object.relocs kind reloc
-meaning-held object heads reloc None all = refl
-meaning-held object heads reloc (Some Passed) all = refl
-meaning-held object heads reloc (Some Jump) all = refl
-meaning-held object heads reloc (Some Call) all = refl
-meaning-held object heads reloc (Some PcrelHigh) all = refl
-meaning-held object heads reloc (Some High) all = refl
-meaning-held object heads reloc (Some Low) all = refl
-meaning-held object heads reloc (Some PcrelLow) all = low-held object heads (symbol_place object.symbols reloc.symbol) all
+meaning-held : (symbols : List Symbol) (relocs : List Reloc) (heads : Heads) (reloc : Reloc) (kind : Option Kind) → HoldAll symbols relocs heads
+    → meaning_in heads kind (head_of symbols reloc) ≡ meaning symbols relocs kind reloc
+meaning-held symbols relocs heads reloc None all = refl
+meaning-held symbols relocs heads reloc (Some Passed) all = refl
+meaning-held symbols relocs heads reloc (Some Jump) all = refl
+meaning-held symbols relocs heads reloc (Some Call) all = refl
+meaning-held symbols relocs heads reloc (Some PcrelHigh) all = refl
+meaning-held symbols relocs heads reloc (Some High) all = refl
+meaning-held symbols relocs heads reloc (Some Low) all = refl
+meaning-held symbols relocs heads reloc (Some PcrelLow) all = low-held symbols relocs heads (symbol_place symbols reloc.symbol) all
 
-links-held : (object : Object) (heads : Heads) (head : Option Reloc) → HoldAll object heads
-    → option_and_then (λ head. meaning_in heads (kind_of head.reloc.kind) head) (option_map (head_of object.symbols) head)
-    ≡ option_and_then (λ reloc. meaning object.symbols object.relocs (kind_of reloc.kind) reloc) head
-links-held object heads None all = refl
-links-held object heads (Some reloc) all = meaning-held object heads reloc (kind_of reloc.kind) all
+links-held : (symbols : List Symbol) (relocs : List Reloc) (heads : Heads) (head : Option Reloc) → HoldAll symbols relocs heads
+    → option_and_then (λ head. meaning_in heads (kind_of head.reloc.kind) head) (option_map (head_of symbols) head)
+    ≡ option_and_then (λ reloc. meaning symbols relocs (kind_of reloc.kind) reloc) head
+links-held symbols relocs heads None all = refl
+links-held symbols relocs heads (Some reloc) all = meaning-held symbols relocs heads reloc (kind_of reloc.kind) all
+
+-- what is held for a place means what the relocation there does
+pub link-held : (symbols : List Symbol) (relocs : List Reloc) (heads : Heads) (place : Place) → HoldAll symbols relocs heads
+    → link_held heads place ≡ link_of symbols relocs place
+unfolding link_held
+link-held symbols relocs heads place all =
+    ap (option_and_then (λ head. meaning_in heads (kind_of head.reloc.kind) head)) (all.are_heads place) ∙ links-held symbols relocs heads (head_at relocs place) all
 
 -- the element that a search finds stands in the list
 pub find-found : {X : Type 0} (test : X → Bool) (xs : List X) (x d : X) → find test xs ≡ Some x → (i : ℕ) × (i < length xs) × (get_or xs i d ≡ x) × (test x ≡ true)
@@ -186,49 +194,41 @@ find-found test (y ∷ ys) x d e = elim (cases_bool (test y)) [
 ]
 
 -- a relocation with an effect means something where no check fails
-meaning-some : (object : Object) (reloc : Reloc) (kind : Option Kind) → has_effect kind ≡ true
-    → (is_pcrel_low kind ≡ true → is_some (high_at object.relocs (symbol_place object.symbols reloc.symbol)) ≡ true)
-    → is_some (meaning object.symbols object.relocs kind reloc) ≡ true
-meaning-some object reloc None effect low = cc
-meaning-some object reloc (Some Passed) effect low = cc
-meaning-some object reloc (Some Jump) effect low = refl
-meaning-some object reloc (Some Call) effect low = refl
-meaning-some object reloc (Some PcrelHigh) effect low = refl
-meaning-some object reloc (Some High) effect low = refl
-meaning-some object reloc (Some Low) effect low = refl
-meaning-some object reloc (Some PcrelLow) effect low = some-mapped low_of (high_at object.relocs (symbol_place object.symbols reloc.symbol)) ∙ low refl
+meaning-some : (symbols : List Symbol) (relocs : List Reloc) (reloc : Reloc) (kind : Option Kind) → has_effect kind ≡ true
+    → (is_pcrel_low kind ≡ true → is_some (high_at relocs (symbol_place symbols reloc.symbol)) ≡ true)
+    → is_some (meaning symbols relocs kind reloc) ≡ true
+meaning-some symbols relocs reloc None effect low = cc
+meaning-some symbols relocs reloc (Some Passed) effect low = cc
+meaning-some symbols relocs reloc (Some Jump) effect low = refl
+meaning-some symbols relocs reloc (Some Call) effect low = refl
+meaning-some symbols relocs reloc (Some PcrelHigh) effect low = refl
+meaning-some symbols relocs reloc (Some High) effect low = refl
+meaning-some symbols relocs reloc (Some Low) effect low = refl
+meaning-some symbols relocs reloc (Some PcrelLow) effect low = some-mapped low_of (high_at relocs (symbol_place symbols reloc.symbol)) ∙ low refl
 
-partner : (object : Object) (reloc : Reloc) → partner_fault object reloc ≡ None → is_pcrel_low (kind_of reloc.kind) ≡ true
-    → is_some (high_at object.relocs (symbol_place object.symbols reloc.symbol)) ≡ true
+partner : (object : Object) (relocs : List Reloc) (reloc : Reloc) → partner_fault object relocs reloc ≡ None → is_pcrel_low (kind_of reloc.kind) ≡ true
+    → is_some (high_at relocs (symbol_place object.symbols reloc.symbol)) ≡ true
 unfolding partner_fault
-partner object reloc none low = not-false _ (and-rest_false _ _ (fault_if-none _ _ (then_of-none _ _ none).0) low)
+partner object relocs reloc none low = not-false _ (and-rest_false _ _ (fault_if-none _ _ (then_of-none _ _ none).0) low)
 
-link-some : (object : Object) (place : Place) (head : Option Reloc) → head_at object.relocs place ≡ head → partners_fault object ≡ None
-    → is_some (option_and_then (λ reloc. meaning object.symbols object.relocs (kind_of reloc.kind) reloc) head) ≡ is_some head
-link-some object place None e none = refl
-link-some object place (Some reloc) e none =
-    let found = find-found (is_head place) object.relocs reloc no_reloc e in
-    let fault : partner_fault object (reloc_by object found.0) ≡ None =
-    none_at (λ (i : ℕ). partner_fault object (reloc_by object i)) (length object.relocs) found.0 none found.1 in
-    let fault' : partner_fault object reloc ≡ None = rw found.2 at fault in
-    meaning-some object reloc (kind_of reloc.kind) (and-true _ _ found.3).0 (partner object reloc fault')
+link-some : (object : Object) (relocs : List Reloc) (place : Place) (head : Option Reloc) → head_at relocs place ≡ head → partners_fault object relocs ≡ None
+    → is_some (option_and_then (λ reloc. meaning object.symbols relocs (kind_of reloc.kind) reloc) head) ≡ is_some head
+link-some object relocs place None e none = refl
+link-some object relocs place (Some reloc) e none =
+    let found = find-found (is_head place) relocs reloc no_reloc e in
+    let fault : partner_fault object relocs (reloc_by relocs found.0) ≡ None =
+    none_at (λ (i : ℕ). partner_fault object relocs (reloc_by relocs i)) (length relocs) found.0 none found.1 in
+    let fault' : partner_fault object relocs reloc ≡ None = rw found.2 at fault in
+    meaning-some object.symbols relocs reloc (kind_of reloc.kind) (and-true _ _ found.3).0 (partner object relocs reloc fault')
 
--- the links of all heads are the object's
-pub are_links : (object : Object) (links : Links) → HoldAll object links.heads → partners_fault object ≡ None → AreLinksOf object links
-unfolding link_in
-are_links object links all none = record {
-  same = λ section offset.
-      let place : Place = record { section = section; offset = offset } in
-      ap (option_and_then (λ head. meaning_in links.heads (kind_of head.reloc.kind) head)) (all.are_heads place) ∙ links-held object links.heads (head_at object.relocs place) all;
-  complete = λ section offset.
-      let place : Place = record { section = section; offset = offset } in
-      ap is_some (ap (option_and_then (λ head. meaning_in links.heads (kind_of head.reloc.kind) head)) (all.are_heads place) ∙ links-held object links.heads (head_at object.relocs place) all)
-      ∙ link-some object place (head_at object.relocs place) refl none;
-}
+-- a link is there exactly where a relocation with an effect is
+pub link-some_at : (object : Object) (relocs : List Reloc) (place : Place) → partners_fault object relocs ≡ None
+    → is_some (link_of object.symbols relocs place) ≡ is_some (head_at relocs place)
+link-some_at object relocs place none = link-some object relocs place (head_at relocs place) refl none
 
 -- the next relocation joins those before it
-pub AreHeads-next : (object : Object) (n : ℕ) (reloc : Reloc) (heads : Heads) → n < length object.relocs → reloc ≡ reloc_by object n
-    → AreHeads object.symbols (take n object.relocs ++ reloc ∷ []) heads → AreHeads object.symbols (take (n + 1) object.relocs) heads
-AreHeads-next object n reloc heads there is are =
-    let more : take (n + 1) object.relocs ≡ take n object.relocs ++ reloc ∷ [] = take_more object.relocs n no_reloc there ∙ ap (λ (r : Reloc). take n object.relocs ++ r ∷ []) (sym is) in
+pub AreHeads-next : (object : Object) (relocs : List Reloc) (n : ℕ) (reloc : Reloc) (heads : Heads) → n < length relocs → reloc ≡ reloc_by relocs n
+    → AreHeads object.symbols (take n relocs ++ reloc ∷ []) heads → AreHeads object.symbols (take (n + 1) relocs) heads
+AreHeads-next object relocs n reloc heads there is are =
+    let more : take (n + 1) relocs ≡ take n relocs ++ reloc ∷ [] = take_more relocs n no_reloc there ∙ ap (λ (r : Reloc). take n relocs ++ r ∷ []) (sym is) in
     subst (λ (relocs : List Reloc). AreHeads object.symbols relocs heads) (sym more) are

@@ -1,4 +1,5 @@
 pub mod Checking
 pub mod Held
 pub mod Linked
+pub mod Naming
 pub mod Pairs

@@ -1,5 +1,5 @@
--- The checks of the relocations of an object, in order: the first that fails has the number and the place. They go
--- over the relocations twice.
+-- The checks of the relocations of an object's code, in order: the first that fails has the number and the place. They
+-- go over these relocations twice.
 use Rattle.std.specs.Prelude.{ℕ, ◌+◌, ◌%◌, ◌==◌, ◌&&◌, nat_le, pos, not, Bool, is_some, is_none, Option, None, Some, Result, Ok, Err, List, [], ◌∷◌, take, length, get_or, ◌≡◌}
 use Rattle.rt_base.specs.First.{fault_if, first_of, first_each}
 use Rattle.rt_elf.specs.declared.object.Object.{Object}
@@ -10,7 +10,7 @@ use Rattle.rt_insn.specs.Word.{field}
 use Rattle.rt_link.specs.declared.fault.LinkFault.{LinkFault}
 use Rattle.rt_link.specs.declared.fault.LinkFault.TheVariants.{Bad, Memory}
 use Rattle.rt_link.specs.Kinds.{kind_of, has_effect, is_call, is_pcrel_low}
-use Rattle.rt_link.specs.Effects.{place_of, symbol_place, head_at, high_at}
+use Rattle.rt_link.specs.Effects.{code_relocs, place_of, symbol_place, head_at, high_at}
 
 -- one check of a relocation: where it fails, its number and the relocation's place
 abbrev pub fault_at : Bool → ℕ → Reloc → Option LinkFault
@@ -40,11 +40,11 @@ place_fault object earlier reloc = let kind = kind_of reloc.kind in first_of (
     ∷ fault_at (has_effect kind && is_some (head_at earlier (place_of reloc))) 22 reloc
     ∷ [])
 
--- The second time, of a relocation: if it is about a PCREL_HI20, that stands at the place of its symbol, and if it is
--- a call, it is one of a pair.
-unfoldable pub partner_fault : Object → Reloc → Option LinkFault
-partner_fault object reloc = let kind = kind_of reloc.kind in first_of (
-    fault_at (is_pcrel_low kind && not (is_some (high_at object.relocs (symbol_place object.symbols reloc.symbol)))) 23 reloc
+-- The second time, of a relocation among all: if it is about a PCREL_HI20, that stands at the place of its symbol, and
+-- if it is a call, it is one of a pair.
+unfoldable pub partner_fault : Object → List Reloc → Reloc → Option LinkFault
+partner_fault object relocs reloc = let kind = kind_of reloc.kind in first_of (
+    fault_at (is_pcrel_low kind && not (is_some (high_at relocs (symbol_place object.symbols reloc.symbol)))) 23 reloc
     ∷ fault_at (is_call kind && not (has_pair object reloc)) 24 reloc
     ∷ [])
 
@@ -53,19 +53,19 @@ abbrev pub no_reloc : Reloc
 no_reloc = record { section = 0; offset = 0; kind = 0; symbol = 0; addend = pos 0 }
 
 -- the relocation of an index
-abbrev pub reloc_by : Object → ℕ → Reloc
-reloc_by object index = get_or object.relocs index no_reloc
+abbrev pub reloc_by : List Reloc → ℕ → Reloc
+reloc_by relocs index = get_or relocs index no_reloc
 
-abbrev pub places_fault : Object → Option LinkFault
-places_fault object =
-    first_each (λ i. place_fault object (take i object.relocs) (reloc_by object i)) 0 (length object.relocs)
+-- the first time and the second time, of each of some relocations in order
+abbrev pub places_fault : Object → List Reloc → Option LinkFault
+places_fault object relocs = first_each (λ i. place_fault object (take i relocs) (reloc_by relocs i)) 0 (length relocs)
 
-abbrev pub partners_fault : Object → Option LinkFault
-partners_fault object = first_each (λ i. partner_fault object (reloc_by object i)) 0 (length object.relocs)
+abbrev pub partners_fault : Object → List Reloc → Option LinkFault
+partners_fault object relocs = first_each (λ i. partner_fault object relocs (reloc_by relocs i)) 0 (length relocs)
 
 -- all checks
 abbrev pub link_fault : Object → Option LinkFault
-link_fault object = first_of (places_fault object ∷ partners_fault object ∷ [])
+link_fault object = let relocs = code_relocs object in first_of (places_fault object relocs ∷ partners_fault object relocs ∷ [])
 
 -- a check answers Ok where there is no fault, else the fault
 abbrev pub checked : Option LinkFault → Result (Unit {0}) LinkFault

@@ -2,7 +2,7 @@
 use Rattle.std.specs.Prelude.{◌≡◌, ◌≢◌, ◌↔◌, ℕ, ℤ, ◌+◌, ◌%◌, ◌<◌, ◌≤◌, ◌^◌, IsTrue, Option, Some, None, IfSome, length}
 use Rattle.rt_elf.specs.declared.object.Object.{Object}
 use Rattle.rt_elf.specs.Fields.{word_at}
-use Rattle.rt_elf.specs.Object.{section_of, IsLinkable}
+use Rattle.rt_elf.specs.Object.{section_of, HasWord, IsLinkable}
 use Rattle.rt_elf.specs.Sections.{is_code_section}
 use Rattle.rt_insn.specs.Table.{IsCode}
 use Rattle.rt_insn.specs.declared.insn.Insn.TheVariants.{Auipc, Jalr}
@@ -11,6 +11,7 @@ use Rattle.rt_link.specs.declared.link.Link.TheVariants.{Target, Pair, High, Low
 use Rattle.rt_link.specs.declared.place.Place.{Place}
 use Rattle.rt_link.specs.Checks.{is_pair, link_fault}
 use Rattle.rt_link.specs.Effects.{link_at}
+use Rattle.rt_link.specs.Pointers.{pointer_at}
 
 -- AUIPC r, and JALR with base r, where r isn't x0
 pub record ArePair (first second : ℕ) : Type 0 where
@@ -51,3 +52,15 @@ IsAboutSymbol object link = IfSome link (λ l. symbol_of l < length object.symbo
 
 abbrev pub IsLawOfSymbols : Type 0
 IsLawOfSymbols = (object : Object) (place : Place) → IsLinkable object → IsAboutSymbol object (link_at object place)
+
+-- where no check fails, a link stands at a word of a section of code
+abbrev pub IsLawOfPlaces : Type 0
+IsLawOfPlaces =
+    (object : Object) (place : Place) → IsLinkable object → link_fault object ≡ None
+    → IfSome (link_at object place) (λ l. HasWord object place.section place.offset)
+
+-- a pointer is about a symbol of the object
+abbrev pub IsLawOfPointers : Type 0
+IsLawOfPointers =
+    (object : Object) (place : Place) → IsLinkable object
+    → IfSome (pointer_at object place) (λ reloc. reloc.symbol < length object.symbols)

@@ -3,3 +3,4 @@ pub mod Effects
 pub mod Kinds
 pub mod Laws
 pub mod Links
+pub mod Pointers

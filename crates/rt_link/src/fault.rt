@@ -6,8 +6,8 @@ ghost use Rattle.rt_link.specs.declared.fault.LinkFault.TheVariants.{Memory};
 use rt_elf::Reloc;
 use std::alloc::AllocError;
 
-/// Why the relocations of an object can't be read: a number with the section and the offset of a relocation, or want
-/// of memory (RISC-V psABI, "Relocations").
+/// Why the relocations of an object's code can't be read: a number with the section and the offset of a relocation, or
+/// out of memory (RISC-V psABI, "Relocations").
 ///
 /// - 20: its type isn't one of those that code may have here.
 /// - 21: it has an effect, and no whole word at a multiple of 4 stands at its place.

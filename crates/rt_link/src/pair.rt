@@ -1,6 +1,6 @@
 // The two instructions of a far call (RISC-V psABI, "Relocations", R_RISCV_CALL).
 ghost use Rattle.std.specs.Prelude.{◌≡◌, ◌+◌, ◌^◌, ◌<◌, ◌==◌, ◌&&◌, IsTrue, Option, None, if◌then◌else◌, length};
-ghost use Rattle.rt_elf.specs.Object.{section_of, IsInFile};
+ghost use Rattle.rt_elf.specs.Object.{section_of};
 ghost use Rattle.rt_elf.specs.Sections.{is_code_section};
 ghost use Rattle.rt_insn.specs.Word.{field};
 ghost use Rattle.rt_link.specs.Checks.{is_pair, has_room, has_pair};
@@ -44,13 +44,12 @@ pub(crate) fn has_room(object: &Object, reloc: &Reloc, size: u32) -> bool
     ensures room { result ≡ has_room object.now reloc.now size }
     ensures fits { IsTrue result → reloc.now.offset + size < 2 ^ 32 }
 {
-    let section = object.sections.items()[reloc.section as usize];
+    let section = object.sections()[reloc.section as usize];
     reloc.offset % 4 == 0 && reloc.offset as u64 + size as u64 <= section.size as u64
 }
 
 // Whether such a pair stands at the place of a relocation of code.
 pub(crate) fn has_pair(object: &Object, reloc: &Reloc) -> bool
-    requires in_file { IsInFile object.now }
     requires there { reloc.now.section < length object.now.sections }
     requires code { IsTrue (is_code_section (section_of object.now reloc.now.section)) }
     ensures { result ≡ has_pair object.now reloc.now }

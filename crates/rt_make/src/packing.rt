@@ -134,7 +134,7 @@ pub fn pack(
     push_file_header(&mut out, layout.headers_place())?;
     push_words(&mut out, code)?;
     push_relocs(&mut out, relocs)?;
-    push_symbol(&mut out, 0, &Symbol::zero(alloc))?;
+    push_symbol(&mut out, 0, &Symbol::zero(alloc)?)?;
     push_symbols(&mut out, symbols)?;
     out.extend_from_slice(&strings)?;
     push_zeros(&mut out, layout.padding())?;

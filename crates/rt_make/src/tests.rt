@@ -2,7 +2,7 @@ ghost use Rattle.std.specs.Prelude.{◌≡◌, IfOk, pos};
 
 use crate::pack;
 use rt_base::{Bytes, Memory};
-use rt_elf::{Reloc, Symbol};
+use rt_elf::{Name, Reloc, Symbol};
 use std::alloc::Global;
 use std::test::Fail;
 
@@ -26,7 +26,7 @@ fn function(alloc: Global, name: &[u8]) -> Result<Symbol, Memory>
     ensures { IfOk result (λ symbol. symbol ≡ record { name = name.now; value = 0; size = 0; bind = 1; kind = 2; section = 1 }) }
 {
     Ok(Symbol {
-        name: Bytes::from_vec(name.to_vec(alloc)?),
+        name: Name::from_bytes(alloc, Bytes::from_vec(name.to_vec(alloc)?))?,
         value: 0,
         size: 0,
         bind: 1,

@@ -1,8 +1,8 @@
 -- What the first of some sites call.
-use Rattle.std.proofs.Common.{◌≡◌, ℕ, ◌+◌, ◌<◌, ◌≤◌, ◌⊎◌, ◌↔◌, inl, inr, List, [], ◌∷◌, ◌++◌, Contains, length, get_or, take, sym, subst}
+use Rattle.std.proofs.Common.{◌≡◌, ℕ, ◌+◌, ◌<◌, ◌≤◌, ◌⊎◌, ◌↔◌, inl, inr, Result, Ok, Err, IfOk, List, [], ◌∷◌, ◌++◌, Contains, length, get_or, take, sym, subst}
 use Rattle.std.proofs.lemmas.List.{take_more, take_all}
 use Rattle.std.proofs.lemmas.List.Elements.{All-contains, Contains-get_or, Contains-append_left, Contains-append_right, Contains-append_cases, Contains-push, Contains-push_cases}
-use Rattle.rt_elf.specs.declared.object.Object.{Object}
+use Rattle.rt_elf.specs.Parts.{Parts as Object}
 use Rattle.rt_link.specs.declared.place.Place.{Place}
 use Rattle.rt_control.specs.Laws.{IsGood, IsLawOfPlaces}
 use Rattle.rt_proc.specs.Bodies.{AreEntries}
@@ -75,3 +75,8 @@ module _ (object : Object) (functions reached entries : List Place) (rising : Ar
     same = λ p. ((λ h. is_entry p ((same p).0 h)), λ e. (same p).1 (entry_is p e));
     good = λ k d within. let p = get_or entries k d in good_entry object law p (is_entry p ((same p).0 (Contains-get_or entries k d within)));
   }
+
+-- two facts of one answer
+pub IfOk-both : {T E : Type 0} (result : Result T E) (P Q R : T → Type 0) → ((x : T) → P x → Q x → R x) → IfOk result P → IfOk result Q → IfOk result R
+IfOk-both (Ok x) P Q R both h k = both x h k
+IfOk-both (Err e) P Q R both h k = tt

@@ -1,7 +1,7 @@
 -- Entries as the least set that is closed under calls.
 use Rattle.std.proofs.Common.{◌≡◌, inl, inr, Bool, true, false, IsTrue, List, refl, sym, subst, ◌∙◌}
 use Rattle.std.proofs.lemmas.List.Elements.{Contains-append_left, Contains-append_right, Contains-append_cases}
-use Rattle.rt_elf.specs.declared.object.Object.{Object}
+use Rattle.rt_elf.specs.Parts.{Parts as Object}
 use Rattle.rt_elf.proofs.Booleans.{cases_bool}
 use Rattle.rt_link.specs.declared.place.Place.{Place}
 use Rattle.rt_proc.specs.declared.proc.Proc.{Proc}

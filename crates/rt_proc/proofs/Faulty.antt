@@ -1,9 +1,9 @@
 -- The first fault of a list in order.
-use Rattle.std.proofs.Common.{◌≡◌, ℕ, ◌+◌, ◌<◌, ◌≤◌, ◌⊎◌, ◌↔◌, inl, inr, Result, Ok, Err, List, [], ◌∷◌, ◌++◌, All, Contains, length, get_or, take, refl, sym, ap, subst, ◌∙◌, arith}
+use Rattle.std.proofs.Common.{◌≡◌, ℕ, ◌+◌, ◌<◌, ◌≤◌, ◌⊎◌, ◌↔◌, inl, inr, Ok, Err, List, [], ◌∷◌, ◌++◌, All, Contains, length, get_or, take, refl, sym, ap, subst, ◌∙◌, arith}
 use Rattle.std.proofs.lemmas.Bool.{cases_lt, cases_eq}
 use Rattle.std.proofs.lemmas.List.{take_more, take_all, length-take, get_or-take, get_or_default, map-append}
 use Rattle.std.proofs.lemmas.List.Elements.{All-nil, All-push, Contains-get_or, Contains-push_cases}
-use Rattle.rt_elf.specs.declared.object.Object.{Object}
+use Rattle.rt_elf.specs.Parts.{Parts as Object}
 use Rattle.rt_link.specs.declared.place.Place.{Place}
 use Rattle.rt_control.specs.declared.fault.SiteFault.{SiteFault}
 use Rattle.rt_control.specs.declared.form.Form.{Form}
@@ -15,6 +15,7 @@ use Rattle.rt_proc.specs.Faults.{IsSound, IsFirstIn}
 use Rattle.rt_proc.specs.Order.{IsBelow, AreRising}
 use Rattle.rt_proc.specs.Procs.{places_of, IsSite}
 use Rattle.rt_proc.specs.Sites.{site_of}
+use Rattle.rt_proc.proofs.Forms.{no_form}
 use Rattle.rt_proc.proofs.Inserted.{Contains-none}
 use Rattle.rt_proc.proofs.PlaceLaws.{IsBelow-irreflexive}
 
@@ -49,8 +50,8 @@ earlier ps i d q rising within h below = elim (cases_lt h.0 i) [
 abbrev pub IsSoundAt : Object → Place → Type 0
 IsSoundAt object place = (fault : SiteFault) → IsAt object place (Err fault) → ⊥
 
-pub sound-at : (object : Object) (place : Place) (form : Form) (result : Result Form SiteFault) → result ≡ Ok form → ((other : Result Form SiteFault) → IsAt object place other → other ≡ result) → IsSoundAt object place
-sound-at object place form result is only fault h = let e : ◌≡◌ {A = Result Form SiteFault} (Err fault) (Ok form) = only (Err fault) h ∙ is in cc
+pub sound-at : (object : Object) (place : Place) (form : Form) → IsAt object place (Ok form) → IsSoundAt object place
+sound-at object place form is_at fault h = no_form object place fault form h is_at
 
 -- the first i places have no fault
 abbrev pub AreSoundAt : Object → List Place → Type 0
@@ -87,17 +88,16 @@ module _ (object : Object) (entries : List Place) (own : Place) (body : List Pla
     sound = λ p h. absurd (Contains-none p h);
   }
 
-  pub sites-more : (i : ℕ) (d : Place) (sites new : List Site) (site : Site) (form : Form) (result : Result Form SiteFault) → i < length body → new ≡ sites ++ site ∷ []
-      → site ≡ site_of entries own (get_or body i d) form → result ≡ Ok form → IsAt object (get_or body i d) result → ((other : Result Form SiteFault) → IsAt object (get_or body i d) other → other ≡ result)
+  pub sites-more : (i : ℕ) (d : Place) (sites new : List Site) (site : Site) (form : Form) → i < length body → new ≡ sites ++ site ∷ []
+      → site ≡ site_of entries own (get_or body i d) form → IsAt object (get_or body i d) (Ok form)
       → AreSites object entries own body i sites → AreSites object entries own body (i + 1) new
-  sites-more i d sites new site form result within push made is is_at only old =
+  sites-more i d sites new site form within push made is_at old =
       let place : Place = get_or body i d in
-      let at : IsAt object place (Ok form) = subst (IsAt object place) is is_at in
-      let one : IsSite object entries own (site_of entries own place form) = record { form = form; is_at = at; is_site = refl } in
+      let one : IsSite object entries own (site_of entries own place form) = record { form = form; is_at = is_at; is_site = refl } in
       record {
         places =
             ap places_of push ∙ map-append (λ (s : Site). s.place) sites (site ∷ [])
             ∙ (λ j. old.places j ++ (made j).place ∷ []) ∙ sym (take_more body i d within);
         each = subst (All (IsSite object entries own)) (sym push) (All-push (IsSite object entries own) sites site old.each (subst (IsSite object entries own) (sym made) one));
-        sound = sound-more object body i d within old.sound (sound-at object place form result is only);
+        sound = sound-more object body i d within old.sound (sound-at object place form is_at);
       }

@@ -1,7 +1,7 @@
 -- What the form of a site says of its steps and calls.
-use Rattle.std.proofs.Common.{◌≡◌, ◌↔◌, inl, inr, Some, None, Result, Ok, List, [], ◌∷◌, ◌++◌, All, Contains, refl, sym, ap, subst, ◌∙◌}
+use Rattle.std.proofs.Common.{◌≡◌, ◌↔◌, inl, inr, Some, None, Ok, Err, [], ◌∷◌, ◌++◌, All, Contains, subst}
 use Rattle.std.proofs.lemmas.List.Elements.{All-nil, All-cons, All-append}
-use Rattle.rt_elf.specs.declared.object.Object.{Object}
+use Rattle.rt_elf.specs.Parts.{Parts as Object}
 use Rattle.rt_elf.proofs.Booleans.{cases_bool}
 use Rattle.rt_link.specs.Effects.{is_place}
 use Rattle.rt_link.specs.declared.place.Place.{Place}
@@ -13,11 +13,15 @@ use Rattle.rt_control.specs.declared.form.Form.TheVariants.{Plain, Call, Tail, R
 use Rattle.rt_control.specs.declared.form.Target.{Target}
 use Rattle.rt_control.specs.declared.form.Target.TheVariants as target
 use Rattle.rt_control.specs.declared.form.Way.{Way}
-use Rattle.rt_control.specs.declared.form.Way.TheVariants.{On, Jump, Branch, Leave}
+use Rattle.rt_control.specs.declared.form.Way.TheVariants.{On, Jump, Branch, Leave, Table}
 use Rattle.rt_control.specs.Laws.{IsGood, IsGoodWay, IsGoodCalled, IsGoodTarget, IsGoodForm}
 use Rattle.rt_control.specs.Sites.{IsAt}
+use Rattle.rt_control.proofs.GoodForms.{at-good}
+use Rattle.rt_control.proofs.OneForm.{one_at}
 use Rattle.rt_proc.specs.Entries.{LeadsTo, Calls}
+use Rattle.rt_proc.specs.Looks.{Look, led_by, called_by}
 use Rattle.rt_proc.specs.Steps.{way_steps, steps, called_code, target_code, callees}
+use Rattle.rt_proc.proofs.Inserted.{Contains-none}
 
 -- the places of a form are good
 
@@ -32,6 +36,7 @@ good-way object (Branch place after) h = elim (cases_bool (is_place place after)
   | inr apart ↦ rw apart (All-cons (IsGood object) place (after ∷ []) h.0 (one object after h.1))
 ]
 good-way object (Leave symbol) h = All-nil (IsGood object)
+good-way object (Table places) h = h
 
 pub good-steps : (object : Object) (form : Form) → IsGoodForm object form → All (IsGood object) (steps form)
 good-steps object (Plain insn way) h = good-way object way h
@@ -57,27 +62,30 @@ good-callees object (Tail leads) h = good-target object leads h
 good-callees object Return h = All-nil (IsGood object)
 good-callees object Stop h = All-nil (IsGood object)
 
-pub good-led : (object : Object) (form : Form) (items led called : List Place) → IsGoodForm object form → items ≡ led ++ called → led ≡ steps form → called ≡ callees form → All (IsGood object) items
-good-led object form items led called h is e f =
-    subst (All (IsGood object)) (sym (is ∙ rw (e, f) refl)) (All-append (IsGood object) (steps form) (callees form) (good-steps object form h) (good-callees object form h))
+-- what the look at a place says
 
--- what the one form at a place says
-module _ (object : Object) (place : Place) (form : Form) (result : Result Form SiteFault) (is : result ≡ Ok form) (is_at : IsAt object place result) (only : (other : Result Form SiteFault) → IsAt object place other → other ≡ result) where
-  at : IsAt object place (Ok form)
-  at = subst (IsAt object place) is is_at
+pub one_form : (object : Object) (place : Place) (form other : Form) → IsAt object place (Ok form) → IsAt object place (Ok other) → other ≡ form
+one_form object place form other is_at h = let e : ◌≡◌ {A = Look} (Ok other) (Ok form) = one_at object place (Ok other) (Ok form) h is_at in cc
 
-  pub one_form : (other : Form) → IsAt object place (Ok other) → other ≡ form
-  one_form other h = let e : ◌≡◌ {A = Result Form SiteFault} (Ok other) (Ok form) = only (Ok other) h ∙ is in cc
+pub no_form : (object : Object) (place : Place) (fault : SiteFault) (form : Form) → IsAt object place (Err fault) → IsAt object place (Ok form) → ⊥
+no_form object place fault form is_at h = let e : ◌≡◌ {A = Look} (Ok form) (Err fault) = one_at object place (Ok form) (Err fault) h is_at in cc
 
-  pub leads : (items led called : List Place) → items ≡ led ++ called → led ≡ steps form → called ≡ callees form → (to : Place) → Contains items to ↔ LeadsTo object place to
-  leads items led called all e f to =
-      let is : items ≡ steps form ++ callees form = all ∙ rw (e, f) refl in (
-        (λ h. record { form = form; is_at = at; leads = subst (λ (places : List Place). Contains places to) is h }),
-        λ h. subst (λ (places : List Place). Contains places to) (ap (λ (f : Form). steps f ++ callees f) (one_form h.form h.is_at) ∙ sym is) h.leads,
-      )
+pub leads : (object : Object) (place : Place) (look : Look) → IsAt object place look → (to : Place) → Contains (led_by look) to ↔ LeadsTo object place to
+leads object place (Ok form) is_at to = (
+  (λ h. record { form = form; is_at = is_at; leads = h }),
+  λ h. subst (λ (f : Form). Contains (steps f ++ callees f) to) (one_form object place form h.form is_at h.is_at) h.leads,
+)
+leads object place (Err fault) is_at to = ((λ h. absurd (Contains-none to h)), λ h. absurd (no_form object place fault h.form is_at h.is_at))
 
-  pub calls : (items : List Place) → items ≡ callees form → (to : Place) → Contains items to ↔ Calls object place to
-  calls items e to = (
-    (λ h. record { form = form; is_at = at; calls = subst (λ (places : List Place). Contains places to) e h }),
-    λ h. subst (λ (places : List Place). Contains places to) (ap callees (one_form h.form h.is_at) ∙ sym e) h.calls,
-  )
+pub good-led : (object : Object) (place : Place) (look : Look) → IsAt object place look → All (IsGood object) (led_by look)
+good-led object place (Ok form) is_at =
+    let good : IsGoodForm object form = at-good object place (Ok form) is_at in
+    All-append (IsGood object) (steps form) (callees form) (good-steps object form good) (good-callees object form good)
+good-led object place (Err fault) is_at = All-nil (IsGood object)
+
+pub calls : (object : Object) (place : Place) (look : Look) → IsAt object place look → (to : Place) → Contains (called_by look) to ↔ Calls object place to
+calls object place (Ok form) is_at to = (
+  (λ h. record { form = form; is_at = is_at; calls = h }),
+  λ h. subst (λ (f : Form). Contains (callees f) to) (one_form object place form h.form is_at h.is_at) h.calls,
+)
+calls object place (Err fault) is_at to = ((λ h. absurd (Contains-none to h)), λ h. absurd (no_form object place fault h.form is_at h.is_at))

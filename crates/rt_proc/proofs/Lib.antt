@@ -5,6 +5,7 @@ pub mod Faulty
 pub mod Forms
 pub mod FunctionLists
 pub mod Inserted
+pub mod Looking
 pub mod Naming
 pub mod Numbered
 pub mod OneFault

@@ -1,20 +1,18 @@
 -- Steps that stay in a body.
-use Rattle.std.proofs.Common.{◌≡◌, ◌↔◌, inl, inr, Bool, true, false, not, Result, Ok, Err, List, [], ◌∷◌, All, Contains, filter, get_or, refl, sym, ap, subst, ◌∙◌}
-use Rattle.std.proofs.lemmas.List.Elements.{All-filter, All-contains, Contains-get_or}
+use Rattle.std.proofs.Common.{◌≡◌, ◌↔◌, inl, inr, Bool, true, false, not, Ok, Err, List, [], ◌∷◌, Contains, filter, refl, sym, ap, subst, ◌∙◌}
 use Rattle.std.proofs.lemmas.List.Folds.{list_any_at}
-use Rattle.rt_elf.specs.declared.object.Object.{Object}
+use Rattle.rt_elf.specs.Parts.{Parts as Object}
 use Rattle.rt_elf.proofs.Booleans.{cases_bool}
 use Rattle.rt_link.specs.Effects.{is_place}
 use Rattle.rt_link.specs.declared.place.Place.{Place}
-use Rattle.rt_control.specs.declared.fault.SiteFault.{SiteFault}
 use Rattle.rt_control.specs.declared.form.Form.{Form}
-use Rattle.rt_control.specs.Laws.{IsGood, IsGoodForm}
 use Rattle.rt_control.specs.Sites.{IsAt}
 use Rattle.rt_proc.specs.Bodies.{StepsTo}
 use Rattle.rt_proc.specs.Entries.{IsEntry}
-use Rattle.rt_proc.specs.Sites.{is_entry, is_other, next_of}
+use Rattle.rt_proc.specs.Looks.{Look, stepped_by}
+use Rattle.rt_proc.specs.Sites.{is_entry, is_other}
 use Rattle.rt_proc.specs.Steps.{steps}
-use Rattle.rt_proc.proofs.Forms.{good-steps, one_form}
+use Rattle.rt_proc.proofs.Forms.{one_form, no_form}
 use Rattle.rt_proc.proofs.Inserted.{Contains-none, Contains-here, Contains-there, Contains-cons_cases}
 use Rattle.rt_proc.proofs.PlaceLaws.{is_place-same, is_place-self}
 
@@ -67,29 +65,16 @@ module _ (object : Object) (entries : List Place) (own : Place) (same : (p : Pla
         rw (entry, one) refl
   ]
 
-  module _ (place : Place) (form : Form) (result : Result Form SiteFault) (is : result ≡ Ok form) (is_at : IsAt object place result) (only : (other : Result Form SiteFault) → IsAt object place other → other ≡ result) where
-    pub stepped : (items : List Place) → items ≡ next_of entries own form → (to : Place) → Contains items to ↔ StepsTo object own place to
-    stepped items e to = (
-      (λ h.
-          let kept = filter-source (λ p. not (is_other entries own p)) (steps form) to (subst (λ (places : List Place). Contains places to) e h) in
-          record { form = form; is_at = subst (IsAt object place) is is_at; steps = kept.0; stays = stays to kept.1 }
-          ),
-      λ h. subst (λ (places : List Place). Contains places to) (sym e)
-          (filter-has (λ p. not (is_other entries own p)) (steps form) to
-          (subst (λ (f : Form). Contains (steps f) to) (one_form object place form result is is_at only h.form h.is_at) h.steps) (stays-test to h.stays)),
-    )
-
-pub good-next : (object : Object) (entries : List Place) (own : Place) (form : Form) (items : List Place) → IsGoodForm object form → items ≡ next_of entries own form → All (IsGood object) items
-good-next object entries own form items h e =
-    subst (All (IsGood object)) (sym e) (All-filter (λ p. not (is_other entries own p)) (IsGood object) (steps form) (good-steps object form h))
-
--- a site with a fault steps nowhere
-pub unstepped : (object : Object) (own place : Place) (fault : SiteFault) (result : Result Form SiteFault) → result ≡ Err fault → ((other : Result Form SiteFault) → IsAt object place other → other ≡ result)
-    → (items : List Place) → items ≡ [] → (to : Place) → Contains items to ↔ StepsTo object own place to
-unstepped object own place fault result is only items none to = (
-  (λ h. absurd (Contains-none to (subst (λ (places : List Place). Contains places to) none h))),
-  λ h. let e : ◌≡◌ {A = Result Form SiteFault} (Ok h.form) (Err fault) = only (Ok h.form) h.is_at ∙ is in cc,
-)
+  pub stepped : (place : Place) (look : Look) → IsAt object place look → (to : Place) → Contains (stepped_by entries own look) to ↔ StepsTo object own place to
+  stepped place (Ok form) is_at to = (
+    (λ h.
+        let kept = filter-source (λ p. not (is_other entries own p)) (steps form) to h in
+        record { form = form; is_at = is_at; steps = kept.0; stays = stays to kept.1 }
+        ),
+    λ h. filter-has (λ p. not (is_other entries own p)) (steps form) to
+        (subst (λ (f : Form). Contains (steps f) to) (one_form object place form h.form is_at h.is_at) h.steps) (stays-test to h.stays),
+  )
+  stepped place (Err fault) is_at to = ((λ h. absurd (Contains-none to h)), λ h. absurd (no_form object place fault h.form is_at h.is_at))
 
 -- where a body starts
 pub one-place : (own p : Place) → Contains (own ∷ []) p ↔ (p ≡ own)
@@ -97,7 +82,3 @@ one-place own p = (
   (λ h. elim (Contains-cons_cases own [] p h) [ inl e ↦ sym e | inr none ↦ absurd (Contains-none p none) ]),
   λ e. subst (Contains (own ∷ [])) (sym e) (Contains-here own []),
 )
-
--- what holds of a list's places holds of those of one that has no others
-pub All-same_places : (P : Place → Type 0) (xs ys : List Place) → ((p : Place) → Contains xs p → Contains ys p) → All P ys → All P xs
-All-same_places P xs ys h all = λ k d within. All-contains P ys (get_or xs k d) all (h (get_or xs k d) (Contains-get_or xs k d within))

@@ -3,8 +3,7 @@ use Rattle.std.proofs.Common.{◌≡◌, ℕ, ◌+◌, ◌<◌, ◌≤◌, ◌�
 use Rattle.std.proofs.lemmas.Option.{slice_get_within, get_or_from_slice_get}
 use Rattle.std.proofs.lemmas.List.{take_more, take_all, take-append-le}
 use Rattle.std.proofs.lemmas.List.Elements.{Contains-push_cases, All-contains}
-use Rattle.indexmap.specs.IndexSet.{insert_all}
-use Rattle.rt_link.specs.Effects.{is_place}
+use Rattle.rt_control.specs.Tables.{with_places}
 use Rattle.rt_link.specs.declared.place.Place.{Place}
 use Rattle.rt_proc.specs.Walks.{Walk}
 use Rattle.rt_proc.proofs.Inserted.{Contains-none, inserted-front, inserted-source, inserted-stays, inserted-has}
@@ -16,6 +15,14 @@ pub record IsWalking (Starts : Place → Type 0) (Leads : Place → Place → Ty
   pub starts : (p : Place) → Starts p → Contains found p
   pub closed : (p q : Place) → Contains (take i found) p → Leads p q → Contains found q
 
+-- the places that were followed, with the next
+pub followed-next : (found led found' : List Place) (i : ℕ) (place : Place) → slice_get found i ≡ Some place → found' ≡ with_places found led → take (i + 1) found' ≡ take i found ++ place ∷ []
+followed-next found led found' i place at is =
+    let within : i < length found = slice_get_within found i place at in
+    let here : get_or found i place ≡ place = get_or_from_slice_get found i place place at in
+    let front = inserted-front led found in
+    ap (take (i + 1)) (is ∙ front.1) ∙ take-append-le (i + 1) found front.0 (omega arith) ∙ take_more found i place within ∙ ap (λ (p : Place). take i found ++ p ∷ []) here
+
 module _ (Starts : Place → Type 0) (Leads : Place → Place → Type 0) (Good : Place → Type 0) where
   pub begins : (found : List Place) → ((p : Place) → Contains found p ↔ Starts p) → ((p : Place) → Starts p → Good p) → IsWalking Starts Leads Good found 0
   begins found same good = record {
@@ -26,14 +33,12 @@ module _ (Starts : Place → Type 0) (Leads : Place → Place → Type 0) (Good 
   }
 
   -- the next one is followed
-  pub goes_on : (found led found' : List Place) (i : ℕ) (place : Place) → slice_get found i ≡ Some place → found' ≡ insert_all is_place found led
+  pub goes_on : (found led found' : List Place) (i : ℕ) (place : Place) → slice_get found i ≡ Some place → found' ≡ with_places found led
       → ((q : Place) → Contains led q ↔ Leads place q) → All Good led → IsWalking Starts Leads Good found i → IsWalking Starts Leads Good found' (i + 1)
   goes_on found led found' i place at is leads good walking =
       let within : i < length found = slice_get_within found i place at in
       let here : get_or found i place ≡ place = get_or_from_slice_get found i place place at in
-      let front = inserted-front led found in
-      let first : take (i + 1) found' ≡ take i found ++ place ∷ [] =
-      ap (take (i + 1)) (is ∙ front.1) ∙ take-append-le (i + 1) found front.0 (omega arith) ∙ take_more found i place within ∙ ap (λ (p : Place). take i found ++ p ∷ []) here in
+      let first : take (i + 1) found' ≡ take i found ++ place ∷ [] = followed-next found led found' i place at is in
       let stays : (q : Place) → Contains found q → Contains found' q = λ q h. subst (λ (places : List Place). Contains places q) (sym is) (inserted-stays led found q h) in
       let came : (q : Place) → Contains found' q → Contains found q ⊎ Contains led q = λ q h. inserted-source led found q (subst (λ (places : List Place). Contains places q) is h) in
       let has : (q : Place) → Leads place q → Contains found' q = λ q l. subst (λ (places : List Place). Contains places q) (sym is) (inserted-has led found q ((leads q).1 l)) in
@@ -48,13 +53,17 @@ module _ (Starts : Place → Type 0) (Leads : Place → Place → Type 0) (Good 
         ];
       }
 
+  -- the next one is walked to
+  pub next-walked : (found : List Place) (i : ℕ) (place : Place) → slice_get found i ≡ Some place → IsWalking Starts Leads Good found i → Walk Starts Leads place
+  next-walked found i place at walking = walking.walked place (i, slice_get_within found i place at, get_or_from_slice_get found i place place at)
+
   -- the next one is good
   pub next-good : (found : List Place) (i : ℕ) (place : Place) → slice_get found i ≡ Some place → IsWalking Starts Leads Good found i → Good place
   next-good found i place at walking = walking.good place (i, slice_get_within found i place at, get_or_from_slice_get found i place place at)
 
   -- all were followed
   module _ (found : List Place) (i : ℕ) (whole : length found ≤ i) (walking : IsWalking Starts Leads Good found i) where
-    all : (p : Place) → Walk Starts Leads p → Contains found p
+    pub all : (p : Place) → Walk Starts Leads p → Contains found p
     all p (Walk.start s) = walking.starts p s
     all p (Walk.step {x} w l) = walking.closed x p (subst (λ (places : List Place). Contains places x) (sym (take_all i found whole)) (all x w)) l
 

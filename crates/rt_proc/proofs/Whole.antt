@@ -2,7 +2,7 @@
 use Rattle.std.proofs.Common.{◌≡◌, ℕ, zero, suc, ◌<◌, inl, inr, true, not, Ok, List, [], ◌∷◌, map, filter, All, Contains, length, get_or, refl, sym, ap, subst, arith}
 use Rattle.std.proofs.lemmas.List.{length-map}
 use Rattle.std.proofs.lemmas.List.Elements.{All-nil, All-cons, All-map, Contains-get_or}
-use Rattle.rt_elf.specs.declared.object.Object.{Object}
+use Rattle.rt_elf.specs.Parts.{Parts as Object}
 use Rattle.rt_elf.proofs.Booleans.{cases_bool, and-true}
 use Rattle.rt_link.specs.Effects.{is_place}
 use Rattle.rt_link.specs.declared.place.Place.{Place}
@@ -13,7 +13,7 @@ use Rattle.rt_control.specs.declared.form.Form.TheVariants as form
 use Rattle.rt_control.specs.declared.form.Target.{Target}
 use Rattle.rt_control.specs.declared.form.Target.TheVariants as target
 use Rattle.rt_control.specs.declared.form.Way.{Way}
-use Rattle.rt_control.specs.declared.form.Way.TheVariants.{On, Jump, Branch, Leave}
+use Rattle.rt_control.specs.declared.form.Way.TheVariants.{On, Jump, Branch, Leave, Table}
 use Rattle.rt_control.specs.Laws.{IsKnownForm, IsKnownCalled, IsKnownTarget, IsKnownWay, IsLawOfNames, IsLawOfPlaces as IsLawOfFormPlaces}
 use Rattle.rt_control.specs.Sites.{IsAt}
 use Rattle.rt_proc.specs.declared.proc.Proc.{Proc}
@@ -111,6 +111,7 @@ module _ (object : Object) (entries : List Place) (count : ℕ) (counted : lengt
   way_tails-are own (On after) known = step_tails-are own (way_steps (On after))
   way_tails-are own (Jump place) known = step_tails-are own (way_steps (Jump place))
   way_tails-are own (Branch place after) known = step_tails-are own (way_steps (Branch place after))
+  way_tails-are own (Table places) known = step_tails-are own places
   way_tails-are own (Leave symbol) known = All-cons (IsCallee object count) (callee.Extern symbol) [] known (All-nil (IsCallee object count))
 
   tails-are : (own : Place) (f : Form) → All (λ p. is_entry entries p ≡ true) (callees f) → IsKnownForm object f → All (IsCallee object count) (tails_of entries own f)

@@ -1,6 +1,6 @@
 -- The bodies of procedures.
 use Rattle.std.specs.Prelude.{◌≡◌, ◌↔◌, Ok, All, Contains, List}
-use Rattle.rt_elf.specs.declared.object.Object.{Object}
+use Rattle.rt_elf.specs.Parts.{Parts as Object}
 use Rattle.rt_link.specs.declared.place.Place.{Place}
 use Rattle.rt_control.specs.declared.form.Form.{Form}
 use Rattle.rt_control.specs.Laws.{IsGood}

@@ -1,6 +1,6 @@
 -- The entries of procedures.
 use Rattle.std.specs.Prelude.{◌≡◌, ◌==◌, ◌&&◌, ◌||◌, not, Bool, IsTrue, Ok, Contains, List, ◌++◌}
-use Rattle.rt_elf.specs.declared.object.Object.{Object}
+use Rattle.rt_elf.specs.Parts.{Parts as Object}
 use Rattle.rt_elf.specs.declared.symbol.Symbol.{Symbol}
 use Rattle.rt_elf.specs.Object.{section_of}
 use Rattle.rt_elf.specs.Sections.{is_code_section}

@@ -1,7 +1,7 @@
 -- The faults of code, in order: those of symbols, then those of sites, by procedure and in it by place.
 use Rattle.std.specs.Prelude.{◌≡◌, ℕ, ◌&&◌, not, Option, Some, None, Result, Ok, Err, length, get_or}
 use Rattle.rt_base.specs.First.{fault_if, first_each}
-use Rattle.rt_elf.specs.declared.object.Object.{Object}
+use Rattle.rt_elf.specs.Parts.{Parts as Object}
 use Rattle.rt_elf.specs.declared.symbol.Symbol.{Symbol}
 use Rattle.rt_elf.specs.Symbols.{zero_symbol}
 use Rattle.rt_link.specs.declared.place.Place.{Place}

@@ -1,6 +1,6 @@
 -- What the entries, the bodies and the faults of an object's code have in common.
 use Rattle.std.specs.Prelude.{◌≡◌, ◌≢◌, ◌↔◌, ℕ, ◌<◌, IsTrue, Bool, Ok, All, Contains, List, length}
-use Rattle.rt_elf.specs.declared.object.Object.{Object}
+use Rattle.rt_elf.specs.Parts.{Parts as Object}
 use Rattle.rt_elf.specs.Object.{IsLinkable}
 use Rattle.rt_insn.specs.Range.{HasRange}
 use Rattle.rt_link.specs.declared.place.Place.{Place}

@@ -1,7 +1,9 @@
 pub mod Bodies
 pub mod Entries
 pub mod Faults
+pub mod Founds
 pub mod Laws
+pub mod Looks
 pub mod Order
 pub mod Procs
 pub mod Ready

@@ -10,14 +10,15 @@ use Rattle.rt_control.specs.declared.form.Form.TheVariants.{Plain, Call, Tail, R
 use Rattle.rt_control.specs.declared.form.Target.{Target}
 use Rattle.rt_control.specs.declared.form.Target.TheVariants as target
 use Rattle.rt_control.specs.declared.form.Way.{Way}
-use Rattle.rt_control.specs.declared.form.Way.TheVariants.{On, Jump, Branch, Leave}
+use Rattle.rt_control.specs.declared.form.Way.TheVariants.{On, Jump, Branch, Leave, Table}
 
--- the places that an instruction leads to, a target before a continuation, each once
+-- the places that an instruction leads to, a target before a continuation, those of a table in its order, each once
 abbrev pub way_steps : Way → List Place
 way_steps (On after) = after ∷ []
 way_steps (Jump place) = place ∷ []
 way_steps (Branch place after) = if is_place place after then place ∷ [] else place ∷ after ∷ []
 way_steps (Leave symbol) = []
+way_steps (Table places) = places
 
 -- the places that a site steps to: a call to its continuation, if that is good
 abbrev pub steps : Form → List Place

@@ -55,7 +55,7 @@ pub(crate) fn functions(alloc: Global, object: &Object) -> Result<Places, CodeFa
     ensures found { IfOk result (λ places. (place : Place) → Contains places place ↔ IsFunction object.now place) }
 {
     let mut places = Sequence::new(alloc);
-    for symbol in object.symbols.items() {
+    for symbol in object.symbols() {
         check_symbol(object, symbol)?;
         if is_function(object, symbol) {
             places.push(place_of(symbol))?;

@@ -6,8 +6,10 @@ mod bodies;
 mod entries;
 mod fault;
 mod finder;
+mod found;
 mod functions;
 pub mod laws;
+mod look;
 mod names;
 mod numbers;
 mod places;
@@ -22,6 +24,3 @@ pub use finder::find;
 pub use proc::{Proc, Procs};
 pub use rt_control::Place;
 pub use site::{Callee, Callees, Kind, Places, Site, Sites};
-
-#[cfg(test)]
-mod tests;

@@ -1,14 +1,15 @@
 // Procedures.
 use crate::site::Sites;
-use rt_base::{Bytes, Sequence};
+use rt_base::Sequence;
 use rt_control::Place;
+use rt_elf::Name;
 
 /// A procedure: where it is entered, its name, which is empty where no function's symbol stands there, and the sites of
 /// its body, by their places.
 #[derive(Debug, Drop)]
 pub struct Proc {
     pub entry: Place,
-    pub name: Bytes,
+    pub name: Name,
     pub sites: Sites,
 }
 

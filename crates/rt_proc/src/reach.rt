@@ -1,35 +1,21 @@
 // What is reached from functions.
-ghost use Rattle.std.specs.Prelude.{◌↔◌, IfOk, All, Contains};
-ghost use Rattle.rt_proc.specs.Entries.{IsFunction, LeadsTo, IsReached};
-ghost use Rattle.rt_control.specs.Laws.{IsGood};
+ghost use Rattle.std.specs.Prelude.{◌↔◌, IfOk, Contains};
+ghost use Rattle.rt_proc.specs.Entries.{IsFunction, IsReached};
+ghost use Rattle.rt_proc.specs.Looks.{AreLooksOf};
 ghost use Rattle.rt_proc.specs.Ready.{AreReady};
 
-use crate::places::add_all;
-use crate::steps::{callees, steps};
-use indexmap::IndexSet;
-use rt_control::{Place, form_at};
+use crate::found::Found;
+use crate::look::{Looks, led_by, look_at};
+use rt_control::Place;
 use rt_elf::Object;
 use rt_link::Links;
 use std::alloc::{AllocError, Global};
 
-// The places that a site leads to, by steps and by calls. A site with a fault leads nowhere.
-fn led_from(
-    alloc: Global,
-    object: &Object,
-    links: &Links,
-    place: Place,
-) -> Result<Vec<Place>, AllocError>
-    requires ready { AreReady object.now links.now }
-    requires is_good { IsGood object.now place }
-    ensures led { IfOk result (λ led. (to : Place) → Contains led.items to ↔ LeadsTo object.now place to) }
-    ensures good { IfOk result (λ led. All (IsGood object.now) led.items) }
-{
-    let Ok(form) = form_at(object, links, place) else {
-        return Ok(Vec::new(alloc));
-    };
-    let mut led = steps(alloc, form)?;
-    led.extend_from_slice(&callees(alloc, form)?)?;
-    Ok(led)
+// The places that are reached, as they are found, and the looks at them.
+#[derive(Drop)]
+pub(crate) struct Reached {
+    pub(crate) places: Vec<Place>,
+    pub(crate) looks: Looks,
 }
 
 // What is reached from the functions by steps and calls.
@@ -38,19 +24,25 @@ pub(crate) fn reach(
     object: &Object,
     links: &Links,
     functions: &[Place],
-) -> Result<IndexSet<Place>, AllocError>
+) -> Result<Reached, AllocError>
     requires ready { AreReady object.now links.now }
     requires functions { (place : Place) → Contains functions.now place ↔ IsFunction object.now place }
-    ensures reached { IfOk result (λ found. (place : Place) → Contains found.keys place ↔ IsReached object.now place) }
-    ensures good { IfOk result (λ found. All (IsGood object.now) found.keys) }
+    ensures reached { IfOk result (λ reached. (place : Place) → Contains reached.places.items place ↔ IsReached object.now place) }
+    ensures looks { IfOk result (λ reached. AreLooksOf object.now reached.looks) }
 {
-    let mut found = IndexSet::new(alloc);
-    add_all(&mut found, functions)?;
+    let mut found = Found::new(alloc);
+    let mut looks = Looks::new(alloc);
+    found.insert_all(functions)?;
     let mut index = 0;
-    while index < found.len() {
-        let place = found[index];
-        add_all(&mut found, &led_from(alloc, object, links, place)?)?;
+    while index < found.places.len() {
+        let place = found.places[index];
+        let look = look_at(alloc, object, links, place)?;
+        found.insert_all(&led_by(alloc, &look)?)?;
+        looks.insert(place, look)?;
         index += 1;
     }
-    Ok(found)
+    Ok(Reached {
+        places: found.places,
+        looks,
+    })
 }

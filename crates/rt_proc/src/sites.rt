@@ -32,13 +32,13 @@ fn target_of(entries: &[Place], target: Target) -> Result<Callee, AllocError>
     }
 }
 
-fn kind_of(entries: &[Place], form: Form) -> Result<Kind, AllocError>
+fn kind_of(entries: &[Place], form: &Form) -> Result<Kind, AllocError>
     requires { AreRising entries.now }
-    ensures { IfOk result (λ kind. kind ≡ kind_of entries.now form) }
+    ensures { IfOk result (λ kind. kind ≡ kind_of entries.now form.now) }
 {
     match form {
-        Form::Plain { insn, .. } => Ok(Kind::Plain(insn)),
-        Form::Call { called, link, .. } => Ok(Kind::Call(callee_of(entries, called)?, link)),
+        Form::Plain { insn, .. } => Ok(Kind::Plain(*insn)),
+        Form::Call { called, link, .. } => Ok(Kind::Call(callee_of(entries, *called)?, *link)),
         Form::Return => Ok(Kind::Return),
         Form::Tail(_) | Form::Stop => Ok(Kind::Stop),
     }
@@ -49,10 +49,10 @@ pub(crate) fn next_of(
     alloc: Global,
     entries: &[Place],
     own: Place,
-    form: Form,
+    form: &Form,
 ) -> Result<Vec<Place>, AllocError>
     requires { AreRising entries.now }
-    ensures { IfOk result (λ next. next.items ≡ next_of entries.now own form) }
+    ensures { IfOk result (λ next. next.items ≡ next_of entries.now own form.now) }
 {
     let mut next = Vec::new(alloc);
     for place in &steps(alloc, form)? {
@@ -86,18 +86,18 @@ fn tails_of(
     alloc: Global,
     entries: &[Place],
     own: Place,
-    form: Form,
+    form: &Form,
 ) -> Result<Vec<Callee>, AllocError>
     requires { AreRising entries.now }
-    ensures { IfOk result (λ tails. tails.items ≡ tails_of entries.now own form) }
+    ensures { IfOk result (λ tails. tails.items ≡ tails_of entries.now own form.now) }
 {
     match form {
         Form::Plain {
             way: Way::Leave(symbol),
             ..
-        } => Ok(vec![in alloc; Callee::Extern(symbol)]?),
+        } => Ok(vec![in alloc; Callee::Extern(*symbol)]?),
         Form::Plain { .. } => step_tails(alloc, entries, own, &steps(alloc, form)?),
-        Form::Tail(target) => Ok(vec![in alloc; target_of(entries, target)?]?),
+        Form::Tail(target) => Ok(vec![in alloc; target_of(entries, *target)?]?),
         Form::Call { .. } | Form::Return | Form::Stop => Ok(Vec::new(alloc)),
     }
 }
@@ -108,10 +108,10 @@ pub(crate) fn site_of(
     entries: &[Place],
     own: Place,
     place: Place,
-    form: Form,
+    form: &Form,
 ) -> Result<Site, AllocError>
     requires { AreRising entries.now }
-    ensures { IfOk result (λ site. site ≡ site_of entries.now own place form) }
+    ensures { IfOk result (λ site. site ≡ site_of entries.now own place form.now) }
 {
     Ok(Site {
         place,

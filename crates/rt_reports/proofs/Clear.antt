@@ -2,20 +2,20 @@
 use Rattle.std.proofs.Common.{◌≡◌, ℕ, suc, ◌+◌, ◌<◌, ◌≤◌, ◌^◌, ◌/◌, ◌%◌, ◌==◌, List, [], ◌∷◌, ◌++◌, Bool, true, false, ◌&&◌, nat_lt, if◌then◌else◌, refl, inl, inr, arith, codes, decimal, ℤ, pos, negsuc, FitsSigned, w32, All, length, slice_index_or}
 use Rattle.std.specs.Fmt.{signed_decimal}
 use Rattle.std.specs.List.{flat_map}
-use Rattle.std.proofs.lemmas.Bool.{false≢true, ltb-true}
+use Rattle.std.proofs.lemmas.Bool.{false≢true, ltb-true, and_parts}
 use Rattle.std.proofs.lemmas.Bool.Decides.{nat_tests}
 use Rattle.std.proofs.lemmas.Fmt.{decimal_by_steps}
 use Rattle.std.proofs.lemmas.List.Elements.{All-head, All-tail}
-use Rattle.rt_terms.specs.declared.label.Loc.TheVariants.{Arg, Stack}
-use Rattle.rt_terms.specs.declared.label.Label.{Label}
-use Rattle.rt_terms.specs.declared.label.Label.TheVariants.{In, Out, Load, Store, Field}
-use Rattle.rt_terms.specs.declared.variable.Base.{Base}
-use Rattle.rt_terms.specs.declared.variable.Base.TheVariants.{Proc, Global, Exist, Outer}
-use Rattle.rt_terms.specs.declared.variable.Dtv.{Dtv}
-use Rattle.rt_terms.specs.declared.line.Line.{Line}
-use Rattle.rt_terms.specs.declared.line.Line.TheVariants.{Var, Same, Sub, Low, Up}
-use Rattle.rt_terms.specs.Names.{IsNameByte, IsName, AreNames}
-use Rattle.rt_terms.specs.Words.{IsLabel}
+use Rattle.rt_lines.specs.declared.label.Loc.TheVariants.{Arg, Stack}
+use Rattle.rt_lines.specs.declared.label.Label.{Label}
+use Rattle.rt_lines.specs.declared.label.Label.TheVariants.{In, Out, Load, Store, Field}
+use Rattle.rt_lines.specs.declared.variable.Base.{Base}
+use Rattle.rt_lines.specs.declared.variable.Base.TheVariants.{Proc, Global, Exist, Outer}
+use Rattle.rt_lines.specs.declared.variable.Dtv.{Dtv}
+use Rattle.rt_lines.specs.declared.line.Line.{Line}
+use Rattle.rt_lines.specs.declared.line.Line.TheVariants.{Var, Same, Sub, Low, Up}
+use Rattle.rt_lines.specs.Names.{IsNameByte, IsName, AreNames}
+use Rattle.rt_lines.specs.Words.{IsLabel}
 use Rattle.rt_texts.specs.Goods.{IsBase, IsWord, IsDtv, IsLine}
 use Rattle.rt_texts.specs.Texts.{field_front, label_text, base_text, word_text, dtv_text, constant_text, line_text}
 use Rattle.rt_texts.specs.Readings.{HasNo}
@@ -58,14 +58,10 @@ abbrev are_visible : List ℕ → Bool
 are_visible [] = true
 are_visible (x ∷ xs) = nat_lt 31 x && are_visible xs
 
-both : (a b : Bool) → (a && b) ≡ true → (a ≡ true) × (b ≡ true)
-both true b h = (refl, h)
-both false b h = absurd (false≢true h)
-
 pub AreAbove-fixed : (front : List ℕ) → are_visible front ≡ true → AreAbove 31 front
 AreAbove-fixed [] h = tt
 AreAbove-fixed (x ∷ xs) h =
-    let parts = both (nat_lt 31 x) (are_visible xs) h in
+    let parts = and_parts (nat_lt 31 x) (are_visible xs) h in
     (ltb-true 31 x parts.0, AreAbove-fixed xs parts.1)
 
 pub AreAbove-numbered : (front : List ℕ) (n : ℕ) (rest : List ℕ) → are_visible front ≡ true → n < 2 ^ 64 → AreAbove 31 rest → AreAbove 31 (front ++ (decimal n ++ rest))

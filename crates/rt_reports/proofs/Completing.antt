@@ -5,10 +5,11 @@ use Rattle.std.proofs.lemmas.Bool.{cases_order}
 use Rattle.std.proofs.lemmas.Grind.{flat_map-append}
 use Rattle.std.proofs.lemmas.List.{map-append}
 use Rattle.std.proofs.lemmas.List.Elements.{All-cons, All-head, All-tail, All-nil, All-push, All-append, All-contains, All-contains_itself, Contains-append_right}
-use Rattle.rt_terms.specs.declared.variable.Base.TheVariants.{Global}
-use Rattle.rt_terms.specs.declared.line.Line.{Line}
-use Rattle.rt_terms.specs.declared.line.Line.TheVariants.{Var}
-use Rattle.rt_terms.specs.Words.{IsLabel}
+use Rattle.rt_base.proofs.Lists.{All-front, All-back, All-from_contains}
+use Rattle.rt_lines.specs.declared.variable.Base.TheVariants.{Global}
+use Rattle.rt_lines.specs.declared.line.Line.{Line}
+use Rattle.rt_lines.specs.declared.line.Line.TheVariants.{Var}
+use Rattle.rt_lines.specs.Words.{IsLabel}
 use Rattle.rt_texts.specs.Goods.{IsLine}
 use Rattle.rt_scheme.specs.declared.report.Entry.{Entry}
 use Rattle.rt_scheme.specs.declared.report.Report.{Report}
@@ -19,7 +20,6 @@ use Rattle.rt_reports.specs.Rows.{row_text}
 use Rattle.rt_reports.specs.Drafts.{Parts, least_after, AllNamed}
 use Rattle.rt_reports.specs.declared.row.Row.{Row}
 use Rattle.rt_reports.specs.declared.row.Row.TheVariants.{Heading, Stated, End}
-use Rattle.rt_reports.proofs.Lists.{All-front, All-back, All-from_among}
 use Rattle.rt_reports.proofs.Rising.{RisesFrom, RisesFrom-increasing}
 use Rattle.rt_reports.proofs.Rows.{rows_text, heading_row, listed_rows, entry_rows, report_rows, parts_rows, report_rows-text}
 use Rattle.rt_reports.proofs.Drafts.{IsGood, made, entries_globals-push, entry_numbers-push, good_with, rows_with}
@@ -94,7 +94,7 @@ good_named count globals entries entry good =
     let listed : All (Contains (numbers_of globals)) (entries_globals (entries ++ with_lines entry (naming_lines globals) ∷ [])) =
     subst (All (Contains (numbers_of globals))) (sym names) (All-append (Contains (numbers_of globals)) (entries_globals (entries ++ entry ∷ [])) (numbers_of globals) good.listed (All-contains_itself (numbers_of globals))) in
     let named : All (Contains (entries_globals (entries ++ with_lines entry (naming_lines globals) ∷ []))) (numbers_of globals) =
-    subst (λ s. All (Contains s) (numbers_of globals)) (sym names) (All-from_among (entries_globals (entries ++ entry ∷ []) ++ numbers_of globals) (numbers_of globals) (λ n. Contains-append_right (entries_globals (entries ++ entry ∷ [])) (numbers_of globals) n)) in
+    subst (λ s. All (Contains s) (numbers_of globals)) (sym names) (All-from_contains (Contains (entries_globals (entries ++ entry ∷ []) ++ numbers_of globals)) (numbers_of globals) (λ n. Contains-append_right (entries_globals (entries ++ entry ∷ [])) (numbers_of globals) n)) in
     let whole : IsGood count (made globals (entries ++ with_lines entry (naming_lines globals) ∷ []) None) = record {
       globals = good.globals;
       entries = All-push (IsEntry count) entries (with_lines entry (naming_lines globals)) before more;

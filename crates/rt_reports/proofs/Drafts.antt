@@ -5,7 +5,8 @@ use Rattle.std.proofs.lemmas.Grind.{flat_map-append}
 use Rattle.std.proofs.lemmas.List.{map-append}
 use Rattle.std.proofs.lemmas.List.Sums.{fold-append}
 use Rattle.std.proofs.lemmas.List.Elements.{All-head, All-nil, All-push, All-append}
-use Rattle.rt_terms.specs.declared.line.Line.{Line}
+use Rattle.rt_base.proofs.Lists.{All-front, All-back}
+use Rattle.rt_lines.specs.declared.line.Line.{Line}
 use Rattle.rt_texts.specs.Goods.{IsLine}
 use Rattle.rt_scheme.specs.declared.report.Entry.{Entry}
 use Rattle.rt_reports.specs.Globals.{line_globals, lines_globals, entries_globals}
@@ -14,7 +15,6 @@ use Rattle.rt_reports.specs.Rows.{IsRow}
 use Rattle.rt_reports.specs.Drafts.{Parts, no_parts, all_entries, parts_globals, least_after, least_entry, AllNamed, with_line, with_row, Allows}
 use Rattle.rt_reports.specs.declared.row.Row.{Row}
 use Rattle.rt_reports.specs.declared.row.Row.TheVariants.{Listed, Heading, Stated, End}
-use Rattle.rt_reports.proofs.Lists.{All-front, All-back}
 use Rattle.rt_reports.proofs.Rising.{RisesFrom, RisesFrom-push}
 use Rattle.rt_reports.proofs.Rows.{heading_row, listed_rows, entry_rows, parts_rows}
 

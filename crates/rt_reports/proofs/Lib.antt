@@ -1,4 +1,3 @@
-pub mod Lists
 pub mod Rising
 pub mod Clear
 pub mod RowTexts

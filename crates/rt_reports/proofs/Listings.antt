@@ -4,18 +4,17 @@ use Rattle.std.specs.Option.{is_some}
 use Rattle.std.proofs.lemmas.List.Sums.{fold-append}
 use Rattle.std.proofs.lemmas.List.Elements.{All-append, All-contains, All-map, All-more}
 use Rattle.std.proofs.lemmas.Bool.{false≢true}
-use Rattle.rt_rules.proofs.Lists.{Contains-map}
 use Rattle.indexmap.specs.IndexSet.{insert_key}
-use Rattle.rt_terms.specs.declared.variable.Dtv.{Dtv}
-use Rattle.rt_terms.specs.declared.line.Line.{Line}
-use Rattle.rt_terms.specs.declared.line.Line.TheVariants.{Var, Same, Sub, Low, Up}
+use Rattle.rt_base.proofs.Lists.{Contains-map, All-front, All-back}
+use Rattle.rt_lines.specs.declared.variable.Dtv.{Dtv}
+use Rattle.rt_lines.specs.declared.line.Line.{Line}
+use Rattle.rt_lines.specs.declared.line.Line.TheVariants.{Var, Same, Sub, Low, Up}
 use Rattle.rt_scheme.specs.declared.report.Entry.{Entry}
 use Rattle.rt_scheme.specs.declared.report.Report.{Report}
 use Rattle.rt_reports.specs.Globals.{base_globals, line_globals, lines_globals, entries_globals}
 use Rattle.rt_reports.specs.GoodReports.{numbers_of}
 use Rattle.rt_reports.specs.Drafts.{Parts, all_entries, least_after, least_entry, AllNamed, with_line, with_row, IsUnfinished, Allows, IsWhole, report_of, IsListing, IsDraft}
 use Rattle.rt_reports.specs.declared.row.Row.TheVariants.{Stated, End}
-use Rattle.rt_reports.proofs.Lists.{All-front, All-back}
 use Rattle.rt_reports.proofs.Runs.{least-push_global, least-push_entry}
 use Rattle.rt_reports.proofs.Drafts.{made, entries_globals-push, lines_globals-push, numbers_of-push}
 use Rattle.rt_reports.proofs.Sets.{numbered_has, numbered_all}

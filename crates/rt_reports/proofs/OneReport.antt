@@ -1,6 +1,6 @@
 -- A text is that of one report alone.
 use Rattle.std.proofs.Common.{◌≡◌, ℕ, List, [], fold, length, ap, sym, ◌∙◌, append-nil}
-use Rattle.rt_terms.specs.Names.{AreNames}
+use Rattle.rt_lines.specs.Names.{AreNames}
 use Rattle.rt_texts.specs.Readings.{HasNo}
 use Rattle.rt_scheme.specs.declared.report.Report.{Report}
 use Rattle.rt_scheme.specs.Reports.{report_text}

@@ -1,5 +1,5 @@
 -- Texts that are read line by line.
-use Rattle.std.proofs.Common.{◌≡◌, ◌≢◌, ℕ, true, false, ◌+◌, ◌⊎◌, inl, inr, List, [], ◌∷◌, ◌++◌, Option, Some, None, All, map, fold, length, refl, ap, sym, subst, ◌∙◌, arith, append_assoc, append-nil, length-append}
+use Rattle.std.proofs.Common.{◌≡◌, ◌≢◌, ℕ, true, false, ◌+◌, ◌⊎◌, inl, inr, List, [], ◌∷◌, ◌++◌, Option, Some, None, All, map, fold, length, refl, ap, sym, subst, ◌∙◌, arith, append_assoc, append-nil, length-append, Contains}
 use Rattle.std.specs.List.{flat_map}
 use Rattle.std.specs.Bool.{◌==◌}
 use Rattle.std.proofs.lemmas.Bool.Decides.{nat_tests}
@@ -7,7 +7,8 @@ use Rattle.std.proofs.lemmas.Grind.{flat_map-append}
 use Rattle.std.proofs.lemmas.List.{length-map}
 use Rattle.std.proofs.lemmas.List.Folds.{flat_map-map}
 use Rattle.std.proofs.lemmas.List.Elements.{All-nil, All-append, All-cons, All-head, All-map}
-use Rattle.rt_terms.specs.Names.{AreNames}
+use Rattle.rt_base.proofs.Lists.{All-front, All-back, All-from_contains}
+use Rattle.rt_lines.specs.Names.{AreNames}
 use Rattle.rt_texts.specs.declared.fault.TextFault.{TextFault}
 use Rattle.rt_texts.specs.declared.fault.TextFault.TheVariants.{BadText, Memory}
 use Rattle.rt_texts.specs.Readings.{IsNoText, HasNo, IsCut}
@@ -21,7 +22,6 @@ use Rattle.rt_reports.specs.Rows.{row_text, IsRow}
 use Rattle.rt_reports.specs.Drafts.{Parts, no_parts, all_entries, AllNamed, with_row, Allows, IsWhole, report_of}
 use Rattle.rt_reports.specs.declared.row.Row.{Row}
 use Rattle.rt_reports.specs.declared.row.Row.TheVariants.{Stated}
-use Rattle.rt_reports.proofs.Lists.{All-front, All-back, All-from_among}
 use Rattle.rt_reports.proofs.RowTexts.{one_row, row_clear}
 use Rattle.rt_reports.proofs.Rows.{rows_text, heading_row, listed_rows, entry_rows, unfinished_rows, report_rows, parts_rows, report_rows-text, report_rows-good, listed_rows-good, stated_rows-good, entries_rows-good, next_row, same_rows}
 use Rattle.rt_reports.proofs.Runs.{Accepts, Accepts-row, Accepts-last, accept_report, ended}
@@ -121,7 +121,7 @@ ends_whole names text parts rest number report fine read clear good is =
     let same = same_rows names (parts_rows parts) (report_rows report) rest fine (parts_rows-good (length names) parts read.good) (report_rows-good (length names) report good) clear whole in
     let last : fold with_row no_parts (report_rows report) ≡ ended report = Accepts-last no_parts (report_rows report) (ended report) (accept_report (length names) report good) in
     let are : ended report ≡ parts = sym last ∙ (ap (fold with_row no_parts) same.1 ∙ read.again) in
-    let named : AllNamed (ended report) = All-from_among (entries_globals report.entries) (numbers_of report.globals) (λ n. (good.exact n).0) in
+    let named : AllNamed (ended report) = All-from_contains (Contains (entries_globals report.entries)) (numbers_of report.globals) (λ n. (good.exact n).0) in
     (same.0, subst IsWhole are (refl, named))
 
 bad_end : (names : List (List ℕ)) (text : List ℕ) (parts : Parts) (rest : List ℕ) (number : ℕ) → AreNames names → IsRead names text parts rest number → HasNo 10 rest → ((rest ≡ []) × IsWhole parts → ⊥) → IsBadLine names text number

@@ -2,11 +2,11 @@
 use Rattle.std.proofs.Common.{◌≡◌, ◌≢◌, ℕ, ◌+◌, ◌<◌, ◌≤◌, ◌^◌, ◌%◌, List, [], ◌∷◌, ◌++◌, get_or, refl, ap, sym, ◌∙◌, arith, codes, decimal, length, append_assoc}
 use Rattle.std.proofs.lemmas.Fmt.{decimal_by_steps, decimal_injective}
 use Rattle.std.proofs.lemmas.List.{append_cancel_left}
-use Rattle.rt_terms.specs.declared.variable.Base.{Base}
-use Rattle.rt_terms.specs.declared.variable.Base.TheVariants.{Proc, Global, Exist, Outer}
-use Rattle.rt_terms.specs.declared.line.Line.{Line}
-use Rattle.rt_terms.specs.declared.line.Line.TheVariants.{Var, Same, Sub, Low, Up}
-use Rattle.rt_terms.specs.Names.{AreNames}
+use Rattle.rt_lines.specs.declared.variable.Base.{Base}
+use Rattle.rt_lines.specs.declared.variable.Base.TheVariants.{Proc, Global, Exist, Outer}
+use Rattle.rt_lines.specs.declared.line.Line.{Line}
+use Rattle.rt_lines.specs.declared.line.Line.TheVariants.{Var, Same, Sub, Low, Up}
+use Rattle.rt_lines.specs.Names.{AreNames}
 use Rattle.rt_texts.specs.Goods.{IsNumber, IsBase, IsLine}
 use Rattle.rt_texts.specs.Texts.{base_text, line_text, word_text}
 use Rattle.rt_texts.specs.Readings.{HasNo}

@@ -3,7 +3,8 @@ use Rattle.std.proofs.Common.{◌≡◌, ℕ, ◌+◌, ◌≤◌, ◌^◌, List,
 use Rattle.std.specs.List.{flat_map}
 use Rattle.std.proofs.lemmas.List.{map-append}
 use Rattle.std.proofs.lemmas.List.Elements.{All-head, All-tail}
-use Rattle.rt_terms.specs.declared.line.Line.{Line}
+use Rattle.rt_base.proofs.Lists.{All-front, All-back, All-from_contains}
+use Rattle.rt_lines.specs.declared.line.Line.{Line}
 use Rattle.rt_texts.specs.Goods.{IsNumber}
 use Rattle.rt_scheme.specs.declared.report.Entry.{Entry}
 use Rattle.rt_scheme.specs.declared.report.Report.{Report}
@@ -12,7 +13,6 @@ use Rattle.rt_reports.specs.GoodReports.{IsEntry, IsReport, numbers_of, entry_nu
 use Rattle.rt_reports.specs.Drafts.{Parts, no_parts, least_after, with_row, Allows}
 use Rattle.rt_reports.specs.declared.row.Row.{Row}
 use Rattle.rt_reports.specs.declared.row.Row.TheVariants.{Stated, End}
-use Rattle.rt_reports.proofs.Lists.{All-front, All-back, All-from_among}
 use Rattle.rt_reports.proofs.Rising.{RisesFrom, least_after-append, rises_all}
 use Rattle.rt_reports.proofs.Rows.{listed_rows, entry_rows, report_rows}
 
@@ -98,5 +98,5 @@ numbers_small count entries good k d lt = (good k d lt).number
 
 pub accept_report : (count : ℕ) (report : Report) → IsReport count report → Accepts no_parts (report_rows report) (ended report)
 accept_report count report good =
-    let entries : Accepts (between report.globals []) (flat_map entry_rows report.entries) (ended report) = accept_entries report.globals [] report.entries (rises_all (entry_numbers report.entries) good.entries_rise) (numbers_small count report.entries good.entries) (All-from_among (numbers_of report.globals) (entries_globals report.entries) (λ n. (good.exact n).1)) (All-from_among (entries_globals report.entries) (numbers_of report.globals) (λ n. (good.exact n).0)) in
+    let entries : Accepts (between report.globals []) (flat_map entry_rows report.entries) (ended report) = accept_entries report.globals [] report.entries (rises_all (entry_numbers report.entries) good.entries_rise) (numbers_small count report.entries good.entries) (All-from_contains (Contains (numbers_of report.globals)) (entries_globals report.entries) (λ n. (good.exact n).1)) (All-from_contains (Contains (entries_globals report.entries)) (numbers_of report.globals) (λ n. (good.exact n).0)) in
     accept_globals [] report.globals (flat_map entry_rows report.entries) (ended report) (rises_all (numbers_of report.globals) good.globals_rise) entries

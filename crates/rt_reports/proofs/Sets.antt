@@ -1,13 +1,12 @@
 -- Lists of numbers without double ones.
 use Rattle.std.proofs.Common.{◌≡◌, ℕ, Bool, true, false, ◌||◌, ◌↔◌, ◌⊎◌, inl, inr, IsTrue, List, [], ◌∷◌, ◌++◌, All, Contains, fold, nat_eq, if◌then◌else◌, refl, sym, subst, ◌∙◌, arith}
 use Rattle.std.specs.List.{list_any}
-use Rattle.std.proofs.lemmas.Bool.{false≢true}
+use Rattle.std.proofs.lemmas.Bool.{false≢true, or_left, or_right}
 use Rattle.std.proofs.lemmas.Bool.Decides.{nat_tests}
 use Rattle.std.proofs.lemmas.Map.Views.{Contains-from_any}
 use Rattle.std.proofs.lemmas.List.Elements.{Contains-append_left, Contains-push, Contains-push_cases, All-contains}
 use Rattle.indexmap.specs.IndexSet.{insert_key}
-use Rattle.rt_rules.proofs.Lists.{Contains-none, Contains-here, Contains-there, Contains-cons_cases}
-use Rattle.rt_reports.proofs.Lists.{All-from_among}
+use Rattle.rt_base.proofs.Lists.{Contains-none, Contains-here, Contains-there, Contains-cons_cases, All-from_contains}
 
 nat_eq-is : (x y : ℕ) → nat_eq x y ≡ true → x ≡ y
 nat_eq-is x y e = grind (arith, nat_tests)
@@ -17,14 +16,6 @@ nat_eq-self x = grind (arith, nat_tests)
 
 any-has : (keys : List ℕ) (n : ℕ) → list_any (nat_eq n) keys ≡ true → Contains keys n
 any-has keys n e = Contains-from_any nat_eq-is n keys e
-
-or_left : (a b : Bool) → a ≡ true → (a || b) ≡ true
-or_left true b e = refl
-or_left false b e = absurd (false≢true e)
-
-or_right : (a b : Bool) → b ≡ true → (a || b) ≡ true
-or_right true b e = refl
-or_right false b e = e
 
 has-any : (keys : List ℕ) (n : ℕ) → Contains keys n → list_any (nat_eq n) keys ≡ true
 has-any [] n h = absurd (Contains-none n h)
@@ -87,6 +78,6 @@ numbered_has numbers ns is n = (
 
 pub numbered_all : (numbers ns ms : List ℕ) → numbers ≡ fold (insert_key nat_eq) [] ns → All (Contains numbers) ms ↔ All (Contains ns) ms
 numbered_all numbers ns ms is = (
-  λ all. All-from_among ns ms (λ n h. (numbered_has numbers ns is n).0 (All-contains (Contains numbers) ms n all h)),
-  λ all. All-from_among numbers ms (λ n h. (numbered_has numbers ns is n).1 (All-contains (Contains ns) ms n all h)),
+  λ all. All-from_contains (Contains ns) ms (λ n h. (numbered_has numbers ns is n).0 (All-contains (Contains numbers) ms n all h)),
+  λ all. All-from_contains (Contains numbers) ms (λ n h. (numbered_has numbers ns is n).1 (All-contains (Contains ns) ms n all h)),
 )

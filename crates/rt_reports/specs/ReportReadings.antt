@@ -3,7 +3,7 @@ use Rattle.std.specs.Prelude.{◌≡◌, ℕ, ◌+◌, ◌⊎◌, List, [], ◌�
 use Rattle.std.specs.List.{flat_map}
 use Rattle.rt_texts.specs.declared.fault.TextFault.{TextFault}
 use Rattle.rt_texts.specs.declared.fault.TextFault.TheVariants.{BadText, Memory}
-use Rattle.rt_terms.specs.Names.{AreNames}
+use Rattle.rt_lines.specs.Names.{AreNames}
 use Rattle.rt_texts.specs.Readings.{IsNoText, HasNo, IsCut}
 use Rattle.rt_scheme.specs.declared.report.Report.{Report}
 use Rattle.rt_scheme.specs.Reports.{report_text}

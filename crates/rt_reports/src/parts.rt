@@ -7,8 +7,8 @@ ghost use Rattle.rt_reports.specs.Rows.{IsBegun, IsRow, begun_text, listed_text,
 
 use crate::row::Row;
 use rt_base::Bytes;
+use rt_lines::Names;
 use rt_scheme::{Place2, read_name};
-use rt_terms::Names;
 use rt_texts::{TextFault, after_front, read_line, read_number, split_before};
 use std::alloc::Global;
 

@@ -7,8 +7,8 @@ ghost use Rattle.rt_reports.specs.ReportReadings.{IsFault, IsNoReport};
 
 use crate::draft::Draft;
 use crate::parts::{first_line, read_row};
+use rt_lines::Names;
 use rt_scheme::Report;
-use rt_terms::Names;
 use rt_texts::TextFault;
 use std::alloc::Global;
 

@@ -1,7 +1,7 @@
 // The lines of reports.
 use rt_base::Bytes;
+use rt_lines::Line;
 use rt_scheme::Place2;
-use rt_terms::Line;
 
 // A line of a report.
 #[derive(Drop)]

@@ -1,12 +1,6 @@
 // Texts of reports, and what is wrong with texts.
-ghost use Rattle.std.specs.Prelude.{All, IfOk};
-ghost use Rattle.rt_terms.specs.Lines.{HasConstantsBelow};
-ghost use Rattle.rt_scheme.specs.Reports.{AllConstantsBelow};
-
 use super::*;
-use rt_base::{Bytes, Memory};
-use rt_scheme::{Entries, Entry, Globals, Place2, Report, print_report};
-use rt_terms::{Base, Dtv, Label, Line, Lines, Loc, Names, Word, is_name};
+use rt_lines::{Names, is_name};
 use rt_texts::TextFault;
 use std::alloc::{AllocError, Global};
 use std::test::Fail;
@@ -130,81 +124,4 @@ fn the_first_faulty_line_is_told(rt: HostRuntime) -> Result<(), Fail> {
         assert_eq!(rt; faulty_line(alloc, text, &names)?, line, "{text}");
     }
     Ok(())
-}
-
-// `f2.in_a0 <= g7`
-fn lines(alloc: Global) -> Result<Lines, Memory>
-    ensures { IfOk result (All (HasConstantsBelow 0)) }
-{
-    let mut word = Word::empty(alloc);
-    word.push(Label::In(Loc::Arg(0)))?;
-    let argument = Dtv {
-        base: Base::Proc(2),
-        word,
-    };
-    let global = Dtv {
-        base: Base::Global(7),
-        word: Word::empty(alloc),
-    };
-    let mut lines = Lines::new(alloc);
-    lines.push(Line::Sub(argument, global))?;
-    Ok(lines)
-}
-
-// A report of one procedure and one global.
-fn report(alloc: Global) -> Result<Report, Memory>
-    ensures { IfOk result (AllConstantsBelow 0) }
-{
-    let mut globals = Globals::new(alloc);
-    globals.push((7, Bytes::from_vec(b"a b".to_vec(alloc)?)))?;
-    let entry = Entry {
-        number: 2,
-        place: Place2 {
-            section: 3,
-            offset: 64,
-        },
-        name: Bytes::from_vec(b"-".to_vec(alloc)?),
-        lines: lines(alloc)?,
-    };
-    let mut entries = Entries::new(alloc);
-    entries.push(entry)?;
-    Ok(Report { globals, entries })
-}
-
-#[test]
-fn a_printed_report_is_read(rt: HostRuntime) -> Result<(), Fail> {
-    let alloc = rt.alloc();
-    let names = Names::new(alloc);
-    let text = print_report(alloc, &report(alloc)?, &names)?;
-    match read_report(alloc, &text, &names) {
-        Ok(report) => {
-            assert!(rt; has_global(&report), "another global");
-            assert!(rt; has_entry(&report, &lines(alloc)?), "another entry");
-        }
-        Err(_) => assert!(rt; false, "refused"),
-    }
-    Ok(())
-}
-
-// Whether the report's one global is that of `report`.
-fn has_global(report: &Report) -> bool {
-    let [(number, name)] = report.globals.items() else {
-        return false;
-    };
-    *number == 7 && name.items() == b"a b".as_slice()
-}
-
-// Whether the report's one entry is that of `report`, with these lines.
-fn has_entry(report: &Report, lines: &Lines) -> bool {
-    let [entry] = report.entries.items() else {
-        return false;
-    };
-    let place = Place2 {
-        section: 3,
-        offset: 64,
-    };
-    entry.number == 2
-        && entry.place == place
-        && entry.name.items() == b"-".as_slice()
-        && entry.lines.items() == lines.items()
 }

@@ -1,19 +1,21 @@
 -- Which constants and bases the lines of rows name.
-use Rattle.std.proofs.Common.{◌≡◌, ℕ, ◌⊎◌, inl, inr, List, [], map, get_or, flat_map, All, Contains, refl, sym, ap, subst, ◌∙◌}
+use Rattle.std.proofs.Common.{◌≡◌, ℕ, ◌⊎◌, inl, inr, List, [], ◌∷◌, map, get_or, flat_map, All, Contains, refl, sym, ap, subst, ◌∙◌}
 use Rattle.std.specs.Prelude.{Bool, true, false, ◌&&◌, IsTrue}
+use Rattle.std.specs.List.{list_all}
 use Rattle.std.proofs.Math.ListN.{get_or-map}
 use Rattle.std.proofs.lemmas.List.Elements.{All-map}
-use Rattle.rt_terms.specs.declared.label.Label.{Label}
-use Rattle.rt_terms.specs.declared.variable.Base.{Base}
-use Rattle.rt_terms.specs.declared.variable.Dtv.{Dtv}
-use Rattle.rt_terms.specs.declared.line.Line.{Line}
-use Rattle.rt_terms.specs.Lines.{HasConstantsBelow}
+use Rattle.std.proofs.lemmas.Bool.{and_from}
+use Rattle.rt_base.proofs.Lists.{Contains-map_source}
+use Rattle.rt_lines.specs.declared.label.Label.{Label}
+use Rattle.rt_lines.specs.declared.variable.Base.{Base}
+use Rattle.rt_lines.specs.declared.variable.Dtv.{Dtv}
+use Rattle.rt_lines.specs.declared.line.Line.{Line}
+use Rattle.rt_lines.specs.Lines.{HasConstantsBelow}
 use Rattle.rt_rules.specs.Rules.{HasSide}
 use Rattle.rt_rules.specs.Laws.{NamesBase}
-use Rattle.rt_rules.proofs.Lists.{Contains-map_source}
-use Rattle.rt_split.specs.Splitting.{AreInterfaceLines, is_interface_line, is_interface_side, is_interface_variable}
-use Rattle.rt_numbering.specs.Numbering.{deduplicated}
-use Rattle.rt_numbering.proofs.Deduplicating.{deduplicated-all, deduplicated-source}
+use Rattle.rt_scheme.specs.Splitting.{AreInterfaceLines, is_interface_line, is_interface_side, is_interface_variable}
+use Rattle.rt_lines.specs.Numbering.{deduplicated}
+use Rattle.rt_lines.proofs.Deduplicating.{deduplicated-all, deduplicated-source}
 use Rattle.rt_rows.specs.declared.name.Name.{Name}
 use Rattle.rt_rows.specs.declared.row.Root.{Root}
 use Rattle.rt_rows.specs.declared.row.Root.TheVariants.{Proc, Global, Outer, Named}
@@ -54,24 +56,23 @@ group_side names (Global g) word h = h
 group_side names (Outer n) word h = h
 group_side names (Named name) word h = h
 
-two : (a b : Bool) → IsTrue a → IsTrue b → IsTrue (a && b)
-two true b h k = k
-two false b h k = h
-
 group_term : (names : List Name) (x : Term) → IsGroupTerm x → IsTrue (is_interface_variable (variable_of names x))
 group_term names x h = group_side names x.root x.word h
 
-group_terms : (names : List Name) (x y : Term) → IsGroupTerm x → IsGroupTerm y
-    → IsTrue (is_interface_variable (variable_of names x) && is_interface_variable (variable_of names y))
-group_terms names x y h k =
-    two (is_interface_variable (variable_of names x)) (is_interface_variable (variable_of names y)) (group_term names x h) (group_term names y k)
+group_one : (names : List Name) (x : Term) → IsGroupTerm x → list_all is_interface_variable (variable_of names x ∷ []) ≡ true
+group_one names x h = and_from (is_interface_variable (variable_of names x)) true (group_term names x h) refl
+
+group_two : (names : List Name) (x y : Term) → IsGroupTerm x → IsGroupTerm y
+    → list_all is_interface_variable (variable_of names x ∷ variable_of names y ∷ []) ≡ true
+group_two names x y h k =
+    and_from (is_interface_variable (variable_of names x)) (list_all is_interface_variable (variable_of names y ∷ [])) (group_term names x h) (group_one names y k)
 
 group_line : (names : List Name) (row : Row) → IsGroupRow row → IsTrue (is_interface_line (line_of names row))
-group_line names (Var x) h = group_term names x h
-group_line names (Same x y) h = group_terms names x y h.0 h.1
-group_line names (Sub x y) h = group_terms names x y h.0 h.1
-group_line names (Low k x) h = group_term names x h
-group_line names (Up x k) h = group_term names x h
+group_line names (Var x) h = group_one names x h
+group_line names (Same x y) h = group_two names x y h.0 h.1
+group_line names (Sub x y) h = group_two names x y h.0 h.1
+group_line names (Low k x) h = group_one names x h
+group_line names (Up x k) h = group_one names x h
 
 list_interfaces : (names : List Name) (rows : List Row) → All IsGroupRow rows → AreInterfaceLines (deduplicated (lines_by names rows))
 list_interfaces names rows h =

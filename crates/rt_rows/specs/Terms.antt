@@ -1,14 +1,14 @@
 -- Lines before their existentials have numbers: an existential is named by what it stands for.
 use Rattle.std.specs.Prelude.{◌≡◌, ℕ, ◌<◌, ◌⊎◌, Bool, true, false, IsTrue, Contains, List, [], ◌∷◌, ◌++◌, map, fold, flat_map}
 use Rattle.std.specs.List.{position_or_len}
-use Rattle.rt_numbering.specs.Numbering.{deduplicated}
+use Rattle.rt_lines.specs.Numbering.{deduplicated}
 use Rattle.indexmap.specs.IndexSet.{insert_key}
-use Rattle.rt_terms.specs.declared.label.Label.{Label}
-use Rattle.rt_terms.specs.declared.variable.Base.{Base}
-use Rattle.rt_terms.specs.declared.variable.Base.TheVariants as base
-use Rattle.rt_terms.specs.declared.variable.Dtv.{Dtv}
-use Rattle.rt_terms.specs.declared.line.Line.{Line}
-use Rattle.rt_terms.specs.declared.line.Line.TheVariants as line
+use Rattle.rt_lines.specs.declared.label.Label.{Label}
+use Rattle.rt_lines.specs.declared.variable.Base.{Base}
+use Rattle.rt_lines.specs.declared.variable.Base.TheVariants as base
+use Rattle.rt_lines.specs.declared.variable.Dtv.{Dtv}
+use Rattle.rt_lines.specs.declared.line.Line.{Line}
+use Rattle.rt_lines.specs.declared.line.Line.TheVariants as line
 use Rattle.rt_scheme.specs.Schemes.{is_interface}
 use Rattle.rt_rows.specs.declared.name.Name.{Name}
 use Rattle.rt_rows.specs.declared.row.Root.{Root}

@@ -5,8 +5,6 @@
 mod name;
 mod numbering;
 mod row;
-#[cfg(test)]
-mod tests;
 
 pub use name::Name;
 pub use numbering::group_lines;

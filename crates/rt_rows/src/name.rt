@@ -1,5 +1,5 @@
 // What existentials stand for.
-use rt_terms::Label;
+use rt_lines::Label;
 
 /// What an existential of a group's lines stands for, in the procedure of a number.
 ///

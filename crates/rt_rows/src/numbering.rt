@@ -1,19 +1,18 @@
 // Names to numbers: the lines of rows.
 ghost use Rattle.std.specs.Prelude.{◌≡◌, ℕ, List, [], All, IfOk, OnOk, flat_map, fold, get_or, map};
 ghost use Rattle.indexmap.specs.IndexSet.{insert_key};
-ghost use Rattle.rt_terms.specs.declared.variable.Base.{Base};
-ghost use Rattle.rt_terms.specs.Lines.{HasConstantsBelow};
+ghost use Rattle.rt_lines.specs.declared.variable.Base.{Base};
+ghost use Rattle.rt_lines.specs.Lines.{HasConstantsBelow};
 ghost use Rattle.rt_rules.specs.Laws.{NamesBase};
-ghost use Rattle.rt_numbering.specs.Numbering.{deduplicated};
-ghost use Rattle.rt_split.specs.Splitting.{AreInterfaceLines};
+ghost use Rattle.rt_lines.specs.Numbering.{deduplicated};
+ghost use Rattle.rt_scheme.specs.Splitting.{AreInterfaceLines};
 ghost use Rattle.rt_rows.specs.Terms.{HasConstantBelow, IsBaseOf, IsGroupRow, group_lines, line_of, lines_by, name_eq, names_of, root_base, root_names, row_names, variable_of};
 
 use crate::name::Name;
 use crate::row::{Root, Row, Rows, Term};
 use indexmap::IndexSet;
 use rt_base::{Memory, Sequence};
-use rt_numbering::deduplicate;
-use rt_terms::{Base, Dtv, Line, Lines};
+use rt_lines::{Base, Dtv, Line, Lines, deduplicate};
 use std::alloc::{AllocError, Global};
 
 /// The lines of some lists of rows together: existentials are numbered from 0 in the order in which their names first

@@ -1,12 +1,12 @@
 // Lines whose existentials have no numbers yet.
 ghost use Rattle.std.specs.Prelude.{◌≡◌, [], ◌∷◌, ◌++◌, All, IfOk, OnOk, OnErr};
 ghost use Rattle.std.specs.Option.{option_to_list};
-ghost use Rattle.rt_terms.specs.Words.{IsLabel};
+ghost use Rattle.rt_lines.specs.Words.{IsLabel};
 ghost use Rattle.rt_rows.specs.Terms.{along, named, root_names, row_names};
 
 use crate::name::Name;
 use rt_base::{Copied, Memory, Sequence};
-use rt_terms::{Label, Word};
+use rt_lines::{Label, Word};
 use std::alloc::{AllocError, Global};
 
 /// What a term belongs to: a procedure, a global, a base of the outside, or what an existential stands for.

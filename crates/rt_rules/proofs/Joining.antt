@@ -1,13 +1,13 @@
 -- Lists with more lines of the outside, and lists with a line less.
 use Rattle.std.proofs.Common.{◌≡◌, ◌⊎◌, inl, inr, List, ◌∷◌, ◌++◌, All, Contains, Bool, sym, subst, append_assoc}
 use Rattle.std.proofs.lemmas.List.Elements.{All-append}
-use Rattle.rt_terms.specs.declared.variable.Base.{Base}
-use Rattle.rt_terms.specs.declared.line.Line.{Line}
-use Rattle.rt_terms.specs.Orders.{Below}
+use Rattle.rt_base.proofs.Lists.{Contains-cons_cases, Contains-there}
+use Rattle.rt_lines.specs.declared.variable.Base.{Base}
+use Rattle.rt_lines.specs.declared.line.Line.{Line}
+use Rattle.rt_lines.specs.Orders.{Below}
 use Rattle.rt_rules.specs.Rules.{Derivable, line_of}
 use Rattle.rt_rules.specs.Alike.{IsOutside, Covers}
 use Rattle.rt_rules.specs.Laws.{UnionLaw, DropLaw}
-use Rattle.rt_rules.proofs.Lists.{Contains-cons_cases, Contains-there}
 use Rattle.rt_rules.proofs.Carry.{given}
 use Rattle.rt_rules.proofs.Covering.{exchange}
 

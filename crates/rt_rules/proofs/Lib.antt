@@ -7,3 +7,6 @@ pub mod Substitution
 pub mod Renaming
 pub mod Joining
 pub mod WithoutSame
+pub mod LineSides
+pub mod Deduplicating
+pub mod Numbers

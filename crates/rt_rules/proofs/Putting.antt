@@ -1,22 +1,22 @@
 -- Variables in the place of existentials.
 use Rattle.std.proofs.Common.{◌≡◌, ℕ, ◌⊎◌, inl, inr, List, [], ◌∷◌, ◌++◌, map, Contains, Option, Some, None, Bool, true, false, refl, ap, sym, subst, append_assoc, ◌∙◌}
 use Rattle.std.proofs.lemmas.List.Elements.{All-contains}
-use Rattle.rt_terms.specs.declared.label.Label.{Label}
-use Rattle.rt_terms.specs.declared.label.Variance.{Variance}
-use Rattle.rt_terms.specs.declared.label.Variance.TheVariants.{Co, Contra}
-use Rattle.rt_terms.specs.declared.variable.Base.{Base}
-use Rattle.rt_terms.specs.declared.variable.Base.TheVariants.{Proc, Global, Exist, Outer}
-use Rattle.rt_terms.specs.declared.variable.Dtv.{Dtv}
-use Rattle.rt_terms.specs.declared.line.Line.{Line}
-use Rattle.rt_terms.specs.declared.line.Line.TheVariants.{Var, Same, Sub, Low, Up}
-use Rattle.rt_terms.specs.Words.{times, variance_of_word}
-use Rattle.rt_terms.specs.Orders.{Below}
+use Rattle.rt_base.proofs.Lists.{Contains-map, Contains-map_source}
+use Rattle.rt_lines.specs.declared.label.Label.{Label}
+use Rattle.rt_lines.specs.declared.label.Variance.{Variance}
+use Rattle.rt_lines.specs.declared.label.Variance.TheVariants.{Co, Contra}
+use Rattle.rt_lines.specs.declared.variable.Base.{Base}
+use Rattle.rt_lines.specs.declared.variable.Base.TheVariants.{Proc, Global, Exist, Outer}
+use Rattle.rt_lines.specs.declared.variable.Dtv.{Dtv}
+use Rattle.rt_lines.specs.declared.line.Line.{Line}
+use Rattle.rt_lines.specs.declared.line.Line.TheVariants.{Var, Same, Sub, Low, Up}
+use Rattle.rt_lines.specs.Words.{times, variance_of_word}
+use Rattle.rt_lines.specs.Orders.{Below}
 use Rattle.rt_rules.specs.Rules.{longer, extended, HasSide, Derivable}
 use Rattle.rt_rules.specs.Rules.Derivable.{left_side, right_side, same_line, same_self, same_back, same_chain, sub_line, sub_self, sub_chain, low_line, up_line, low_sub, up_sub}
 use Rattle.rt_rules.specs.Alike.{Covers, Alike, map_line}
 use Rattle.rt_rules.specs.Put.{exist, put_found, put_each_at, put_each, HasUse, use_of, IsOnlyUse, BecomesSelf, IsFollowing}
 use Rattle.rt_rules.specs.Laws.{FollowingLaw, PuttingLaw}
-use Rattle.rt_rules.proofs.Lists.{Contains-map, Contains-map_source}
 use Rattle.rt_rules.proofs.Carry.{given, side}
 use Rattle.rt_rules.proofs.Covering.{covers_by, covers_lines, extended-nil}
 use Rattle.rt_rules.proofs.Turned.{times-twice, one_of_both, IsTurned, turned_word, turned_self, same_turned}

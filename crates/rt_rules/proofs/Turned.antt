@@ -1,13 +1,13 @@
 -- Variables with more letters: one shape carries over, and one order, turned round by the letters' signs.
 use Rattle.std.proofs.Common.{◌≡◌, ◌⊎◌, inl, inr, List, [], ◌∷◌, refl, sym, subst}
-use Rattle.rt_terms.specs.declared.label.Label.{Label}
-use Rattle.rt_terms.specs.declared.label.Variance.{Variance}
-use Rattle.rt_terms.specs.declared.label.Variance.TheVariants.{Co, Contra}
-use Rattle.rt_terms.specs.declared.variable.Dtv.{Dtv}
-use Rattle.rt_terms.specs.declared.line.Line.{Line}
-use Rattle.rt_terms.specs.declared.line.Line.TheVariants.{Var, Same, Sub}
-use Rattle.rt_terms.specs.Words.{label_variance, times, variance_of_word}
-use Rattle.rt_terms.specs.Orders.{Below}
+use Rattle.rt_lines.specs.declared.label.Label.{Label}
+use Rattle.rt_lines.specs.declared.label.Variance.{Variance}
+use Rattle.rt_lines.specs.declared.label.Variance.TheVariants.{Co, Contra}
+use Rattle.rt_lines.specs.declared.variable.Dtv.{Dtv}
+use Rattle.rt_lines.specs.declared.line.Line.{Line}
+use Rattle.rt_lines.specs.declared.line.Line.TheVariants.{Var, Same, Sub}
+use Rattle.rt_lines.specs.Words.{label_variance, times, variance_of_word}
+use Rattle.rt_lines.specs.Orders.{Below}
 use Rattle.rt_rules.specs.Rules.{longer, extended, Derivable}
 use Rattle.rt_rules.specs.Rules.Derivable.{same_sub, same_back, same_longer, sub_self, sub_co, sub_contra}
 use Rattle.rt_rules.proofs.Carry.{side}

@@ -1,12 +1,12 @@
--- Lists of lines that tell the outside the same.
+-- Lists of lines that say the same to the outside.
 use Rattle.std.specs.Prelude.{◌≡◌, ℕ, List, ◌++◌, All, Bool, true, false, not, nat_eq}
-use Rattle.rt_terms.specs.declared.variable.Base.{Base}
-use Rattle.rt_terms.specs.declared.variable.Base.TheVariants.{Proc, Global, Exist, Outer}
-use Rattle.rt_terms.specs.declared.variable.Dtv.{Dtv}
-use Rattle.rt_terms.specs.declared.line.Line.{Line}
-use Rattle.rt_terms.specs.declared.line.Line.TheVariants.{Var, Same, Sub, Low, Up}
-use Rattle.rt_terms.specs.declared.line.Judge.{Judge}
-use Rattle.rt_terms.specs.Orders.{Below}
+use Rattle.rt_lines.specs.declared.variable.Base.{Base}
+use Rattle.rt_lines.specs.declared.variable.Base.TheVariants.{Proc, Global, Exist, Outer}
+use Rattle.rt_lines.specs.declared.variable.Dtv.{Dtv}
+use Rattle.rt_lines.specs.declared.line.Line.{Line}
+use Rattle.rt_lines.specs.declared.line.Judge.{Judge}
+use Rattle.rt_lines.specs.Orders.{Below}
+pub use Rattle.rt_lines.specs.Sides.{map_line}
 use Rattle.rt_rules.specs.Rules.{HasSide, Derivable, line_of}
 
 -- no side of the line has an inside base
@@ -29,11 +29,3 @@ is_inside_for p (Proc n) = not (nat_eq n p)
 is_inside_for p (Global n) = false
 is_inside_for p (Exist n) = true
 is_inside_for p (Outer n) = false
-
--- a line with each variable replaced
-abbrev pub map_line : (Dtv → Dtv) → Line → Line
-map_line f (Var x) = Var (f x)
-map_line f (Same x y) = Same (f x) (f y)
-map_line f (Sub x y) = Sub (f x) (f y)
-map_line f (Low k x) = Low k (f x)
-map_line f (Up x k) = Up (f x) k

@@ -1,11 +1,13 @@
 -- The laws that the functions of `laws` state.
 use Rattle.std.specs.Prelude.{◌≡◌, ℕ, List, ◌∷◌, ◌++◌, map, All, Contains, Option, Some, Bool, true, false}
-use Rattle.rt_terms.specs.declared.variable.Base.{Base}
-use Rattle.rt_terms.specs.declared.variable.Base.TheVariants.{Exist}
-use Rattle.rt_terms.specs.declared.label.Variance.{Variance}
-use Rattle.rt_terms.specs.declared.variable.Dtv.{Dtv}
-use Rattle.rt_terms.specs.declared.line.Line.{Line}
-use Rattle.rt_terms.specs.Orders.{Below}
+use Rattle.rt_lines.specs.declared.variable.Base.{Base}
+use Rattle.rt_lines.specs.declared.variable.Base.TheVariants.{Exist}
+use Rattle.rt_lines.specs.declared.label.Variance.{Variance}
+use Rattle.rt_lines.specs.declared.variable.Dtv.{Dtv}
+use Rattle.rt_lines.specs.declared.line.Line.{Line}
+use Rattle.rt_lines.specs.Orders.{Below}
+use Rattle.rt_lines.specs.Numbering.{deduplicated, numbered}
+pub use Rattle.rt_lines.specs.Sides.{renamed}
 use Rattle.rt_rules.specs.Rules.{HasSide, Derivable}
 use Rattle.rt_rules.specs.Alike.{Alike, IsOutside, map_line}
 use Rattle.rt_rules.specs.Put.{put_lines, put_each, IsFollowing, IsOnlyUse, IsPutting}
@@ -36,10 +38,6 @@ UnionLaw =
     (order : Below) (inside : Base → Bool) (first second more : List Line) →
     All (IsOutside inside) more → Alike order inside first second → Alike order inside (first ++ more) (second ++ more)
 
--- the variable with its base renamed
-abbrev pub renamed : (Base → Base) → Dtv → Dtv
-renamed rename x = record { base = rename x.base; word = x.word }
-
 -- some line has a side of this base
 abbrev pub NamesBase : List Line → Base → Type 0
 NamesBase lines b = (l : Line) × (x : Dtv) × Contains lines l × HasSide l x × (x.base ≡ b)
@@ -59,3 +57,13 @@ RenamingLaw =
 -- a line that the others derive may be dropped
 abbrev pub DropLaw : Type 0
 DropLaw = (order : Below) (inside : Base → Bool) (lines : List Line) (l : Line) → Derivable order lines l → Alike order inside (l ∷ lines) lines
+
+-- the outside can derive the same from lines and from the same lines, each once
+abbrev pub DeduplicationLaw : Type 0
+DeduplicationLaw = (order : Below) (inside : Base → Bool) (lines : List Line) → Alike order inside lines (deduplicated lines)
+
+-- where every existential is inside, the outside can derive the same from lines and from the numbered ones
+abbrev pub NumberingLaw : Type 0
+NumberingLaw =
+    (order : Below) (inside : Base → Bool) (lines : List Line) →
+    ((n : ℕ) → inside (Exist n) ≡ true) → Alike order inside lines (numbered lines)

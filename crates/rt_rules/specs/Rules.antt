@@ -1,15 +1,15 @@
 -- The rules of derivation.
 use Rattle.std.specs.Prelude.{◌≡◌, ℕ, ◌⊎◌, List, [], ◌∷◌, ◌++◌, Contains}
-use Rattle.rt_terms.specs.declared.label.Label.{Label}
-use Rattle.rt_terms.specs.declared.label.Label.TheVariants.{Load, Store}
-use Rattle.rt_terms.specs.declared.label.Variance.TheVariants.{Co, Contra}
-use Rattle.rt_terms.specs.declared.variable.Dtv.{Dtv}
-use Rattle.rt_terms.specs.declared.line.Line.{Line}
-use Rattle.rt_terms.specs.declared.line.Line.TheVariants.{Var, Same, Sub, Low, Up}
-use Rattle.rt_terms.specs.declared.line.Judge.{Judge}
-use Rattle.rt_terms.specs.declared.line.Judge.TheVariants.{Var as JudgeVar, Sub as JudgeSub, Low as JudgeLow, Up as JudgeUp}
-use Rattle.rt_terms.specs.Words.{label_variance}
-use Rattle.rt_terms.specs.Orders.{Below, IsAtOrBelow}
+use Rattle.rt_lines.specs.declared.label.Label.{Label}
+use Rattle.rt_lines.specs.declared.label.Label.TheVariants.{Load, Store}
+use Rattle.rt_lines.specs.declared.label.Variance.TheVariants.{Co, Contra}
+use Rattle.rt_lines.specs.declared.variable.Dtv.{Dtv}
+use Rattle.rt_lines.specs.declared.line.Line.{Line}
+use Rattle.rt_lines.specs.declared.line.Line.TheVariants.{Var, Same, Sub, Low, Up}
+use Rattle.rt_lines.specs.declared.line.Judge.{Judge}
+use Rattle.rt_lines.specs.declared.line.Judge.TheVariants.{Var as JudgeVar, Sub as JudgeSub, Low as JudgeLow, Up as JudgeUp}
+use Rattle.rt_lines.specs.Words.{label_variance}
+use Rattle.rt_lines.specs.Orders.{Below, IsAtOrBelow}
 
 -- the variable with a letter more
 abbrev pub longer : Dtv → Label → Dtv

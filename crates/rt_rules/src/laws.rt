@@ -1,5 +1,5 @@
 // The laws of derivations: functions that do nothing, each for the law that it ensures.
-ghost use Rattle.rt_rules.specs.Laws.{DropLaw, FollowingLaw, PuttingLaw, RenamingLaw, SubstitutionLaw, UnionLaw};
+ghost use Rattle.rt_rules.specs.Laws.{DeduplicationLaw, DropLaw, FollowingLaw, NumberingLaw, PuttingLaw, RenamingLaw, SubstitutionLaw, UnionLaw};
 ghost use Rattle.rt_rules.specs.Paper.{WithoutSameLow, WithoutSameSub, WithoutSameUp, WithoutSameVar};
 
 /// Each of many inside existentials may give its place to its only definition, all at once: the outside can derive the
@@ -26,7 +26,7 @@ pub fn renaming()
     ensures { RenamingLaw }
 {}
 
-/// Lists of lines that tell the outside the same still do when both get the same more lines of the outside.
+/// Lists of lines that say the same to the outside still do when both get the same more lines of the outside.
 pub fn union()
     ensures { UnionLaw }
 {}
@@ -34,6 +34,16 @@ pub fn union()
 /// A line that the others derive may be dropped: the outside can derive the same without it.
 pub fn dropping()
     ensures { DropLaw }
+{}
+
+/// Lines that are there twice say no more to the outside than once.
+pub fn deduplication()
+    ensures { DeduplicationLaw }
+{}
+
+/// The numbers of existentials, all of which are inside, do not matter.
+pub fn numbering()
+    ensures { NumberingLaw }
 {}
 
 /// Where no line is a `same`, the rules derive what the rules of PLDI 2016 (figure 3) derive, with two rules more (of two

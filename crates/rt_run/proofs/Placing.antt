@@ -5,12 +5,12 @@ use Rattle.std.proofs.lemmas.Bool.{cases_order}
 use Rattle.std.proofs.lemmas.List.{get_or-set_other, get_or-set_same, get_or_default, length-set}
 use Rattle.std.proofs.Math.ListN.{get_or-map as get_or-map_same}
 use Rattle.std.proofs.lemmas.List.Elements.{Contains-get_or}
-use Rattle.rt_terms.specs.declared.line.Line.{Line}
-use Rattle.rt_terms.specs.Lines.{HasConstantsBelow}
+use Rattle.rt_lines.specs.declared.line.Line.{Line}
+use Rattle.rt_lines.specs.Lines.{HasConstantsBelow}
 use Rattle.rt_lattice.specs.Lattices.{size_of}
 use Rattle.rt_proc.specs.declared.proc.Proc.{Proc}
 use Rattle.rt_calls.specs.Calls.{AreGroupsOf}
-use Rattle.rt_groups.specs.Groups.{group_at}
+use Rattle.rt_components.specs.Groups.{group_at}
 use Rattle.rt_scheme.specs.declared.scheme.Scheme.{Scheme}
 use Rattle.rt_table.specs.Lists.{AreLinesOf, HasGlobalsOf}
 use Rattle.rt_run.specs.declared.analysis.Analysis.{Analysis}

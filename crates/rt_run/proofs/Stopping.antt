@@ -4,7 +4,6 @@ use Rattle.std.specs.Prelude.{IfSome}
 use Rattle.rt_base.specs.Outside.{Rose, Tells}
 use Rattle.rt_lattice.specs.Lattices.{NamedOrder}
 use Rattle.rt_sigs.specs.Signatures.{Signature}
-use Rattle.rt_sigs.specs.SignatureTexts.{IsFileOf}
 use Rattle.rt_run.specs.declared.refusal.Refusal.{Refusal}
 use Rattle.rt_run.specs.declared.stop.Stop.{Stop}
 use Rattle.rt_run.specs.declared.stop.Stop.TheVariants.{Refused, NoRead, NoMemory}
@@ -14,7 +13,7 @@ use Rattle.rt_run.specs.Errors.{read_line, refusal_line}
 use Rattle.rt_run.specs.Objects.{IsNoText}
 use Rattle.rt_run.specs.Entails.{IsNoEntailText}
 use Rattle.rt_run.specs.Words.{Command, Report, Entail, Step, OfLattice, OfSignatures, OfInput, lattice_of, signatures_of, input_of}
-use Rattle.rt_run.specs.Inputs.{Contents, IsLatticeFor, AreSignaturesFor, IsLatticeRefused, IsSignaturesRefused}
+use Rattle.rt_run.specs.Inputs.{Contents, IsLatticeFor, AreSignaturesIn, AreSignaturesFor, IsLatticeRefused, IsSignaturesRefused}
 use Rattle.rt_run.specs.Status.{AreInputs, ComesTo, IsInputRefused, IsRefusedBy, of_lattice, of_signatures, of_input, IsStopFor, Stops, StopsAt, StopsFor}
 
 -- a count that rose later rose from before
@@ -66,7 +65,7 @@ stops_at_input command content content' before faults faults' order signatures s
 pub signatures_from : (content content' : Contents) (names : List (List ℕ)) (name : Option (List ℕ)) (signatures : List Signature) → ((n : List ℕ) → content' n ≡ content n)
     → AreSignaturesFor content' names name signatures → AreSignaturesFor content names name signatures
 signatures_from content content' names None signatures same h = h
-signatures_from content content' names (Some name) signatures same h = subst (λ o. IfSome o (λ (text : List ℕ). IsFileOf names text signatures)) (same name) h
+signatures_from content content' names (Some name) signatures same h = subst (λ o. IfSome o (λ (text : List ℕ). AreSignaturesIn names text signatures)) (same name) h
 
 pub are_inputs : (command : Command) (content content' : Contents) (order : NamedOrder) (names : List (List ℕ)) (signatures : List Signature) → ((n : List ℕ) → content' n ≡ content n) → names ≡ order.names
     → IsLatticeFor content (lattice_of command) order → AreSignaturesFor content' names (signatures_of command) signatures → AreInputs command content order signatures

@@ -1,9 +1,9 @@
 -- What is worked out of an object before it is told.
 use Rattle.std.specs.Prelude.{◌≡◌, ℕ, ◌<◌, All, Option, Some, None, List, [], get_or, length, slice_index_or}
-use Rattle.rt_terms.specs.declared.line.Line.{Line}
-use Rattle.rt_terms.specs.Lines.{HasConstantsBelow}
+use Rattle.rt_lines.specs.declared.line.Line.{Line}
+use Rattle.rt_lines.specs.Lines.{HasConstantsBelow}
 use Rattle.rt_lattice.specs.Lattices.{NamedOrder, size_of}
-use Rattle.rt_elf.specs.declared.object.Object.{Object}
+use Rattle.rt_elf.specs.Parts.{Parts as Object}
 use Rattle.rt_proc.specs.declared.proc.Proc.{Proc}
 use Rattle.rt_calls.specs.Calls.{AreGroupsOf}
 use Rattle.rt_scheme.specs.declared.scheme.Scheme.{Scheme}

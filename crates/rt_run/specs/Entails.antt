@@ -19,9 +19,9 @@ IsEntailRefused names judgement text (Object number offset) = ⊥
 IsEntailRefused names judgement text (Link number section offset) = ⊥
 IsEntailRefused names judgement text (Code number section offset) = ⊥
 
--- whether the judgement is derivable from the lines of the text
+-- whether the judgement is derivable from the lines of the text, which is no longer than a text may be
 abbrev pub IsEntailText : List (List ℕ) → List ℕ → List ℕ → List ℕ → Type 0
-IsEntailText names judgement text written = (yes : Bool) × IsAnswer names text judgement yes × (written ≡ (if yes then codes "yes\n" else codes "no\n"))
+IsEntailText names judgement text written = (yes : Bool) × (length text ≤ 1048576) × IsAnswer names text judgement yes × (written ≡ (if yes then codes "yes\n" else codes "no\n"))
 
 -- there is no text where the text of lines or the judgement is refused; memory may always run out
 abbrev pub IsNoEntailText : List (List ℕ) → List ℕ → List ℕ → NoText → Type 0

@@ -1,9 +1,9 @@
 -- The globals that a report names.
 use Rattle.std.specs.Prelude.{◌≡◌, ◌↔◌, ℕ, ◌<◌, List, All, Contains, map, length}
 use Rattle.std.specs.List.Sorted.{IsStrictlyIncreasing}
-use Rattle.rt_terms.specs.declared.variable.Base.TheVariants.{Global}
+use Rattle.rt_lines.specs.declared.variable.Base.TheVariants.{Global}
 use Rattle.rt_rules.specs.Laws.{NamesBase}
-use Rattle.rt_elf.specs.declared.object.Object.{Object}
+use Rattle.rt_elf.specs.Parts.{Parts as Object}
 use Rattle.rt_body.specs.Symbols.{symbol_of}
 use Rattle.rt_scheme.specs.declared.report.Entry.{Entry}
 

@@ -1,11 +1,11 @@
 -- The lattice and the signatures that a command works with, and when their files are refused.
-use Rattle.std.specs.Prelude.{◌≡◌, ◌≢◌, ℕ, Option, Some, None, IfSome, List, []}
+use Rattle.std.specs.Prelude.{◌≡◌, ◌≢◌, ◌≤◌, ℕ, Option, Some, None, IfSome, List, [], length}
 use Rattle.rt_lattice.specs.declared.fault.LatFault.TheVariants as lattice
 use Rattle.rt_lattice.specs.Faults.{IsFirstFault, IsLatticeIn}
 use Rattle.rt_lattice.specs.Lattices.{NamedOrder, IsLatticeOf}
 use Rattle.rt_lattice.specs.Standard.{standard_file}
 use Rattle.rt_sigs.specs.declared.fault.SigFault.TheVariants as signatures
-use Rattle.rt_sigs.specs.Faults.{IsFault}
+use Rattle.rt_sigs.specs.Faults.{IsFault, most_bytes}
 use Rattle.rt_sigs.specs.Signatures.{Signature}
 use Rattle.rt_sigs.specs.SignatureTexts.{IsFileOf}
 use Rattle.rt_run.specs.declared.refusal.Refusal.{Refusal}
@@ -20,10 +20,14 @@ abbrev pub IsLatticeFor : Contents → Option (List ℕ) → NamedOrder → Type
 IsLatticeFor content None order = IsLatticeOf standard_file order
 IsLatticeFor content (Some name) order = IfSome (content name) (λ (text : List ℕ). IsLatticeIn text order)
 
+-- the signatures that a text says, with the constants of these names; it is no longer than a file may be
+abbrev pub AreSignaturesIn : List (List ℕ) → List ℕ → List Signature → Type 0
+AreSignaturesIn names text sigs = (length text ≤ most_bytes) × IsFileOf names text sigs
+
 -- the signatures of a file, where one is named, with the constants of these names, and else none
 abbrev pub AreSignaturesFor : Contents → List (List ℕ) → Option (List ℕ) → List Signature → Type 0
 AreSignaturesFor content names None sigs = sigs ≡ []
-AreSignaturesFor content names (Some name) sigs = IfSome (content name) (λ (text : List ℕ). IsFileOf names text sigs)
+AreSignaturesFor content names (Some name) sigs = IfSome (content name) (λ (text : List ℕ). AreSignaturesIn names text sigs)
 
 -- the content of a lattice file is refused so: by its first fault
 abbrev pub IsLatticeRefused : List ℕ → Refusal → Type 0

@@ -1,7 +1,7 @@
 -- Objects that the reports are about, and when one is refused.
 use Rattle.std.specs.Prelude.{◌≡◌, ℕ, Some, None, List}
 use Rattle.rt_elf.specs.declared.fault.ElfFault.TheVariants.{Bad}
-use Rattle.rt_elf.specs.declared.object.Object.{Object}
+use Rattle.rt_elf.specs.Parts.{Parts as Object}
 use Rattle.rt_elf.specs.Checks.{first_fault}
 use Rattle.rt_elf.specs.Object.{IsObject}
 use Rattle.rt_link.specs.declared.fault.LinkFault.TheVariants.{Bad as BadReloc}

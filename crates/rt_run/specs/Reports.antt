@@ -1,8 +1,8 @@
 -- What `constraints` and `schemes` write for an object.
 use Rattle.std.specs.Prelude.{◌≡◌, ℕ, ◌<◌, Contains, List, [], get_or, length, slice_index_or, Option, Some, None}
-use Rattle.rt_terms.specs.declared.line.Line.{Line}
+use Rattle.rt_lines.specs.declared.line.Line.{Line}
 use Rattle.rt_lattice.specs.Lattices.{NamedOrder}
-use Rattle.rt_elf.specs.declared.object.Object.{Object}
+use Rattle.rt_elf.specs.Parts.{Parts as Object}
 use Rattle.rt_proc.specs.declared.proc.Proc.{Proc}
 use Rattle.rt_calls.specs.Calls.{AreGroupsOf}
 use Rattle.rt_sigs.specs.Signatures.{Signature}

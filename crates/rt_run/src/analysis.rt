@@ -30,7 +30,6 @@ pub struct Analysis<'a> {
 
 impl<'a> Analysis<'a> {
     ghost use Rattle.rt_lattice.specs.Lattices.{size_of};
-    ghost use Rattle.rt_elf.specs.Object.{IsInFile, IsLinkable};
     ghost use Rattle.rt_link.specs.Checks.{link_fault};
     ghost use Rattle.rt_link.specs.Links.{AreLinksOf};
     ghost use Rattle.rt_proc.specs.Procs.{AreProcs};
@@ -46,8 +45,6 @@ impl<'a> Analysis<'a> {
         sigs: &'a Sigs,
         lattice: &'a Lattice,
     ) -> Result<Analysis<'a>, Memory>
-        requires in_file { IsInFile object.now }
-        requires linkable { IsLinkable object.now }
         requires linked { link_fault object.now ≡ None }
         requires links { AreLinksOf object.now links.now }
         requires procs { AreProcs object.now procs.now }

@@ -5,7 +5,7 @@ ghost use Rattle.rt_run.specs.Entails.{IsEntailText, IsNoEntailText};
 use crate::no_text::NoText;
 use crate::refusal::Refusal;
 use rt_entail::{EntailFault, entails};
-use rt_terms::Names;
+use rt_lines::Names;
 use std::alloc::Global;
 
 /// The text that `entail` writes for a text of lines and a judgement, or why there is none. Constants are those of the names.

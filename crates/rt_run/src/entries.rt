@@ -1,6 +1,6 @@
 // The entries of a report.
 ghost use Rattle.std.specs.Prelude.{◌≡◌, ◌<◌, [], ◌∷◌, None, All, IfOk, length, slice_index_or, slice_set};
-ghost use Rattle.rt_terms.specs.Lines.{HasConstantsBelow};
+ghost use Rattle.rt_lines.specs.Lines.{HasConstantsBelow};
 ghost use Rattle.rt_lattice.specs.Lattices.{size_of};
 ghost use Rattle.rt_table.specs.Lists.{HasGlobalsOf};
 ghost use Rattle.rt_run.specs.Analyses.{IsAnalysis, object_in, procs_in};
@@ -10,17 +10,17 @@ use crate::analysis::Analysis;
 use crate::content::Content;
 use crate::lists::Lists;
 use rt_base::Memory;
+use rt_lines::Lines;
 use rt_proc::Proc;
 use rt_scheme::{Entries, Entry, Place2};
-use rt_terms::Lines;
 use std::alloc::{AllocError, Global};
 
 // The entry of a procedure with a number and lines.
-fn entry_of(number: u32, proc: &Proc, lines: Lines) -> Result<Entry, Memory>
+fn entry_of(alloc: Global, number: u32, proc: &Proc, lines: Lines) -> Result<Entry, Memory>
     ensures entry { IfOk result (IsEntryOf number proc.now) }
     ensures lines { IfOk result (λ entry. entry.lines ≡ lines) }
 {
-    let name = proc.name.copy()?;
+    let name = proc.name.to_bytes(alloc)?;
     Ok(Entry {
         number,
         place: Place2 {
@@ -61,7 +61,7 @@ pub fn entries_of(
         let Some(lines) = take_at(&mut lists, place) else {
             return Err(AllocError);
         };
-        entries.push(entry_of(number, proc, lines)?)?;
+        entries.push(entry_of(alloc, number, proc, lines)?)?;
     }
     Ok(entries)
 }

@@ -9,8 +9,8 @@ ghost use Rattle.rt_run.specs.Globals.{AreGlobals, global_of};
 
 use rt_base::Memory;
 use rt_elf::Object;
+use rt_lines::{Base, Line};
 use rt_scheme::{Entry, Globals};
-use rt_terms::{Base, Line};
 use std::alloc::Global;
 use std::collections::BTreeSet;
 
@@ -64,10 +64,10 @@ fn named(alloc: Global, object: &Object, numbers: BTreeSet<u32>) -> Result<Globa
     ensures named { IfOk result (λ globals. globals ≡ map (global_of object.now) numbers.keys) }
     ensures rising { OnOk result (IsStrictlyIncreasing numbers.keys) }
 {
-    let symbols = object.symbols.items();
+    let symbols = object.symbols();
     let mut globals = Globals::new(alloc);
     for number in numbers {
-        let name = symbols[number as usize].name.copy()?;
+        let name = symbols[number as usize].name.to_bytes(alloc)?;
         globals.push((number, name))?;
     }
     Ok(globals)

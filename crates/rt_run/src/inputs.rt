@@ -3,16 +3,15 @@ ghost use Rattle.std.specs.Prelude.{◌≡◌, ◌<◌, ◌≤◌, ℕ, List, If
 ghost use Rattle.rt_lattice.specs.Faults.{IsLatticeIn};
 ghost use Rattle.rt_lattice.specs.Lattices.{size_of};
 ghost use Rattle.rt_sigs.specs.Signatures.{AreSignatures};
-ghost use Rattle.rt_sigs.specs.SignatureTexts.{IsFileOf};
-ghost use Rattle.rt_run.specs.Inputs.{AreSignaturesFor, IsLatticeFor, IsLatticeRefused, IsSignaturesRefused};
+ghost use Rattle.rt_run.specs.Inputs.{AreSignaturesFor, AreSignaturesIn, IsLatticeFor, IsLatticeRefused, IsSignaturesRefused};
 ghost use Rattle.rt_run.specs.Status.{IsStopOf, StopsAt, StopsFor};
 
 use crate::refusal::Refusal;
 use crate::stop::Stop;
+use rt_io::{FileFault, Files};
 use rt_lattice::{LatFault, Lattice, standard};
-use rt_outside::{FileFault, Files};
+use rt_lines::Names;
 use rt_sigs::{SigFault, Sigs};
-use rt_terms::Names;
 use std::alloc::Global;
 
 /// The greatest length of a lattice file, in bytes.
@@ -96,7 +95,7 @@ pub fn lattice_for<'a, F: Files>(
 
 // The signatures of a text, with the constants of these names.
 fn signatures_in<'a>(alloc: Global, text: &[u8], names: &Names) -> Result<Sigs, Stop<'a>>
-    ensures signatures { IfOk result (IsFileOf names.now text.now) }
+    ensures signatures { IfOk result (AreSignaturesIn names.now text.now) }
     ensures stopped { IfErr result (IsStopOf (IsSignaturesRefused names.now text.now)) }
 {
     match rt_sigs::read(alloc, text, names) {
@@ -115,7 +114,7 @@ fn read_signatures<'a, F: Files>(
 ) -> Result<Sigs, Stop<'a>>
     ensures same { (n : List ℕ) → F.content files.new n ≡ F.content files.old n }
     ensures counted { (n : List ℕ) → F.faults files.old n ≤ F.faults files.new n }
-    ensures signatures { IfOk result (λ sigs. IfSome (F.content files.old name.now) (λ text. IsFileOf names.now text sigs)) }
+    ensures signatures { IfOk result (λ sigs. IfSome (F.content files.old name.now) (λ text. AreSignaturesIn names.now text sigs)) }
     ensures good { IfOk result (AreSignatures (length names.now)) }
     ensures stopped { IfErr result (StopsAt (IsSignaturesRefused names.now) (F.content files.old) (F.faults files.old) (F.faults files.new) name.now) }
 {

@@ -1,14 +1,14 @@
 // The lines that a report tells of each procedure.
 ghost use Rattle.std.specs.Prelude.{◌≡◌, ◌<◌, ◌⊎◌, ℕ, List, Some, None, All, Contains, IfOk, OnOk, length, option_map, replicate, slice_index_or};
-ghost use Rattle.rt_terms.specs.declared.line.Line.{Line};
+ghost use Rattle.rt_lines.specs.declared.line.Line.{Line};
 ghost use Rattle.rt_scheme.specs.declared.scheme.Scheme.{Scheme};
 ghost use Rattle.rt_run.specs.Analyses.{AreListsOf, IsAnalysis, IsBodyOf, procs_in};
 
 use crate::analysis::Analysis;
 use crate::content::Content;
 use rt_base::Memory;
+use rt_lines::Lines;
 use rt_table::{Bodies, lines_of};
-use rt_terms::Lines;
 use std::alloc::{AllocError, Global};
 
 /// For each procedure its lines, where they are known.

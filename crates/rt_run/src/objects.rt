@@ -1,7 +1,7 @@
 // Objects, from their bytes to their procedures.
 ghost use Rattle.std.specs.Prelude.{◌≡◌, None, IfErr, IfOk, OnOk};
 ghost use Rattle.rt_elf.specs.Checks.{first_fault};
-ghost use Rattle.rt_elf.specs.Object.{IsObject, IsInFile, IsLinkable};
+ghost use Rattle.rt_elf.specs.Object.{IsObject};
 ghost use Rattle.rt_link.specs.Checks.{link_fault};
 ghost use Rattle.rt_link.specs.Links.{AreLinksOf};
 ghost use Rattle.rt_proc.specs.Faults.{HasNoFault};
@@ -20,8 +20,6 @@ pub fn read_object(alloc: Global, bytes: &[u8]) -> Result<Object, NoText>
     ensures refused { IfErr result (IsNoText bytes.now) }
     ensures unrefused { OnOk result (first_fault bytes.now ≡ None) }
     ensures found { IfOk result (IsObject bytes.now) }
-    ensures in_file { IfOk result IsInFile }
-    ensures linkable { IfOk result IsLinkable }
 {
     match rt_elf::read(alloc, bytes) {
         Ok(object) => Ok(object),
@@ -36,8 +34,6 @@ pub fn read_object(alloc: Global, bytes: &[u8]) -> Result<Object, NoText>
 pub fn links_of(alloc: Global, object: &Object) -> Result<Links, NoText>
     requires unrefused { first_fault object.now.bytes ≡ None }
     requires is_object { IsObject object.now.bytes object.now }
-    requires in_file { IsInFile object.now }
-    requires linkable { IsLinkable object.now }
     ensures refused { IfErr result (IsNoText object.now.bytes) }
     ensures linked { OnOk result (link_fault object.now ≡ None) }
     ensures found { IfOk result (AreLinksOf object.now) }
@@ -58,8 +54,6 @@ pub fn links_of(alloc: Global, object: &Object) -> Result<Links, NoText>
 /// The object's procedures.
 pub fn procs_of(alloc: Global, object: &Object, links: &Links) -> Result<Procs, NoText>
     requires is_linked { IsLinked object.now.bytes object.now }
-    requires in_file { IsInFile object.now }
-    requires linkable { IsLinkable object.now }
     requires links { AreLinksOf object.now links.now }
     ensures refused { IfErr result (IsNoText object.now.bytes) }
     ensures is_sound { OnOk result (HasNoFault object.now) }

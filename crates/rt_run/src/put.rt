@@ -3,7 +3,7 @@ ghost use Rattle.std.specs.Prelude.{◌≡◌, ◌≤◌, OnOk, OnErr};
 ghost use Rattle.std.specs.Io.KnownBytes.{Appends};
 ghost use Rattle.rt_base.specs.Outside.{Rose, AppendsFront, Tells};
 
-use rt_outside::{Sink, SinkFault};
+use rt_io::{Sink, SinkFault};
 
 /// How many bytes go out in one put. Only a text's last piece is shorter.
 pub const PIECE: usize = 4096;

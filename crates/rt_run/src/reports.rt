@@ -1,6 +1,5 @@
 // The texts that `constraints` and `schemes` write.
 ghost use Rattle.std.specs.Prelude.{◌≡◌, IfErr, IfOk, None};
-ghost use Rattle.rt_elf.specs.Object.{IsInFile, IsLinkable};
 ghost use Rattle.rt_lattice.specs.Lattices.{size_of};
 ghost use Rattle.rt_link.specs.Links.{AreLinksOf};
 ghost use Rattle.rt_sigs.specs.Signatures.{AreSignatures};
@@ -33,8 +32,6 @@ fn text_of(
     lattice: &Lattice,
 ) -> Result<Vec<u8>, Memory>
     requires is_analysed { IsAnalysed object.now.bytes object.now procs.now }
-    requires in_file { IsInFile object.now }
-    requires linkable { IsLinkable object.now }
     requires links { AreLinksOf object.now links.now }
     requires signatures { AreSignatures (size_of lattice.now) sigs.now }
     ensures { IfOk result (λ text. IsReportText content lattice.now sigs.now object.now.bytes text.items) }

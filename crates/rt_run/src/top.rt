@@ -17,7 +17,7 @@ use crate::refusal::{Refusal, read_line, refusal_line};
 use crate::reports::report_text;
 use crate::stop::{Ending, Stop};
 use crate::words::{Options, Request, read_words};
-use rt_outside::{Files, Sink};
+use rt_io::{Files, Sink};
 use std::alloc::Global;
 
 /// The greatest length of an object, in bytes.

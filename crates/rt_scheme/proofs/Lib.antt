@@ -1,2 +1,8 @@
 pub mod Origins
 pub mod NamesRead
+pub mod SplitParts
+pub mod SplittingForth
+pub mod SplittingBack
+pub mod SplittingKeeps
+pub mod FirstFree
+pub mod PortLabels

@@ -1,4 +1,4 @@
--- What an instance makes anew: places, and ports in order.
+-- What is instantiated: places, and ports in order.
 use Rattle.std.proofs.Common.{◌≡◌, ◌≤◌, ◌+◌, ℕ, Bool, true, false, cond, nat_lt, Some, None, List, [], ◌∷◌, ◌++◌, length, not, unwrap_or, position, take, get_or, fold, flat_map, nat_eq, if◌then◌else◌, length-append, ◌*◌, add-one, ◌<◌, refl, ap, ◌∙◌, sym, arith}
 use Rattle.std.proofs.Math.Seq.{take-suc}
 use Rattle.std.proofs.lemmas.List.{length-take}
@@ -6,27 +6,16 @@ use Rattle.std.specs.List.{list_any, position_or_len, prefix_len}
 use Rattle.std.proofs.lemmas.List.Sums.{prefix_len-le-length}
 use Rattle.std.proofs.lemmas.Bool.Decides.{nat_tests}
 use Rattle.indexmap.specs.IndexSet.{insert_key}
-use Rattle.rt_terms.specs.declared.label.Label.{Label}
-use Rattle.rt_terms.specs.declared.variable.Base.{Base}
-use Rattle.rt_terms.specs.declared.variable.Base.TheVariants.{Proc, Global, Exist, Outer}
-use Rattle.rt_terms.specs.declared.variable.Dtv.{Dtv}
-use Rattle.rt_terms.specs.declared.line.Line.{Line}
-use Rattle.rt_terms.specs.declared.line.Line.TheVariants.{Var, Same, Sub, Low, Up}
+use Rattle.rt_lines.specs.declared.label.Label.{Label}
+use Rattle.rt_lines.specs.declared.variable.Base.{Base}
+use Rattle.rt_lines.specs.declared.variable.Base.TheVariants.{Proc, Global, Exist, Outer}
+use Rattle.rt_lines.specs.declared.variable.Dtv.{Dtv}
+use Rattle.rt_lines.specs.declared.line.Line.{Line}
+use Rattle.rt_lines.specs.Sides.{sides}
+use Rattle.rt_lines.proofs.LineSides.{length-sides}
 use Rattle.rt_scheme.specs.declared.origin.Origin.{Origin}
 use Rattle.rt_scheme.specs.declared.origin.Origin.TheVariants.{Port, Bound}
 use Rattle.rt_scheme.specs.Instances.{origin_eq, origin_of, origins_of, ports_from}
-
--- the first place that passes, or the length
-pub place-or-length : {X : Type 0} (p : X → Bool) (xs : List X) → unwrap_or (position p xs) (length xs) ≡ position_or_len p xs
-place-or-length p xs = by (nat_lt (position_or_len p xs) (length xs)) refl
-  where
-    by : (b : Bool) → nat_lt (position_or_len p xs) (length xs) ≡ b → unwrap_or (cond b (Some (position_or_len p xs)) None) (length xs) ≡ position_or_len p xs
-    by true e = refl
-    by false e = let h : prefix_len (λ x. not (p x)) xs ≤ length xs = prefix_len-le-length (λ x. not (p x)) xs in grind (arith, nat_tests)
-
--- a first place is no greater than the length
-pub place-within : {X : Type 0} (p : X → Bool) (xs : List X) → position_or_len p xs ≤ length xs
-place-within p xs = prefix_len-le-length (λ x. not (p x)) xs
 
 -- ports of one more
 pub ports_from-more : (first : ℕ) (order : List Origin) (origin : Origin) → ports_from first (order ++ origin ∷ []) ≡ ports_from first order ++ ports_from (first + length order) (origin ∷ [])
@@ -70,15 +59,12 @@ few_of_side own (Global n) w = omega arith
 few_of_side own (Exist n) w = omega arith
 few_of_side own (Outer n) w = omega arith
 
-few_of_two : (own : ℕ) (x y : Dtv) → length (origin_of own x.base x.word ++ origin_of own y.base y.word) ≤ 2
-few_of_two own x y = omega (arith, length-append (origin_of own x.base x.word) (origin_of own y.base y.word), few_of_side own x.base x.word, few_of_side own y.base y.word)
+few_of_sides : (own : ℕ) (xs : List Dtv) → length (flat_map (λ x. origin_of own x.base x.word) xs) ≤ length xs
+few_of_sides own [] = omega arith
+few_of_sides own (x ∷ xs) = omega (arith, length-append (origin_of own x.base x.word) (flat_map (λ y. origin_of own y.base y.word) xs), few_of_side own x.base x.word, few_of_sides own xs)
 
 few_of_line : (own : ℕ) (l : Line) → length (origins_of own l) ≤ 2
-few_of_line own (Var x) = omega (arith, few_of_side own x.base x.word)
-few_of_line own (Same x y) = few_of_two own x y
-few_of_line own (Sub x y) = few_of_two own x y
-few_of_line own (Low k x) = omega (arith, few_of_side own x.base x.word)
-few_of_line own (Up x k) = omega (arith, few_of_side own x.base x.word)
+few_of_line own l = omega (arith, few_of_sides own (sides l), length-sides l)
 
 few_of_lines : (own : ℕ) (lines : List Line) → length (flat_map (origins_of own) lines) ≤ 2 * length lines
 few_of_lines own [] = omega arith

@@ -1,14 +1,13 @@
--- Instances of schemes: what is made anew, and how.
+-- Instances of schemes: what is instantiated, and how.
 use Rattle.std.specs.Prelude.{◌≡◌, ℕ, ◌+◌, nat_eq, Bool, if◌then◌else◌, List, [], ◌∷◌, ◌++◌, map, fold, flat_map, length}
 use Rattle.std.specs.List.{position_or_len}
 use Rattle.indexmap.specs.IndexSet.{insert_key}
-use Rattle.rt_terms.specs.declared.label.Label.{Label}
-use Rattle.rt_terms.specs.declared.variable.Base.{Base}
-use Rattle.rt_terms.specs.declared.variable.Base.TheVariants.{Proc, Global, Exist, Outer}
-use Rattle.rt_terms.specs.declared.variable.Dtv.{Dtv}
-use Rattle.rt_terms.specs.declared.line.Line.{Line}
-use Rattle.rt_terms.specs.declared.line.Line.TheVariants.{Var, Same, Sub, Low, Up}
-use Rattle.rt_rules.specs.Alike.{map_line}
+use Rattle.rt_lines.specs.declared.label.Label.{Label}
+use Rattle.rt_lines.specs.declared.variable.Base.{Base}
+use Rattle.rt_lines.specs.declared.variable.Base.TheVariants.{Proc, Global, Exist, Outer}
+use Rattle.rt_lines.specs.declared.variable.Dtv.{Dtv}
+use Rattle.rt_lines.specs.declared.line.Line.{Line}
+use Rattle.rt_lines.specs.Sides.{map_line, sides}
 use Rattle.rt_scheme.specs.declared.origin.Origin.{Origin}
 use Rattle.rt_scheme.specs.declared.origin.Origin.TheVariants.{Port, Bound}
 use Rattle.rt_scheme.specs.contracts.origin.OriginPartialEq.TheImpl as the_origin
@@ -18,7 +17,7 @@ use Rattle.rt_scheme.specs.declared.instance.Instance.{Instance}
 abbrev pub origin_eq : Origin → Origin → Bool
 origin_eq = (the_origin.ghosts).eq
 
--- what of a variable is made anew: the label that stands directly after the scheme's own base, or the existential
+-- what of a variable is instantiated: the label directly after the scheme's own base, or the existential
 abbrev pub origin_of : ℕ → Base → List Label → List Origin
 origin_of own (Proc n) [] = []
 origin_of own (Proc n) (l ∷ w) = if nat_eq n own then Port l ∷ [] else []
@@ -26,19 +25,15 @@ origin_of own (Global n) w = []
 origin_of own (Exist n) w = Bound n ∷ []
 origin_of own (Outer n) w = []
 
--- what of a line is made anew, its left side before its right
+-- what of a line is instantiated, its left side before its right
 abbrev pub origins_of : ℕ → Line → List Origin
-origins_of own (Var x) = origin_of own x.base x.word
-origins_of own (Same x y) = origin_of own x.base x.word ++ origin_of own y.base y.word
-origins_of own (Sub x y) = origin_of own x.base x.word ++ origin_of own y.base y.word
-origins_of own (Low k x) = origin_of own x.base x.word
-origins_of own (Up x k) = origin_of own x.base x.word
+origins_of own line = flat_map (λ x. origin_of own x.base x.word) (sides line)
 
--- what of lines is made anew, each once, in the order in which it first stands
+-- what of lines is instantiated, each once, in the order in which it is first named
 abbrev pub origins : ℕ → List Line → List Origin
 origins own lines = fold (insert_key origin_eq) [] (flat_map (origins_of own) lines)
 
--- how many existentials an instance has anew
+-- how many existentials an instance makes
 abbrev pub new_count : ℕ → List Line → ℕ
 new_count own lines = length (origins own lines)
 
@@ -58,7 +53,7 @@ instanced_side own first order (Outer n) w = record { base = Outer n; word = w }
 abbrev pub instanced : ℕ → ℕ → List Origin → Dtv → Dtv
 instanced own first order x = instanced_side own first order x.base x.word
 
--- the labels among what is made anew, each with its existential, numbered from the first number on
+-- the labels among what is instantiated, each with its existential, numbered from the first number on
 abbrev pub ports_from : ℕ → List Origin → List (Label × ℕ)
 ports_from first [] = []
 ports_from first (Port l ∷ order) = (l, first) ∷ ports_from (first + 1) order

@@ -1,6 +1,6 @@
 -- The law of instances.
 use Rattle.std.specs.Prelude.{ℕ, ◌*◌, ◌≤◌, List, length}
-use Rattle.rt_terms.specs.declared.line.Line.{Line}
+use Rattle.rt_lines.specs.declared.line.Line.{Line}
 use Rattle.rt_scheme.specs.Instances.{new_count}
 
 -- an instance has at most two existentials for each line

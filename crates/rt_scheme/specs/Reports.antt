@@ -1,7 +1,7 @@
 -- The text of a report.
 use Rattle.std.specs.Prelude.{ℕ, List, [], ◌∷◌, ◌++◌, All, codes, decimal}
 use Rattle.std.specs.List.{flat_map}
-use Rattle.rt_terms.specs.Lines.{HasConstantsBelow}
+use Rattle.rt_lines.specs.Lines.{HasConstantsBelow}
 use Rattle.rt_texts.specs.Texts.{lines_text}
 use Rattle.rt_scheme.specs.declared.report.Place2.{Place2}
 use Rattle.rt_scheme.specs.declared.report.Entry.{Entry}

@@ -48,7 +48,7 @@ fn push_bytes(bytes: &[u8], out: &mut Vec<u8>) -> Result<(), Memory>
 
 /// Adds the one text of a name at the end. A visible byte of ASCII (0x21 to 0x7E) other than `\` stands for
 /// itself, every other byte is `\` and two lower-case hexadecimal digits. The empty name is `-`, and the
-/// name `-` is `\2d`, so that the text is one word. After want of memory the bytes are as they were.
+/// name `-` is `\2d`, so that the text is one word. Out of memory, the bytes are as they were.
 pub fn print_name(name: &[u8], out: &mut Vec<u8>) -> Result<(), Memory>
     ensures ok { OnOk result (out.new.items ≡ out.old.items ++ name_text name.now) }
     ensures err { OnErr result (out.new.items ≡ out.old.items) }
@@ -61,32 +61,5 @@ pub fn print_name(name: &[u8], out: &mut Vec<u8>) -> Result<(), Memory>
             push_bytes(name, &mut text)?;
             out.extend_from_slice(&text)
         }
-    }
-}
-
-#[cfg(test)]
-mod tests {
-    use super::*;
-    use std::alloc::Global;
-    use std::process::Abort;
-    use std::test::Fail;
-
-    fn has_text(rt: &impl Abort, alloc: Global, name: &[u8], text: &[u8]) -> Result<(), Fail> {
-        let mut out = Vec::new(alloc);
-        print_name(name, &mut out)?;
-        assert_eq!(rt; out.as_slice(), text);
-        Ok(())
-    }
-
-    #[test]
-    fn names_have_texts(rt: HostRuntime) -> Result<(), Fail> {
-        let alloc = rt.alloc();
-        has_text(&rt, alloc, b"", b"-")?;
-        has_text(&rt, alloc, b"-", b"\\2d")?;
-        has_text(&rt, alloc, b"--", b"--")?;
-        has_text(&rt, alloc, b"a b", b"a\\20b")?;
-        has_text(&rt, alloc, b"a\\b", b"a\\5cb")?;
-        has_text(&rt, alloc, b"\xff\x80\x7e\x21", b"\\ff\\80~!")?;
-        has_text(&rt, alloc, b"\xc3\xa9", b"\\c3\\a9")
     }
 }

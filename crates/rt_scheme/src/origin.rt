@@ -1,7 +1,7 @@
-// What an instance of a scheme makes anew.
-use rt_terms::Label;
+// What of a scheme is instantiated.
+use rt_lines::Label;
 
-// What an existential of an instance stands for.
+// What an existential of an instance is for.
 #[derive(Clone, Copy, Debug, PartialEq, Eq, Hash)]
 pub enum Origin {
     // The scheme's own variable of a label, that of an argument or a result.

@@ -1,13 +1,13 @@
 // Reports of procedures, and their text.
 ghost use Rattle.std.specs.Prelude.{◌≡◌, ◌++◌, ◌∷◌, All, OnOk, OnErr, IfOk, [], codes, length};
 ghost use Rattle.std.specs.List.{flat_map};
-ghost use Rattle.rt_terms.specs.Lines.{HasConstantsBelow};
+ghost use Rattle.rt_lines.specs.Lines.{HasConstantsBelow};
 ghost use Rattle.rt_scheme.specs.NameTexts.{name_text};
 ghost use Rattle.rt_scheme.specs.Reports.{global_text, heading_text, entry_text, report_text, AllConstantsBelow};
 
 use crate::name::print_name;
 use rt_base::{Bytes, Memory, Sequence};
-use rt_terms::{Lines, Names};
+use rt_lines::{Lines, Names};
 use rt_texts::{print_lines, print_number};
 use std::alloc::Global;
 
@@ -42,9 +42,9 @@ pub type Entries = Sequence<Entry>;
 /// What was found of an object: the globals that the lines name, and the procedures.
 #[derive(Drop)]
 pub struct Report {
-    /// The globals, rising.
+    /// The globals, ascending.
     pub globals: Globals,
-    /// The procedures, rising.
+    /// The procedures, ascending.
     pub entries: Entries,
 }
 
@@ -111,7 +111,7 @@ fn push_entries(entries: &[Entry], names: &Names, out: &mut Vec<u8>) -> Result<(
 }
 
 /// Adds the line that a procedure begins with, with its line end: the procedure's number, its place and its
-/// name. After want of memory the bytes are as they were.
+/// name. Out of memory, the bytes are as they were.
 pub fn print_heading(
     number: u32,
     place: Place2,
@@ -135,84 +135,4 @@ pub fn print_report(alloc: Global, report: &Report, names: &Names) -> Result<Vec
     push_globals(report.globals.items(), &mut text)?;
     push_entries(report.entries.items(), names, &mut text)?;
     Ok(text)
-}
-
-#[cfg(test)]
-mod tests {
-    use super::*;
-    use rt_terms::{Base, Dtv, Label, Line, Loc, Word};
-    use std::test::Fail;
-
-    // `f0.in_a0.load.s32@0 <= f0.out_a0`
-    fn lines(alloc: Global) -> Result<Lines, Memory>
-        ensures { IfOk result (All (HasConstantsBelow 0)) }
-    {
-        let mut from = Word::empty(alloc);
-        from.push(Label::In(Loc::Arg(0)))?;
-        from.push(Label::Load)?;
-        from.push(Label::Field(32, 0))?;
-        let mut to = Word::empty(alloc);
-        to.push(Label::Out(0))?;
-        let base = Base::Proc(0);
-        let line = Line::Sub(Dtv { base, word: from }, Dtv { base, word: to });
-        let mut lines = Lines::new(alloc);
-        lines.push(line)?;
-        Ok(lines)
-    }
-
-    // The report of one procedure.
-    fn report(alloc: Global, globals: Globals) -> Result<Report, Memory>
-        ensures { IfOk result (AllConstantsBelow 0) }
-    {
-        let entry = Entry {
-            number: 0,
-            place: Place2 {
-                section: 1,
-                offset: 0,
-            },
-            name: Bytes::from_vec(b"f".to_vec(alloc)?),
-            lines: lines(alloc)?,
-        };
-        let mut entries = Entries::new(alloc);
-        entries.push(entry)?;
-        Ok(Report { globals, entries })
-    }
-
-    #[test]
-    fn a_report_has_its_text(rt: HostRuntime) -> Result<(), Fail> {
-        let alloc = rt.alloc();
-        let names = Names::new(alloc);
-        let text = print_report(alloc, &report(alloc, Globals::new(alloc))?, &names)?;
-        assert_eq!(rt;
-            text.as_slice(),
-            b"proc f0 section 1 offset 0 name f\nf0.in_a0.load.s32@0 <= f0.out_a0\nend\n".as_slice()
-        );
-        let mut globals = Globals::new(alloc);
-        globals.push((2, Bytes::from_vec(b"head".to_vec(alloc)?)))?;
-        let text = print_report(alloc, &report(alloc, globals)?, &names)?;
-        assert_eq!(rt;
-            text.as_slice(),
-            b"global g2 name head\nproc f0 section 1 offset 0 name f\nf0.in_a0.load.s32@0 <= f0.out_a0\nend\n".as_slice()
-        );
-        Ok(())
-    }
-
-    #[test]
-    fn a_heading_has_its_text(rt: HostRuntime) -> Result<(), Fail> {
-        let mut out = Vec::new(rt.alloc());
-        print_heading(
-            7,
-            Place2 {
-                section: 3,
-                offset: 64,
-            },
-            b"",
-            &mut out,
-        )?;
-        assert_eq!(rt;
-            out.as_slice(),
-            b"proc f7 section 3 offset 64 name -\n".as_slice()
-        );
-        Ok(())
-    }
 }

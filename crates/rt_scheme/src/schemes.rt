@@ -23,7 +23,7 @@ impl Model for Schemes {
 }
 
 impl Schemes {
-    /// No schemes, and room for so many. The error is want of memory.
+    /// No schemes, and room for so many. The error is out of memory.
     pub fn new(alloc: Global, count: u32) -> Result<Schemes, Memory>
         ensures { IfOk result (λ schemes. schemes ≡ replicate count None) }
     {

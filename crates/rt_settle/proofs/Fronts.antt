@@ -4,13 +4,13 @@ use Rattle.std.specs.Bool.{Decides}
 use Rattle.std.specs.List.{starts_with}
 use Rattle.std.proofs.lemmas.List.{get_or_default}
 use Rattle.std.proofs.lemmas.Slice.Eq.{starts_is}
-use Rattle.rt_terms.specs.declared.label.Label.{Label}
-use Rattle.rt_terms.specs.declared.variable.Base.{Base}
-use Rattle.rt_terms.specs.declared.variable.Dtv.{Dtv}
-use Rattle.rt_terms.specs.Equality.{label_eq, base_eq}
-use Rattle.rt_terms.specs.contracts.label.LabelEq.TheImpl.Laws as label_laws
-use Rattle.rt_terms.specs.contracts.variable.BaseEq.TheImpl.Laws as base_laws
-use Rattle.rt_terms.proofs.Equal.{label_equal, base_equal}
+use Rattle.rt_lines.specs.declared.label.Label.{Label}
+use Rattle.rt_lines.specs.declared.variable.Base.{Base}
+use Rattle.rt_lines.specs.declared.variable.Dtv.{Dtv}
+use Rattle.rt_lines.specs.Equality.{label_eq, base_eq}
+use Rattle.rt_lines.specs.contracts.label.LabelEq.TheImpl.Laws as label_laws
+use Rattle.rt_lines.specs.contracts.variable.BaseEq.TheImpl.Laws as base_laws
+use Rattle.rt_lines.proofs.Equal.{label_equal, base_equal}
 use Rattle.rt_rules.specs.Rules.{extended}
 use Rattle.rt_settle.specs.declared.spare.Side.{Side}
 use Rattle.rt_settle.specs.Sides.{IsFront, IsCovered}

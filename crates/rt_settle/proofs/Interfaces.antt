@@ -2,17 +2,19 @@
 use Rattle.std.proofs.Common.{◌≡◌, ℕ, ◌⊎◌, inl, inr, List, [], ◌∷◌, ◌++◌, true, false, IsTrue, nat_eq, refl, sym, subst}
 use Rattle.std.proofs.lemmas.Bool.{and_parts, and_from, both_ways}
 use Rattle.std.proofs.lemmas.List.Elements.{All-contains}
-use Rattle.rt_terms.specs.declared.label.Label.{Label}
-use Rattle.rt_terms.specs.declared.label.Label.TheVariants.{In, Out, Load, Store, Field}
-use Rattle.rt_terms.specs.declared.variable.Base.{Base}
-use Rattle.rt_terms.specs.declared.variable.Base.TheVariants.{Proc, Global, Exist, Outer}
-use Rattle.rt_terms.specs.declared.variable.Dtv.{Dtv}
-use Rattle.rt_terms.specs.declared.line.Line.{Line}
-use Rattle.rt_terms.specs.declared.line.Line.TheVariants.{Var, Same, Sub, Low, Up}
+use Rattle.rt_rules.proofs.LineSides.{Contains-sides, HasSide-in_sides}
+use Rattle.rt_base.proofs.Lists.{All-from_contains, list_all-at, list_all-from}
+use Rattle.rt_lines.specs.declared.label.Label.{Label}
+use Rattle.rt_lines.specs.declared.label.Label.TheVariants.{In, Out, Load, Store, Field}
+use Rattle.rt_lines.specs.declared.variable.Base.{Base}
+use Rattle.rt_lines.specs.declared.variable.Base.TheVariants.{Proc, Global, Exist, Outer}
+use Rattle.rt_lines.specs.declared.variable.Dtv.{Dtv}
+use Rattle.rt_lines.specs.declared.line.Line.{Line}
+use Rattle.rt_lines.specs.declared.line.Line.TheVariants.{Var, Same, Sub, Low, Up}
+use Rattle.rt_lines.specs.Sides.{sides}
 use Rattle.rt_rules.specs.Rules.{extended, HasSide}
-use Rattle.rt_rules.proofs.Lists.{All-from_contains}
 use Rattle.rt_scheme.specs.Schemes.{is_interface, is_scheme_side, is_scheme_variable, is_scheme_line, AreSchemeLines}
-use Rattle.rt_split.specs.Splitting.{is_interface_side, is_interface_variable, is_interface_line, AreInterfaceLines}
+use Rattle.rt_scheme.specs.Splitting.{is_interface_side, is_interface_variable, is_interface_line, AreInterfaceLines}
 use Rattle.rt_settle.specs.Told.{ExtendsSide, IsExist, IsSideOf, TellsSame}
 
 -- what holds of the existentials, and with each variable of those with more letters, holds of the second list's sides
@@ -85,20 +87,10 @@ several-longer_at (Exist n) w v t = refl
 several-longer_at (Outer n) w v t = absurd (both_ways false refl t)
 
 several-side : (l : Line) (x : Dtv) → is_interface_line l ≡ true → HasSide l x → is_interface_variable x ≡ true
-several-side (Var y) x t e = subst (λ v. is_interface_variable v ≡ true) e t
-several-side (Same y z) x t (inl e) = subst (λ v. is_interface_variable v ≡ true) e (and_parts (is_interface_variable y) (is_interface_variable z) t).0
-several-side (Same y z) x t (inr e) = subst (λ v. is_interface_variable v ≡ true) e (and_parts (is_interface_variable y) (is_interface_variable z) t).1
-several-side (Sub y z) x t (inl e) = subst (λ v. is_interface_variable v ≡ true) e (and_parts (is_interface_variable y) (is_interface_variable z) t).0
-several-side (Sub y z) x t (inr e) = subst (λ v. is_interface_variable v ≡ true) e (and_parts (is_interface_variable y) (is_interface_variable z) t).1
-several-side (Low k y) x t e = subst (λ v. is_interface_variable v ≡ true) e t
-several-side (Up y k) x t e = subst (λ v. is_interface_variable v ≡ true) e t
+several-side l x t side = list_all-at is_interface_variable (sides l) x t (Contains-sides l x side)
 
 several-line : (l : Line) → ((x : Dtv) → HasSide l x → is_interface_variable x ≡ true) → is_interface_line l ≡ true
-several-line (Var x) h = h x refl
-several-line (Same x y) h = and_from (is_interface_variable x) (is_interface_variable y) (h x (inl refl)) (h y (inr refl))
-several-line (Sub x y) h = and_from (is_interface_variable x) (is_interface_variable y) (h x (inl refl)) (h y (inr refl))
-several-line (Low k x) h = h x refl
-several-line (Up x k) h = h x refl
+several-line l h = list_all-from is_interface_variable (sides l) (λ x c. h x (HasSide-in_sides l x c))
 
 pub interfaces_stay : (first second : List Line) → TellsSame first second → AreInterfaceLines first → AreInterfaceLines second
 interfaces_stay first second told all = All-from_contains (λ l. IsTrue (is_interface_line l)) second (λ l c. several-line l (λ x h. on_sides x (l, c, h)))

@@ -1,9 +1,7 @@
 pub mod Told
-mod Interfaces
-mod Grouping
+pub mod Interfaces
+pub mod Grouping
 pub mod Distinct
-pub mod Using
-pub mod Choosing
 pub mod Kept
 pub mod Fronts
 pub mod Ranking
@@ -12,19 +10,14 @@ pub mod Staying
 pub mod Uncovered
 pub mod Spared
 pub mod Tidying
+pub mod Needed
+pub mod Exchanged
+pub mod Leaving
 pub mod Numbering
 pub mod Sorting
 pub mod Stable
-mod Replacing
-pub mod Followed
-mod Naming
-pub mod Coming
-pub mod OneRound
+pub mod Naming
 pub mod OneOrder
 pub mod OneChoice
-pub mod Rooting
-pub mod Merging
-pub mod Tops
-pub mod Ends
-pub mod Defining
 pub mod Constants
+pub mod ChosenAlike

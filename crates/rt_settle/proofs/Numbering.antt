@@ -5,27 +5,28 @@ use Rattle.std.specs.List.Sorted.{IsPermutation}
 use Rattle.std.proofs.lemmas.List.{get_or-map, length-map}
 use Rattle.std.proofs.lemmas.List.Elements.{Contains-get_or}
 use Rattle.std.proofs.lemmas.List.Sorted.{All-permutation, Contains-permutation, IsPermutation-sym}
-use Rattle.rt_terms.specs.declared.label.Variance.TheVariants.{Co}
-use Rattle.rt_terms.specs.declared.variable.Base.{Base}
-use Rattle.rt_terms.specs.declared.variable.Base.TheVariants.{Proc, Global, Exist, Outer}
-use Rattle.rt_terms.specs.declared.variable.Dtv.{Dtv}
-use Rattle.rt_terms.specs.declared.line.Line.{Line}
-use Rattle.rt_terms.specs.declared.line.Line.TheVariants.{Var, Same, Sub, Low, Up}
-use Rattle.rt_terms.specs.contracts.line.LineEq.TheImpl.Laws as line_laws
-use Rattle.rt_terms.specs.Equality.{line_eq}
-use Rattle.rt_terms.proofs.Equal.{line_equal}
+use Rattle.rt_base.proofs.Lists.{Contains-map_source}
+use Rattle.rt_lines.specs.declared.label.Variance.{Variance}
+use Rattle.rt_lines.specs.declared.label.Variance.TheVariants.{Co, Contra}
+use Rattle.rt_lines.specs.declared.variable.Base.{Base}
+use Rattle.rt_lines.specs.declared.variable.Base.TheVariants.{Proc, Global, Exist, Outer}
+use Rattle.rt_lines.specs.declared.variable.Dtv.{Dtv}
+use Rattle.rt_lines.specs.declared.line.Line.{Line}
+use Rattle.rt_lines.specs.declared.line.Line.TheVariants.{Var, Same, Sub, Low, Up}
+use Rattle.rt_lines.specs.contracts.line.LineEq.TheImpl.Laws as line_laws
+use Rattle.rt_lines.specs.Equality.{line_eq}
+use Rattle.rt_lines.proofs.Equal.{line_equal}
 use Rattle.rt_rules.specs.Rules.{HasSide}
 use Rattle.rt_rules.specs.Alike.{map_line}
 use Rattle.rt_rules.specs.Put.{exist, HasUse, use_of, IsOnlyUse}
 use Rattle.rt_rules.specs.Laws.{renamed, NamesBase}
-use Rattle.rt_rules.proofs.Lists.{Contains-map_source}
-use Rattle.rt_numbering.specs.Numbering.{existentials, placed, numbered}
-use Rattle.rt_numbering.proofs.Numbers.{placed-one_to_one}
-use Rattle.rt_settle.specs.Rounds.{IsSolved}
+use Rattle.rt_lines.specs.Numbering.{existentials, placed, numbered}
+use Rattle.rt_rules.proofs.Numbers.{placed-one_to_one}
 use Rattle.rt_settle.specs.Sides.{IsFront}
 use Rattle.rt_settle.specs.Tidy.{IsBare, IsTidy}
-use Rattle.rt_settle.proofs.Told.{side_source}
+use Rattle.rt_rules.proofs.LineSides.{HasSide-map_line_source}
 use Rattle.rt_settle.proofs.Distinct.{distinct_permutation}
+use Rattle.rt_settle.proofs.Leaving.{HasNoOnlyUse}
 
 module _ (lines : List Line) (rename : Base → Base)
     (one : (a b : Base) → NamesBase lines a → NamesBase lines b → rename a ≡ rename b → a ≡ b)
@@ -120,7 +121,7 @@ module _ (lines : List Line) (rename : Base → Base)
       by_line : (m : Line) → Contains lines m → new m ≡ Var x → (k : Line) × Contains lines k × (new k ≡ l) → l ≡ Var x
       by_line (Var u) cm em (k, ck, ek) =
           let eu : renamed rename u ≡ x = cc in
-          by_side u k cm ck eu ek (side_source (renamed rename) k y (subst (λ z. HasSide z y) (sym ek) has))
+          by_side u k cm ck eu ek (HasSide-map_line_source (renamed rename) k y (subst (λ z. HasSide z y) (sym ek) has))
       by_line (Same u v) cm em s = cc
       by_line (Sub u v) cm em s = cc
       by_line (Low j u) cm em s = cc
@@ -129,49 +130,60 @@ module _ (lines : List Line) (rename : Base → Base)
       by : (m : Line) × Contains lines m × (new m ≡ Var x) → (k : Line) × Contains lines k × (new k ≡ l) → l ≡ Var x
       by (m, cm, em) s = by_line m cm em s
 
-  HasUse-renamed : (m n : ℕ) → rename (Exist m) ≡ Exist n → (l : Line) → HasUse Co m l → HasUse Co n (new l)
-  HasUse-renamed m n e (Var x) h = absurd h
-  HasUse-renamed m n e (Same x y) h = absurd h
-  HasUse-renamed m n e (Sub x y) (inl (b, s)) = inl (ap rename b ∙ e, s)
-  HasUse-renamed m n e (Sub x y) (inr (b, s)) = inr (ap rename b ∙ e, s)
-  HasUse-renamed m n e (Low k x) (b, s) = (ap rename b ∙ e, s)
-  HasUse-renamed m n e (Up x k) (b, s) = (ap rename b ∙ e, s)
+  HasUse-renamed : (sign : Variance) (m n : ℕ) → rename (Exist m) ≡ Exist n → (l : Line) → HasUse sign m l → HasUse sign n (new l)
+  HasUse-renamed sign m n e (Var x) h = absurd h
+  HasUse-renamed sign m n e (Same x y) h = absurd h
+  HasUse-renamed sign m n e (Sub x y) (inl (b, s)) = inl (ap rename b ∙ e, s)
+  HasUse-renamed sign m n e (Sub x y) (inr (b, s)) = inr (ap rename b ∙ e, s)
+  HasUse-renamed sign m n e (Low k x) (b, s) = (ap rename b ∙ e, s)
+  HasUse-renamed sign m n e (Up x k) (b, s) = (ap rename b ∙ e, s)
+
+  bare_exist : (y : Dtv) (n m : ℕ) → renamed rename y ≡ exist n → y.base ≡ Exist m → y ≡ exist m
+  bare_exist y n m g b = λ t. record { base = b t; word = ap (λ v. v.word) g t }
+
+  renamed_exist : (y : Dtv) (n m : ℕ) → renamed rename y ≡ exist n → y.base ≡ Exist m → rename (Exist m) ≡ Exist n
+  renamed_exist y n m g b = ap rename (sym b) ∙ ap (λ v. v.base) g
+
+  -- a use that a line becomes was one
+  use_source : (sign : Variance) (n : ℕ) (z : Dtv) (l : Line) → new l ≡ use_of sign n z → (m : ℕ) × (x : Dtv) × (rename (Exist m) ≡ Exist n) × (renamed rename x ≡ z) × (l ≡ use_of sign m x)
+  use_source Co n z (Var x) e = cc
+  use_source Co n z (Same x y) e = cc
+  use_source Co n z (Sub x y) e =
+      let f : renamed rename x ≡ z = cc in
+      let g : renamed rename y ≡ exist n = cc in
+      let (m, b) = source y.base n (ap (λ v. v.base) g) in
+      (m, x, renamed_exist y n m g b, f, ap (Sub x) (bare_exist y n m g b))
+  use_source Co n z (Low k x) e = cc
+  use_source Co n z (Up x k) e = cc
+  use_source Contra n z (Var x) e = cc
+  use_source Contra n z (Same x y) e = cc
+  use_source Contra n z (Sub x y) e =
+      let f : renamed rename y ≡ z = cc in
+      let g : renamed rename x ≡ exist n = cc in
+      let (m, b) = source x.base n (ap (λ v. v.base) g) in
+      (m, y, renamed_exist x n m g b, f, ap (λ v. Sub v y) (bare_exist x n m g b))
+  use_source Contra n z (Low k x) e = cc
+  use_source Contra n z (Up x k) e = cc
 
   -- the only use before, where a line is the only use
-  back : (n : ℕ) (z : Dtv) → IsOnlyUse Co n z (map new lines) → (x y : Dtv) → Contains lines (Sub x y) → renamed rename x ≡ z → renamed rename y ≡ exist n → (m : ℕ) × (y.base ≡ Exist m) → IsSolved lines → ⊥
-  back n z only x y c f g (m, b) solved = solved m x (record {
-    other_base = λ e. only.other_base (sym (ap (λ v. v.base) f) ∙ ap rename e ∙ renamed_exist);
-    stands = subst (λ v. Contains lines (Sub x v)) y_is c;
-    only = λ k d lt. by k d lt (subst (λ l. (l ≡ use_of Co n z) ⊎ (HasUse Co n l → ⊥)) (get_or-map new lines k d d lt) (only.only k d (simp length-map lt)));
-  })
+  back : (sign : Variance) (n m : ℕ) (z x : Dtv) → IsOnlyUse sign n z (map new lines) → Contains lines (use_of sign m x) → rename (Exist m) ≡ Exist n → renamed rename x ≡ z → new (use_of sign m x) ≡ use_of sign n z → IsOnlyUse sign m x lines
+  back sign n m z x only c e f is = record {
+    other_base = λ g. only.other_base (sym (ap (λ v. v.base) f) ∙ ap rename g ∙ e);
+    stands = c;
+    only = λ k d lt. by k d lt (subst (λ l. (l ≡ use_of sign n z) ⊎ (HasUse sign n l → ⊥)) (get_or-map new lines k d d lt) (only.only k d (simp length-map lt)));
+  }
     where
-      renamed_exist : rename (Exist m) ≡ Exist n
-      renamed_exist = ap rename (sym b) ∙ ap (λ v. v.base) g
+      by : (k : ℕ) (d : Line) → k < length lines → (new (get_or lines k d) ≡ use_of sign n z) ⊎ (HasUse sign n (new (get_or lines k d)) → ⊥) → (get_or lines k d ≡ use_of sign m x) ⊎ (HasUse sign m (get_or lines k d) → ⊥)
+      by k d lt (inl g) = inl (line_same (get_or lines k d) (use_of sign m x) (Contains-get_or lines k d lt) c (g ∙ sym is))
+      by k d lt (inr none) = inr (λ h. none (HasUse-renamed sign m n e (get_or lines k d) h))
 
-      y_is : y ≡ exist m
-      y_is = λ t. record { base = b t; word = ap (λ v. v.word) g t }
-
-      by : (k : ℕ) (d : Line) → k < length lines → (new (get_or lines k d) ≡ use_of Co n z) ⊎ (HasUse Co n (new (get_or lines k d)) → ⊥) → (get_or lines k d ≡ use_of Co m x) ⊎ (HasUse Co m (get_or lines k d) → ⊥)
-      by k d lt (inl e) =
-          let same : new (get_or lines k d) ≡ new (Sub x y) = e ∙ (λ t. Sub (sym f t) (sym g t)) in
-          inl (line_same (get_or lines k d) (Sub x y) (Contains-get_or lines k d lt) c same ∙ ap (Sub x) y_is)
-      by k d lt (inr none) = inr (λ h. none (HasUse-renamed m n renamed_exist (get_or lines k d) h))
-
-  renamed-solved : IsSolved lines → IsSolved (map new lines)
-  renamed-solved solved n z only = by (Contains-map_source new lines (use_of Co n z) only.stands)
+  renamed-no_use : HasNoOnlyUse lines → HasNoOnlyUse (map new lines)
+  renamed-no_use none sign n z only = by (Contains-map_source new lines (use_of sign n z) only.stands)
     where
-      by_line : (l : Line) → Contains lines l → new l ≡ Sub z (exist n) → ⊥
-      by_line (Var x) d e = cc
-      by_line (Same x y) d e = cc
-      by_line (Sub x y) d e =
-          let f : renamed rename x ≡ z = cc in
-          let g : renamed rename y ≡ exist n = cc in
-          back n z only x y d f g (source y.base n (ap (λ v. v.base) g)) solved
-      by_line (Low k x) d e = cc
-      by_line (Up x k) d e = cc
-
-      by : (l : Line) × Contains lines l × (new l ≡ use_of Co n z) → ⊥
-      by (l, d, e) = by_line l d e
+      by : (l : Line) × Contains lines l × (new l ≡ use_of sign n z) → ⊥
+      by (l, d, is) =
+          let (m, x, e, f, was) = use_source sign n z l is in
+          none sign m x (back sign n m z x only (subst (Contains lines) was d) e f (subst (λ k. new k ≡ use_of sign n z) was is))
 
 placed-exist : (order : List ℕ) (b : Base) (n : ℕ) → placed order b ≡ Exist n → (m : ℕ) × (b ≡ Exist m)
 placed-exist order (Proc m) n e = cc
@@ -188,9 +200,9 @@ module _ (lines : List Line) where
     bare = renamed-bare lines (placed (existentials lines)) (placed-one_to_one lines) (placed-exist (existentials lines)) tidy.bare;
   }
 
-  -- and no existential can be put away where none could
-  pub numbered-solved : IsSolved lines → IsSolved (numbered lines)
-  numbered-solved = renamed-solved lines (placed (existentials lines)) (placed-one_to_one lines) (placed-exist (existentials lines))
+  -- and no existential has an only use where none had
+  pub numbered-no_use : HasNoOnlyUse lines → HasNoOnlyUse (numbered lines)
+  numbered-no_use = renamed-no_use lines (placed (existentials lines)) (placed-one_to_one lines) (placed-exist (existentials lines))
 
 line_decides : (a b : Line) → Decides (line_eq a b) (a ≡ b)
 line_decides a b = (line_equal a b, λ e. subst (λ l. line_eq a l ≡ true) e ((line_laws.laws-law).refl a))
@@ -203,9 +215,9 @@ module _ (first second : List Line) (moved : IsPermutation first second) where
     bare = λ x y l c d has front. tidy.bare x y l (Contains-permutation second first (Var x) (IsPermutation-sym first second moved) c) (Contains-permutation second first l (IsPermutation-sym first second moved) d) has front;
   }
 
-  pub moved-solved : IsSolved first → IsSolved second
-  moved-solved solved n z only = solved n z (record {
+  pub moved-no_use : HasNoOnlyUse first → HasNoOnlyUse second
+  moved-no_use none sign n z only = none sign n z (record {
     other_base = only.other_base;
-    stands = Contains-permutation second first (use_of Co n z) (IsPermutation-sym first second moved) only.stands;
-    only = All-permutation (λ l. (l ≡ use_of Co n z) ⊎ (HasUse Co n l → ⊥)) second first (IsPermutation-sym first second moved) only.only;
+    stands = Contains-permutation second first (use_of sign n z) (IsPermutation-sym first second moved) only.stands;
+    only = All-permutation (λ l. (l ≡ use_of sign n z) ⊎ (HasUse sign n l → ⊥)) second first (IsPermutation-sym first second moved) only.only;
   })

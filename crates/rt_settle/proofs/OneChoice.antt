@@ -1,20 +1,38 @@
 -- One scheme is chosen.
-use Rattle.std.proofs.Common.{◌≡◌, ℕ, List, sym, subst, ◌∙◌}
-use Rattle.rt_terms.specs.declared.line.Line.{Line}
-use Rattle.rt_numbering.specs.Numbering.{numbered}
-use Rattle.rt_split.specs.Places.{split_for}
-use Rattle.rt_settle.specs.Tidy.{tidied}
-use Rattle.rt_settle.specs.Rounds.{PutsAway}
+use Rattle.std.proofs.Common.{◌≡◌, ℕ, ◌<◌, List, false, length, get_or, sym, ap, subst, ◌∙◌, arith, ext_get_or}
+use Rattle.rt_base.proofs.Booleans.{same_flag}
+use Rattle.rt_lines.specs.declared.line.Line.{Line}
+use Rattle.rt_lines.specs.declared.line.Line.TheVariants.{Var}
+use Rattle.rt_lines.specs.Numbering.{numbered}
+use Rattle.rt_rules.specs.Put.{exist}
+use Rattle.rt_scheme.specs.SplitExistentials.{split_for}
+use Rattle.rt_polar.specs.Puts.{Puts}
+use Rattle.rt_polar.specs.Tidied.{tidied}
+use Rattle.rt_polar.proofs.OneAnswer.{one_answer_lem}
+use Rattle.rt_settle.specs.Tidy.{AreNeeded, kept}
 use Rattle.rt_settle.specs.Chosen.{AreInOrder, LeavesOf, IsSettled, IsChosenFrom, OneChoice}
 use Rattle.rt_settle.specs.Chosen.IsChosenFrom.{as_they_stand, split}
-use Rattle.rt_settle.proofs.OneRound.{one_left, one_needed}
 use Rattle.rt_settle.proofs.OneOrder.{one_order}
+
+some_line : Line
+some_line = Var (exist 0)
+
+-- the needed lines are one list
+one_needed : (lines first second : List Line) → AreNeeded lines first → AreNeeded lines second → first ≡ second
+one_needed lines first second a b = a.are_kept ∙ ap (kept lines) flags ∙ sym b.are_kept
+  where
+    flags : a.flags ≡ b.flags
+    flags = ext_get_or false a.flags b.flags (a.one_each ∙ sym b.one_each) (λ i lt. at i (omega (arith, a.one_each)))
+      where
+        at : (i : ℕ) → i < length lines → get_or a.flags i false ≡ get_or b.flags i false
+        at i lt = same_flag (get_or a.flags i false) (get_or b.flags i false) (λ e. (b.spare i some_line lt).1 ((a.spare i some_line lt).0 e)) (λ e. (a.spare i some_line lt).1 ((b.spare i some_line lt).0 e))
 
 -- one list is left of lines
 one_leaves : (lines first second : List Line) → LeavesOf lines first → LeavesOf lines second → first ≡ second
 one_leaves lines first second a b =
     let needed : b.needed ≡ a.needed = one_needed (tidied lines) b.needed a.needed b.are_needed a.are_needed in
-    one_left first second a.needed a.put_away (subst (PutsAway second) needed b.put_away)
+    let put : b.put ≡ a.put = one_answer_lem a.needed b.put a.put (subst (Puts b.put) needed b.is_put) a.is_put in
+    one_needed a.put first second a.are_left (subst (λ ls. AreNeeded ls second) put b.are_left)
 
 one_settled : (lines first second : List Line) → IsSettled lines first → IsSettled lines second → first ≡ second
 one_settled lines first second a b =

@@ -5,10 +5,10 @@ use Rattle.std.proofs.lemmas.Bool.{cases_eq}
 use Rattle.std.proofs.lemmas.List.{get_or_default}
 use Rattle.std.proofs.lemmas.List.Elements.{All-nil, All-cons, All-weaker, All-append, Contains-append_left, Contains-append_right, at_read}
 use Rattle.std.proofs.lemmas.List.Sorted.{All-permutation, Contains-permutation}
-use Rattle.rt_terms.specs.declared.variable.Dtv.{Dtv}
-use Rattle.rt_terms.specs.declared.line.Line.{Line}
+use Rattle.rt_base.proofs.Lists.{Contains-here, Contains-there}
+use Rattle.rt_lines.specs.declared.variable.Dtv.{Dtv}
+use Rattle.rt_lines.specs.declared.line.Line.{Line}
 use Rattle.rt_rules.specs.Rules.{HasSide}
-use Rattle.rt_rules.proofs.Lists.{Contains-here, Contains-there}
 use Rattle.rt_settle.specs.Ranks.{ranks_of}
 use Rattle.rt_settle.specs.declared.spare.Side.{Side}
 use Rattle.rt_settle.specs.Sides.{own_of, IsSide, IsSideIn, HasSideOf, AreSidesBelow, AreSides, AddsSides, AddsSide, AddsTwo}

@@ -7,8 +7,8 @@ use Rattle.std.specs.List.Sorted.{IsStableBy, ties}
 use Rattle.std.proofs.lemmas.Bool.{both_ways}
 use Rattle.std.proofs.lemmas.List.Elements.{All-nil, All-cons, All-head, All-tail, All-contains}
 use Rattle.std.proofs.lemmas.List.Sorted.{All-permutation}
-use Rattle.rt_rules.proofs.Lists.{Contains-here, Contains-there}
-use Rattle.rt_terms.specs.declared.line.Line.{Line}
+use Rattle.rt_base.proofs.Lists.{Contains-here, Contains-there}
+use Rattle.rt_lines.specs.declared.line.Line.{Line}
 use Rattle.rt_texts.specs.Texts.{line_text}
 use Rattle.rt_settle.specs.declared.ordering.Written.{Written}
 use Rattle.rt_settle.specs.Sorted.{sort_names}

@@ -3,9 +3,10 @@ use Rattle.std.proofs.Common.{◌≡◌, ℕ, zero, suc, ◌+◌, ◌-◌, ◌<�
 use Rattle.std.proofs.lemmas.Bool.{cases_eq, both_ways, false_from_ne_true}
 use Rattle.std.proofs.lemmas.List.{get_or_default, get_or-map, length-map}
 use Rattle.std.proofs.lemmas.List.Elements.{All-get_or}
-use Rattle.rt_terms.specs.declared.line.Line.{Line}
-use Rattle.rt_terms.specs.declared.line.Line.TheVariants.{Var, Same, Sub, Low, Up}
-use Rattle.rt_terms.specs.Orders.{Below}
+use Rattle.std.proofs.lemmas.Option.{none-some, same_Some}
+use Rattle.rt_lines.specs.declared.line.Line.{Line}
+use Rattle.rt_lines.specs.declared.line.Line.TheVariants.{Var, Same, Sub, Low, Up}
+use Rattle.rt_lines.specs.Orders.{Below}
 use Rattle.rt_rules.specs.Rules.{HasSide, Derivable}
 use Rattle.rt_rules.proofs.Carry.{given, side}
 use Rattle.rt_rules.proofs.Covering.{derives_more, front}
@@ -64,12 +65,6 @@ set_true stay line k e (inr f) = get_or-set_other stay line k true false f ∙ e
 still_false : (stay : List Bool) (line k : ℕ) → get_or (set stay line true) k false ≡ false → get_or stay k false ≡ false
 still_false stay line k e = false_from_ne_true (get_or stay k false) (λ t. both_ways (get_or (set stay line true) k false) e (set_true stay line k t (cases_eq k line)))
 
-none_some : (k : ℕ) → None ≡ Some k → ⊥
-none_some k e = cc
-
-same_some : (k j : ℕ) → Some k ≡ Some j → k ≡ j
-same_some k j e = cc
-
 module _ (lines : List Line) (sides : List Side) (are : AreSides lines sides) where
   -- a side of a line that stays follows
   side_stays : (stay : List Bool) (order : Below) (s : Side) (m : ℕ) (d : Line) → m < length lines → HasSide (get_or lines m d) s.variable → get_or stay m false ≡ true → Derivable order (kept lines stay) (Var s.variable)
@@ -95,7 +90,7 @@ module _ (lines : List Line) (sides : List Side) (are : AreSides lines sides) wh
 
   -- a loop's step at a side of a line that is no `var`
   pub stays_other : (stay : List Bool) (low : ℕ) → ((d : Side) → (get_or sides low d).own ≡ None) → Stays lines sides (low + 1) stay → Stays lines sides low stay
-  stays_other stay low none stays = more_by stay low stays (λ order d lt. at order d lt (All-get_or (IsSideIn lines) sides low d lt are.sound)) (λ k d lt own flag. absurd (none_some k (sym (none d) ∙ own)))
+  stays_other stay low none stays = more_by stay low stays (λ order d lt. at order d lt (All-get_or (IsSideIn lines) sides low d lt are.sound)) (λ k d lt own flag. absurd (none-some k (sym (none d) ∙ own)))
     where
       at : (order : Below) (d : Side) → low < length sides → IsSideIn lines (get_or sides low d) → Derivable order (kept lines stay) (Var (get_or sides low d).variable)
       at order d lt (m, within, is) =
@@ -142,7 +137,7 @@ module _ (lines : List Line) (sides : List Side) (are : AreSides lines sides) wh
       side_stays (set stay line true) order (get_or sides low d) line (Var d.variable) at.0 at.1 (get_or-set_same stay line true false within))
       (λ k d h found flag. let at = own_line low line d (own d) lt in
       let within : line < length stay = omega (arith, stays.len, at.0) in
-      let e : k ≡ line = same_some k line (sym found ∙ own d) in
+      let e : k ≡ line = same_Some k line (sym found ∙ own d) in
       absurd (both_ways (get_or (set stay line true) line false) (ap (λ j. get_or (set stay line true) j false) (sym e) ∙ flag) (get_or-set_same stay line true false within)))
 
   line_derived : (stay : List Bool) → Stays lines sides 0 stay → (order : Below) (m : ℕ) (l : Line) → m < length lines → (t : Bool) → is_var l ≡ t → get_or lines m l ≡ l → Derivable order (kept lines stay) l

@@ -1,35 +1,32 @@
 -- Lists that tell the outside the same.
-use Rattle.std.proofs.Common.{◌≡◌, ℕ, ◌⊎◌, inl, inr, List, [], ◌++◌, map, All, Contains, Option, Some, None, Bool, true, false, cond, refl, ap, sym, subst, ◌∙◌, append_assoc}
+use Rattle.std.proofs.Common.{◌≡◌, ℕ, ◌⊎◌, inl, inr, List, [], ◌++◌, map, All, Contains, Bool, true, false, cond, refl, ap, sym, subst, ◌∙◌, append_assoc}
 use Rattle.std.specs.List.Sorted.{IsPermutation}
 use Rattle.std.proofs.lemmas.List.Elements.{All-contains}
 use Rattle.std.proofs.lemmas.List.Sorted.{Contains-permutation, IsPermutation-sym}
-use Rattle.rt_terms.specs.declared.label.Label.{Label}
-use Rattle.rt_terms.specs.declared.variable.Base.{Base}
-use Rattle.rt_terms.specs.declared.variable.Base.TheVariants.{Proc, Global, Exist, Outer}
-use Rattle.rt_terms.specs.declared.variable.Dtv.{Dtv}
-use Rattle.rt_terms.specs.declared.line.Line.{Line}
-use Rattle.rt_terms.specs.declared.line.Line.TheVariants.{Var, Same, Sub, Low, Up}
-use Rattle.rt_terms.specs.Equality.{variable_eq}
-use Rattle.rt_terms.specs.Lines.{HasConstantsBelow}
-use Rattle.rt_terms.specs.Orders.{Below}
-use Rattle.rt_terms.proofs.Equal.{variable_equal}
+use Rattle.rt_rules.proofs.LineSides.{HasSide-map_line_source}
+use Rattle.rt_lines.proofs.LineSides.{HasConstantsBelow-map_line}
+use Rattle.rt_base.proofs.Lists.{Contains-map_source, All-from_contains}
+use Rattle.rt_lines.specs.declared.label.Label.{Label}
+use Rattle.rt_lines.specs.declared.variable.Base.{Base}
+use Rattle.rt_lines.specs.declared.variable.Base.TheVariants.{Proc, Global, Exist, Outer}
+use Rattle.rt_lines.specs.declared.variable.Dtv.{Dtv}
+use Rattle.rt_lines.specs.declared.line.Line.{Line}
+use Rattle.rt_lines.specs.declared.line.Line.TheVariants.{Var, Same, Sub, Low, Up}
+use Rattle.rt_lines.specs.Equality.{variable_eq}
+use Rattle.rt_lines.specs.Lines.{HasConstantsBelow}
+use Rattle.rt_lines.specs.Orders.{Below}
 use Rattle.rt_rules.specs.Rules.{extended, HasSide, Derivable}
-use Rattle.rt_rules.specs.Rules.Derivable.{left_side, sub_self}
 use Rattle.rt_rules.specs.Alike.{is_inside_for, map_line}
-use Rattle.rt_rules.specs.Put.{put_found, put_each_at, put_each}
 use Rattle.rt_rules.specs.Laws.{NamesBase, renamed}
-use Rattle.rt_rules.proofs.Lists.{Contains-map, Contains-map_source, All-from_contains}
 use Rattle.rt_rules.proofs.Carry.{given}
 use Rattle.rt_rules.proofs.Covering.{exchange, extended-nil, Alike-refl, Alike-trans}
-use Rattle.rt_rules.proofs.Putting.{following_lem}
-use Rattle.rt_numbering.specs.Numbering.{deduplicated, existentials, numbered, placed}
-use Rattle.rt_numbering.proofs.Deduplicating.{deduplicated-has, deduplicated-source}
-use Rattle.rt_numbering.proofs.Numbers.{numbering_lem, numbered-constants}
+use Rattle.rt_lines.specs.Numbering.{existentials, numbered, placed}
+use Rattle.rt_lines.proofs.Deduplicating.{deduplicated-all, deduplicated-source}
+use Rattle.rt_rules.proofs.Numbers.{numbering_lem, numbered-constants}
+use Rattle.rt_polar.specs.Tidied.{tidied, without_self}
+use Rattle.rt_polar.proofs.AlikeTidied.{Alike-tidied}
 use Rattle.rt_settle.specs.Sides.{IsFront}
-use Rattle.rt_settle.specs.Rounds.{after_put, IsRound}
 use Rattle.rt_settle.specs.Told.{ExtendsSide, IsExist, IsSideOf, TellsSame}
-use Rattle.rt_settle.specs.Tidy.{tidied, without_self}
-use Rattle.rt_settle.proofs.Replacing.{round_below, round_following}
 
 -- Fronts, and what bases sides have.
 
@@ -46,7 +43,7 @@ front-trans x y z (v, e) (w, f) = (v ++ w, f ∙ ap (λ u. extended u w) e ∙ e
 front-base : (x y : Dtv) → IsFront x y → y.base ≡ x.base
 front-base x y (w, e) = ap (λ u. u.base) e
 
-side_itself : (lines : List Line) (x : Dtv) → IsSideOf lines x → ExtendsSide lines x
+pub side_itself : (lines : List Line) (x : Dtv) → IsSideOf lines x → ExtendsSide lines x
 side_itself lines x side = (x, side, front-self x)
 
 -- lines that tell the same name no base more that is no existential
@@ -95,64 +92,25 @@ TellsSame-permutation first second moved =
     TellsSame-part first second (λ l c. Contains-permutation second first l (IsPermutation-sym first second moved) c)
     (λ order l c. given order second l (Contains-permutation first second l moved c))
 
-HasConstantsBelow-map : (count : ℕ) (f : Dtv → Dtv) (l : Line) → HasConstantsBelow count l → HasConstantsBelow count (map_line f l)
-HasConstantsBelow-map count f (Var x) h = h
-HasConstantsBelow-map count f (Same x y) h = h
-HasConstantsBelow-map count f (Sub x y) h = h
-HasConstantsBelow-map count f (Low k x) h = h
-HasConstantsBelow-map count f (Up x k) h = h
-
 -- what holds of each image of an element of a list holds of the images of the list
 All-images : {X Y : Type 0} (f : X → Y) (P : X → Type 0) (Q : Y → Type 0) → ((x : X) → P x → Q (f x)) → (xs : List X) → All P xs → All Q (map f xs)
 All-images f P Q keeps xs all = All-from_contains Q (map f xs) (λ y c. let s = Contains-map_source f xs y c in subst Q s.2 (keeps s.0 (All-contains P xs s.0 all s.1)))
 
 pub constants-map : (count : ℕ) (f : Dtv → Dtv) (lines : List Line) → All (HasConstantsBelow count) lines → All (HasConstantsBelow count) (map (map_line f) lines)
-constants-map count f lines all = All-images (map_line f) (HasConstantsBelow count) (HasConstantsBelow count) (HasConstantsBelow-map count f) lines all
-
--- a side of an image of a line is the image of a side
-pub side_source : (f : Dtv → Dtv) (l : Line) (z : Dtv) → HasSide (map_line f l) z → (x : Dtv) × HasSide l x × (f x ≡ z)
-side_source f (Var x) z e = (x, refl, e)
-side_source f (Same x y) z (inl e) = (x, inl refl, e)
-side_source f (Same x y) z (inr e) = (y, inr refl, e)
-side_source f (Sub x y) z (inl e) = (x, inl refl, e)
-side_source f (Sub x y) z (inr e) = (y, inr refl, e)
-side_source f (Low k x) z e = (x, refl, e)
-side_source f (Up x k) z e = (x, refl, e)
+constants-map count f lines all = All-images (map_line f) (HasConstantsBelow count) (HasConstantsBelow count) (HasConstantsBelow-map_line count f) lines all
 
 -- the sides of images of lines are images of sides
 pub sides-map : (f : Dtv → Dtv) (lines : List Line) → ((x : Dtv) → IsSideOf lines x → IsExist (f x).base ⊎ ExtendsSide lines (f x)) → (y : Dtv) → IsSideOf (map (map_line f) lines) y → IsExist y.base ⊎ ExtendsSide lines y
 sides-map f lines stays y (k, c, h) =
     let s = Contains-map_source (map_line f) lines k c in
-    let t = side_source f s.0 y (subst (λ l. HasSide l y) (sym s.2) h) in
+    let t = HasSide-map_line_source f s.0 y (subst (λ l. HasSide l y) (sym s.2) h) in
     subst (λ v. IsExist v.base ⊎ ExtendsSide lines v) t.2 (stays t.0 (s.0, s.1, t.1))
 
-module _ (place : ℕ → Option Dtv) (lines : List Line) (stands : (n : ℕ) (z : Dtv) → place n ≡ Some z → IsSideOf lines z) where
-  put_found-side : (found : Option Dtv) (n : ℕ) (w : List Label) → place n ≡ found → IsSideOf lines (record { base = Exist n; word = w }) → ExtendsSide lines (put_found found (Exist n) w)
-  put_found-side None n w e side = side_itself lines (record { base = Exist n; word = w }) side
-  put_found-side (Some z) n w e side = (z, stands n z e, (w, refl))
-
-  put_each_at-side : (b : Base) (w : List Label) → IsSideOf lines (record { base = b; word = w }) → ExtendsSide lines (put_each_at place b w)
-  put_each_at-side (Exist n) w side = put_found-side (place n) n w refl side
-  put_each_at-side (Proc n) w side = side_itself lines (record { base = Proc n; word = w }) side
-  put_each_at-side (Global n) w side = side_itself lines (record { base = Global n; word = w }) side
-  put_each_at-side (Outer n) w side = side_itself lines (record { base = Outer n; word = w }) side
-
-  -- where sides are put in places, what comes is a side with more letters
-  pub put-sides : (y : Dtv) → IsSideOf (map (map_line (put_each place)) lines) y → IsExist y.base ⊎ ExtendsSide lines y
-  put-sides = sides-map (put_each place) lines (λ x side. inr (put_each_at-side x.base x.word side))
-
--- lines tell the same after what a round puts in places
-TellsSame-round : (place : ℕ → Option Dtv) (lines : List Line) → IsRound lines place → TellsSame lines (map (map_line (put_each place)) lines)
-TellsSame-round place lines round = record {
-  alike = λ order p. following_lem order (is_inside_for p) lines place (round_following place lines round) (λ n z e. refl);
-  constants = λ count all. constants-map count (put_each place) lines all;
-  sides = put-sides place lines (λ n z e. (round_below place lines round n z e).0);
-}
-
--- a variable that lies below itself
+-- a variable that stands beside itself
 HasConstantsBelow-without_self : (count : ℕ) (l : Line) → HasConstantsBelow count l → HasConstantsBelow count (without_self l)
 HasConstantsBelow-without_self count (Var x) h = h
-HasConstantsBelow-without_self count (Same x y) h = h
+HasConstantsBelow-without_self count (Same x y) h =
+    elim (variable_eq x y) as (λ t. HasConstantsBelow count (cond t (Var x) (Same x y))) [ true ↦ tt | false ↦ tt ]
 HasConstantsBelow-without_self count (Sub x y) h =
     elim (variable_eq x y) as (λ t. HasConstantsBelow count (cond t (Var x) (Sub x y))) [ true ↦ tt | false ↦ tt ]
 HasConstantsBelow-without_self count (Low k x) h = h
@@ -162,60 +120,34 @@ sub_or_var : (x y : Dtv) (t : Bool) (z : Dtv) → HasSide (cond t (Var x) (Sub x
 sub_or_var x y true z e = inl e
 sub_or_var x y false z h = h
 
+same_or_var : (x y : Dtv) (t : Bool) (z : Dtv) → HasSide (cond t (Var x) (Same x y)) z → HasSide (Same x y) z
+same_or_var x y true z e = inl e
+same_or_var x y false z h = h
+
 HasSide-without_self : (l : Line) (z : Dtv) → HasSide (without_self l) z → HasSide l z
 HasSide-without_self (Var x) z h = h
-HasSide-without_self (Same x y) z h = h
+HasSide-without_self (Same x y) z h = same_or_var x y (variable_eq x y) z h
 HasSide-without_self (Sub x y) z h = sub_or_var x y (variable_eq x y) z h
 HasSide-without_self (Low k x) z h = h
 HasSide-without_self (Up x k) z h = h
 
-module _ (order : Below) (lines : List Line) where
-  self_forth : (x y : Dtv) (t : Bool) → variable_eq x y ≡ t → Derivable order lines (cond t (Var x) (Sub x y)) → Derivable order lines (Sub x y)
-  self_forth x y true e d = subst (λ v. Derivable order lines (Sub x v)) (variable_equal x y e) (sub_self d)
-  self_forth x y false e d = d
+-- the sides of tidied lines are sides of the lines
+pub tidied-side : (lines : List Line) (y : Dtv) → IsSideOf (tidied lines) y → IsSideOf lines y
+tidied-side lines y (k, c, h) =
+    let s = Contains-map_source without_self lines k (deduplicated-source (map without_self lines) k c) in
+    (s.0, s.1, HasSide-without_self s.0 y (subst (λ l. HasSide l y) (sym s.2) h))
 
-  self_back : (x y : Dtv) (t : Bool) → Derivable order lines (Sub x y) → Derivable order lines (cond t (Var x) (Sub x y))
-  self_back x y true d = left_side d
-  self_back x y false d = d
-
-  without_self_forth : (l : Line) → Derivable order lines (without_self l) → Derivable order lines l
-  without_self_forth (Var x) d = d
-  without_self_forth (Same x y) d = d
-  without_self_forth (Sub x y) d = self_forth x y (variable_eq x y) refl d
-  without_self_forth (Low k x) d = d
-  without_self_forth (Up x k) d = d
-
-  without_self_back : (l : Line) → Derivable order lines l → Derivable order lines (without_self l)
-  without_self_back (Var x) d = d
-  without_self_back (Same x y) d = d
-  without_self_back (Sub x y) d = self_back x y (variable_eq x y) d
-  without_self_back (Low k x) d = d
-  without_self_back (Up x k) d = d
-
--- that a variable lies below itself says that it exists
-pub TellsSame-without_self : (lines : List Line) → TellsSame lines (map without_self lines)
-TellsSame-without_self lines = record {
-  alike = λ order p. exchange order (is_inside_for p) lines (map without_self lines)
-      (λ l c. without_self_forth order (map without_self lines) l (given order (map without_self lines) (without_self l) (Contains-map without_self lines l c)))
-      (λ k c. let s = Contains-map_source without_self lines k c in subst (Derivable order lines) s.2 (without_self_back order lines s.0 (given order lines s.0 s.1)));
-  constants = λ count all. All-images without_self (HasConstantsBelow count) (HasConstantsBelow count) (HasConstantsBelow-without_self count) lines all;
-  sides = λ y (k, c, h). let s = Contains-map_source without_self lines k c in
-      inr (side_itself lines y (s.0, s.1, HasSide-without_self s.0 y (subst (λ l. HasSide l y) (sym s.2) h)));
-}
-
--- each line once tells the same
-pub TellsSame-deduplicated : (lines : List Line) → TellsSame lines (deduplicated lines)
-TellsSame-deduplicated lines =
-    TellsSame-part lines (deduplicated lines) (deduplicated-source lines) (λ order l c. given order (deduplicated lines) l (deduplicated-has lines l c))
+pub tidied-constants : (count : ℕ) (lines : List Line) → All (HasConstantsBelow count) lines → All (HasConstantsBelow count) (tidied lines)
+tidied-constants count lines all =
+    deduplicated-all (HasConstantsBelow count) (map without_self lines) (All-images without_self (HasConstantsBelow count) (HasConstantsBelow count) (HasConstantsBelow-without_self count) lines all)
 
 -- tidied lines tell the same
 pub TellsSame-tidied : (lines : List Line) → TellsSame lines (tidied lines)
-TellsSame-tidied lines = TellsSame-trans lines (map without_self lines) (tidied lines) (TellsSame-without_self lines) (TellsSame-deduplicated (map without_self lines))
-
--- lines tell the same after a round
-pub TellsSame-after_put : (place : ℕ → Option Dtv) (lines : List Line) → IsRound lines place → TellsSame lines (after_put place lines)
-TellsSame-after_put place lines round =
-    TellsSame-trans lines (map (map_line (put_each place)) lines) (after_put place lines) (TellsSame-round place lines round) (TellsSame-tidied (map (map_line (put_each place)) lines))
+TellsSame-tidied lines = record {
+  alike = λ order p. Alike-tidied order (is_inside_for p) lines;
+  constants = λ count all. tidied-constants count lines all;
+  sides = λ y side. inr (side_itself lines y (tidied-side lines y side));
+}
 
 renamed-side : (lines : List Line) (order : List ℕ) (b : Base) (w : List Label) → IsSideOf lines (record { base = b; word = w }) → IsExist (placed order b) ⊎ ExtendsSide lines (record { base = placed order b; word = w })
 renamed-side lines order (Proc n) w side = inr (side_itself lines (record { base = Proc n; word = w }) side)

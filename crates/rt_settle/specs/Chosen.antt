@@ -1,17 +1,22 @@
--- The scheme that is chosen for a procedure, of all that tell the same.
+-- The scheme that is chosen for a procedure, of all that say the same.
 use Rattle.std.specs.Prelude.{◌≡◌, ℕ, List, Contains, Bool}
 use Rattle.std.specs.Ordering.{nat_cmp, is_lt}
 use Rattle.std.specs.Cmp.Lexicographic.{slice_cmp}
 use Rattle.std.specs.List.Sorted.{IsStableBy}
-use Rattle.rt_terms.specs.declared.line.Line.{Line}
-use Rattle.rt_terms.specs.declared.line.Line.TheVariants.{Var, Same, Sub, Low, Up}
+use Rattle.rt_lines.specs.declared.line.Line.{Line}
+use Rattle.rt_lines.specs.declared.line.Line.TheVariants.{Var, Same, Sub, Low, Up}
 use Rattle.rt_texts.specs.Texts.{line_text}
-use Rattle.rt_numbering.specs.Numbering.{numbered}
+use Rattle.rt_lines.specs.Numbering.{numbered}
+use Rattle.rt_lines.specs.Orders.{Below}
+use Rattle.rt_rules.specs.Alike.{Alike, is_inside_for}
+use Rattle.rt_polar.specs.Polar.{HasCandidate}
+use Rattle.rt_polar.specs.Puts.{Puts}
+use Rattle.rt_polar.specs.Tidied.{tidied}
 use Rattle.rt_scheme.specs.Schemes.{AreSchemeLines}
-use Rattle.rt_split.specs.Places.{split_for}
-use Rattle.rt_settle.specs.Rounds.{PutsAway}
+use Rattle.rt_scheme.specs.SplitExistentials.{split_for}
+use Rattle.rt_scheme.specs.Splitting.{AreInterfaceLines}
 use Rattle.rt_settle.specs.Sorted.{AreSorted, sort_names}
-use Rattle.rt_settle.specs.Tidy.{AreNeeded, tidied}
+use Rattle.rt_settle.specs.Tidy.{AreNeeded}
 
 -- the text of the first line comes before that of the second
 abbrev pub is_before : Line → Line → Bool
@@ -22,14 +27,20 @@ pub record AreInOrder (lines sorted : List Line) : Type 0 where
   pub are_sorted : AreSorted sorted
   pub stable : IsStableBy is_before lines sorted
 
--- what is left of lines, tidied and without spare ones, after the rounds
+-- What is left of lines, tidied and without spare ones, when the least existential with a candidate gave its place away, again and again, until none has
+-- one, and the lines that are spare then are left out too.
 pub record LeavesOf (lines left : List Line) : Type 0 where
   pub needed : List Line
   pub are_needed : AreNeeded (tidied lines) needed
-  pub put_away : PutsAway left needed
+  pub put : List Line
+  pub is_put : Puts put needed
+  pub are_left : AreNeeded put left
 
--- The settled form of lines: tidied, without spare lines, without the existentials that can be put away, the existentials numbered from 0 in the order
--- in which they first stand, and then by the texts.
+-- no existential has a sole definition, nor a sole consumer, that could take its place
+abbrev pub IsSolved : List Line → Type 0
+IsSolved lines = (n : ℕ) → HasCandidate n lines → ⊥
+
+-- The settled form of lines: what is left of them, the existentials numbered from 0 in the order in which they are first named, and then by the texts.
 pub record IsSettled (lines settled : List Line) : Type 0 where
   pub left : List Line
   pub leaves : LeavesOf lines left
@@ -50,6 +61,15 @@ pub record IsChosen (own : ℕ) (lines chosen : List Line) : Type 0 where
 -- no two lists are chosen
 abbrev pub OneChoice : Type 0
 OneChoice = (own : ℕ) (lines first second : List Line) → IsChosen own lines first → IsChosen own lines second → first ≡ second
+
+-- of lines of procedures' arguments and results, globals and existentials, what is chosen says to the outside of the procedure what the lines say
+abbrev pub ChosenAlike : Type 0
+ChosenAlike =
+    (order : Below) (own : ℕ) (lines chosen : List Line) → AreInterfaceLines lines → IsChosen own lines chosen → Alike order (is_inside_for own) lines chosen
+
+-- and is the lines of a scheme of it
+abbrev pub ChosenScheme : Type 0
+ChosenScheme = (own : ℕ) (lines chosen : List Line) → AreInterfaceLines lines → IsChosen own lines chosen → AreSchemeLines own chosen
 
 -- the line bounds a variable by the constant
 abbrev pub HasConstant : ℕ → Line → Type 0

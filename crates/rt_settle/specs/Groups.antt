@@ -1,9 +1,9 @@
 -- The schemes of a group's members.
 use Rattle.std.specs.Prelude.{◌≡◌, ℕ, ◌<◌, List, All, flat_map, length, slice_index_or}
-use Rattle.rt_terms.specs.declared.variable.Base.TheVariants.{Global}
-use Rattle.rt_terms.specs.declared.line.Line.{Line}
-use Rattle.rt_terms.specs.Lines.{HasConstantsBelow}
-use Rattle.rt_terms.specs.Orders.{Below}
+use Rattle.rt_lines.specs.declared.variable.Base.TheVariants.{Global}
+use Rattle.rt_lines.specs.declared.line.Line.{Line}
+use Rattle.rt_lines.specs.Lines.{HasConstantsBelow}
+use Rattle.rt_lines.specs.Orders.{Below}
 use Rattle.rt_rules.specs.Alike.{Alike, is_inside_for}
 use Rattle.rt_rules.specs.Laws.{NamesBase}
 use Rattle.rt_scheme.specs.declared.scheme.Scheme.{Scheme}

@@ -1,13 +1,7 @@
 pub mod Tidy
 pub mod Sorted
-pub mod Uses
 pub mod Ranks
 pub mod Sides
 pub mod Told
-pub mod Following
-pub mod Classes
-pub mod Parents
-pub mod Rounds
-pub mod Choosing
 pub mod Chosen
 pub mod Groups

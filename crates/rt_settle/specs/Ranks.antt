@@ -2,12 +2,12 @@
 use Rattle.std.specs.Prelude.{ℕ, ℤ, pos, List, ◌∷◌, map}
 use Rattle.std.specs.Ordering.{nat_cmp, int_cmp, ordering_then}
 use Rattle.std.specs.declared.cmp.Ordering.{Ordering}
-use Rattle.rt_terms.specs.declared.label.Loc.TheVariants.{Arg, Stack}
-use Rattle.rt_terms.specs.declared.label.Label.{Label}
-use Rattle.rt_terms.specs.declared.label.Label.TheVariants.{In, Out, Load, Store, Field}
-use Rattle.rt_terms.specs.declared.variable.Base.{Base}
-use Rattle.rt_terms.specs.declared.variable.Base.TheVariants.{Proc, Global, Exist, Outer}
-use Rattle.rt_terms.specs.declared.variable.Dtv.{Dtv}
+use Rattle.rt_lines.specs.declared.label.Loc.TheVariants.{Arg, Stack}
+use Rattle.rt_lines.specs.declared.label.Label.{Label}
+use Rattle.rt_lines.specs.declared.label.Label.TheVariants.{In, Out, Load, Store, Field}
+use Rattle.rt_lines.specs.declared.variable.Base.{Base}
+use Rattle.rt_lines.specs.declared.variable.Base.TheVariants.{Proc, Global, Exist, Outer}
+use Rattle.rt_lines.specs.declared.variable.Dtv.{Dtv}
 
 -- a kind, a number or width, and an offset
 abbrev pub Rank : Type 0

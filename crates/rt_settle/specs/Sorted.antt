@@ -4,7 +4,7 @@ use Rattle.std.specs.Ordering.{nat_cmp}
 use Rattle.std.specs.Cmp.Lexicographic.{slice_cmp}
 use Rattle.rt_base.specs.First.{entries}
 use Rattle.rt_lattice.specs.Standard.{standard_names}
-use Rattle.rt_terms.specs.declared.line.Line.{Line}
+use Rattle.rt_lines.specs.declared.line.Line.{Line}
 use Rattle.rt_texts.specs.Texts.{line_text}
 
 -- a number in decimal, with zeros in front to at least three digits

@@ -1,37 +1,10 @@
 -- Lines that say nothing twice.
-use Rattle.std.specs.Prelude.{◌≡◌, ◌≢◌, ◌↔◌, ℕ, ◌<◌, List, [], ◌∷◌, AllPairs, Contains, Bool, false, cond, ◌+◌, get_or, length, map, slice_index_or}
-use Rattle.rt_terms.specs.declared.variable.Dtv.{Dtv}
-use Rattle.rt_terms.specs.declared.line.Line.{Line}
-use Rattle.rt_terms.specs.declared.line.Line.TheVariants.{Var, Same, Sub, Low, Up}
-use Rattle.rt_terms.specs.Equality.{variable_eq}
+use Rattle.std.specs.Prelude.{◌≡◌, ◌≢◌, ◌↔◌, ℕ, ◌<◌, List, [], ◌∷◌, AllPairs, Contains, Bool, false, cond, get_or, length, slice_index_or}
+use Rattle.rt_lines.specs.declared.variable.Dtv.{Dtv}
+use Rattle.rt_lines.specs.declared.line.Line.{Line}
+use Rattle.rt_lines.specs.declared.line.Line.TheVariants.{Var, Sub}
 use Rattle.rt_rules.specs.Rules.{HasSide}
-use Rattle.rt_numbering.specs.Numbering.{deduplicated}
 use Rattle.rt_settle.specs.Sides.{IsFront}
-
--- the line, but that `var X` stands for `X <= X`
-abbrev pub without_self : Line → Line
-without_self (Var x) = Var x
-without_self (Same x y) = Same x y
-without_self (Sub x y) = cond (variable_eq x y) (Var x) (Sub x y)
-without_self (Low k x) = Low k x
-without_self (Up x k) = Up x k
-
--- each line once, and none that puts a variable below itself
-abbrev pub tidied : List Line → List Line
-tidied lines = deduplicated (map without_self lines)
-
--- 1 where the line says that a variable lies below another
-abbrev pub sub_weight : Line → ℕ
-sub_weight (Var x) = 0
-sub_weight (Same x y) = 0
-sub_weight (Sub x y) = 1
-sub_weight (Low k x) = 0
-sub_weight (Up x k) = 0
-
--- how many lines say that a variable lies below another
-abbrev pub sub_count : List Line → ℕ
-sub_count [] = 0
-sub_count (l ∷ lines) = sub_weight l + sub_count lines
 
 -- no `var` line's variable is a front of a variable of another line
 abbrev pub IsBare : List Line → Type 0

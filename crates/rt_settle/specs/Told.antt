@@ -1,11 +1,11 @@
 -- What a list of lines keeps of another.
 use Rattle.std.specs.Prelude.{ℕ, ◌⊎◌, List, All, Contains}
-use Rattle.rt_terms.specs.declared.variable.Base.{Base}
-use Rattle.rt_terms.specs.declared.variable.Base.TheVariants.{Proc, Global, Exist, Outer}
-use Rattle.rt_terms.specs.declared.variable.Dtv.{Dtv}
-use Rattle.rt_terms.specs.declared.line.Line.{Line}
-use Rattle.rt_terms.specs.Lines.{HasConstantsBelow}
-use Rattle.rt_terms.specs.Orders.{Below}
+use Rattle.rt_lines.specs.declared.variable.Base.{Base}
+use Rattle.rt_lines.specs.declared.variable.Base.TheVariants.{Proc, Global, Exist, Outer}
+use Rattle.rt_lines.specs.declared.variable.Dtv.{Dtv}
+use Rattle.rt_lines.specs.declared.line.Line.{Line}
+use Rattle.rt_lines.specs.Lines.{HasConstantsBelow}
+use Rattle.rt_lines.specs.Orders.{Below}
 use Rattle.rt_rules.specs.Rules.{HasSide}
 use Rattle.rt_rules.specs.Alike.{Alike, is_inside_for}
 use Rattle.rt_settle.specs.Sides.{IsFront}

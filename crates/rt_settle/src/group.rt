@@ -1,15 +1,14 @@
 // Schemes of groups of procedures.
 ghost use Rattle.std.specs.Prelude.{◌≡◌, ◌↔◌, ◌++◌, IfOk, IsTrue, OnOk};
 ghost use Rattle.rt_scheme.specs.Schemes.{AreSchemeLines};
-ghost use Rattle.rt_split.specs.Splitting.{AreInterfaceLines};
+ghost use Rattle.rt_scheme.specs.Splitting.{AreInterfaceLines};
 ghost use Rattle.rt_settle.specs.Chosen.{IsChosenFrom};
 ghost use Rattle.rt_settle.specs.Groups.{AreSchemesFrom, AreSchemesOf, IsSchemeFrom, TellsOutside, joined};
 
 use crate::scheme::settle;
 use rt_base::{Memory, Sequence};
-use rt_scheme::{Scheme, is_scheme_line};
-use rt_split::split;
-use rt_terms::{Line, Lines};
+use rt_lines::{Line, Lines};
+use rt_scheme::{Scheme, is_scheme_line, split};
 use std::alloc::Global;
 
 /// Lists of lines, one for each of some procedures.
@@ -86,7 +85,7 @@ fn schemes_for(alloc: Global, members: &[u32], settled: &Lines) -> Result<GroupS
 /// all lists tell, with no constant and no global more.
 ///
 /// The lines of all lists are settled, first for the outside of all members at once, then once for each member, where an
-/// existential stands for each argument and result of the others. The error is want of memory.
+/// existential stands for each argument and result of the others. The error is out of memory.
 pub fn solve_group(alloc: Global, members: &[u32], lists: &Lists) -> Result<GroupSchemes, Memory>
     requires { AreInterfaceLines (joined lists.now) }
     ensures { IfOk result (AreSchemesOf members.now (joined lists.now)) }

@@ -7,7 +7,7 @@ ghost use Rattle.rt_settle.specs.Chosen.{AreInOrder};
 ghost use Rattle.rt_settle.specs.Sorted.{padded, sort_names};
 
 use rt_base::{Memory, Sequence};
-use rt_terms::{Dtv, Line, Lines};
+use rt_lines::{Dtv, Line, Lines};
 use rt_texts::{print_number, print_variable};
 use std::alloc::Global;
 
@@ -121,7 +121,7 @@ fn with_texts(alloc: Global, lines: Lines) -> Result<Vec<Written>, Memory>
 }
 
 /// The lines by the bytes of their texts, in which constants have the names of the standard lattice, and those that have
-/// none there their numbers. The error is want of memory.
+/// none there their numbers. The error is out of memory.
 pub fn sort_lines(alloc: Global, lines: Lines) -> Result<Lines, Memory>
     ensures same { IfOk result (IsPermutation lines) }
     ensures in_order { IfOk result (AreInOrder lines) }

@@ -3,7 +3,7 @@ ghost use Rattle.std.specs.Prelude.{◌≡◌, IfOk};
 ghost use Rattle.rt_settle.specs.Ranks.{base_rank, label_rank, ranks_of};
 
 use rt_base::Memory;
-use rt_terms::{Base, Dtv, Label, Loc};
+use rt_lines::{Base, Dtv, Label, Loc};
 use std::alloc::Global;
 
 /// The place of a base or a label in an order: by its kind, then its number or width, then its offset.
@@ -35,7 +35,7 @@ fn label_rank(label: Label) -> Rank
     }
 }
 
-/// The ranks of the variable's base and of its letters, in order. The error is want of memory.
+/// The ranks of the variable's base and of its letters, in order. The error is out of memory.
 pub fn ranks_of(alloc: Global, variable: &Dtv) -> Result<Vec<Rank>, Memory>
     ensures { IfOk result (λ ranks. ranks.items ≡ ranks_of variable.now) }
 {

@@ -1,91 +1,54 @@
 // Schemes of lists of lines.
-ghost use Rattle.std.specs.Prelude.{◌≡◌, ◌≢◌, ℕ, ◌⊎◌, All, AllPairs, Contains, IfOk, nat_eq};
-ghost use Rattle.std.specs.HashMap.{get};
-ghost use Rattle.rt_terms.specs.declared.variable.Base.{Base};
-ghost use Rattle.rt_terms.specs.declared.variable.Dtv.{Dtv};
-ghost use Rattle.rt_terms.specs.Lines.{HasConstantsBelow};
-ghost use Rattle.rt_terms.specs.Orders.{Below};
+ghost use Rattle.std.specs.Prelude.{◌≡◌, ◌≢◌, ℕ, ◌⊎◌, All, AllPairs, Contains, IfOk};
+ghost use Rattle.rt_lines.specs.declared.variable.Base.{Base};
+ghost use Rattle.rt_lines.specs.declared.variable.Dtv.{Dtv};
+ghost use Rattle.rt_lines.specs.Lines.{HasConstantsBelow};
+ghost use Rattle.rt_lines.specs.Orders.{Below};
 ghost use Rattle.rt_rules.specs.Alike.{Alike, is_inside_for};
 ghost use Rattle.rt_rules.specs.Laws.{NamesBase};
 ghost use Rattle.rt_scheme.specs.Schemes.{AreSchemeLines};
-ghost use Rattle.rt_split.specs.Splitting.{AreInterfaceLines};
-ghost use Rattle.rt_settle.specs.Chosen.{IsSettled, LeavesOf};
-ghost use Rattle.rt_settle.specs.Rounds.{IsAfter, IsAfterFollowed, IsSolved, after_put};
+ghost use Rattle.rt_scheme.specs.Splitting.{AreInterfaceLines};
+ghost use Rattle.rt_polar.specs.Tidied.{tidied};
+ghost use Rattle.rt_settle.specs.Chosen.{IsSettled, IsSolved, LeavesOf};
 ghost use Rattle.rt_settle.specs.Sorted.{AreSorted};
-ghost use Rattle.rt_settle.specs.Tidy.{AreNeeded, IsBare, tidied};
-ghost use Rattle.rt_settle.specs.Told.{IsExist, TellsSame};
+ghost use Rattle.rt_settle.specs.Tidy.{AreNeeded, IsBare};
+ghost use Rattle.rt_settle.specs.Told.{IsExist};
 
-use crate::classes::follow;
 use crate::ordering::sort_lines;
-use crate::places::{Places, choose};
-use crate::putting::{put_in_lines, selves_to_vars};
 use crate::spare::without_spare;
 use rt_base::Memory;
-use rt_numbering::{deduplicate, number};
-use rt_terms::{Line, Lines};
+use rt_lines::{Line, Lines, number};
+use rt_polar::{put_away, tidy};
 use std::alloc::Global;
 
-// The needed ones of the lines, each once, and none that puts a variable below itself: `X <= X` is `var X`.
-fn tidy(alloc: Global, lines: Lines) -> Result<Lines, Memory>
-    ensures needed { IfOk result (AreNeeded (tidied lines)) }
-    ensures same { IfOk result (TellsSame (tidied lines)) }
-    ensures bare { IfOk result IsBare }
+// The needed ones of the lines, tidied.
+fn needed(alloc: Global, lines: Lines) -> Result<Lines, Memory>
+    ensures { IfOk result (AreNeeded (tidied lines)) }
 {
-    let lines = selves_to_vars(alloc, lines)?;
-    let lines = deduplicate(alloc, lines)?;
+    let lines = tidy(alloc, lines)?;
     without_spare(alloc, lines)
 }
 
-// The lines after what is in places was put there.
-fn put_round(alloc: Global, lines: &Lines, places: &Places) -> Result<Lines, Memory>
-    ensures after { IfOk result (IsAfter (get nat_eq places.now) lines.now) }
-    ensures same { IfOk result (TellsSame (after_put (get nat_eq places.now) lines.now)) }
-    ensures bare { IfOk result IsBare }
-{
-    let put = put_in_lines(alloc, lines.items(), places)?;
-    tidy(alloc, put)
-}
-
-// The lines with what existentials follow in their places.
-fn put_followed(alloc: Global, lines: &Lines) -> Result<Lines, Memory>
-    requires { (x : Dtv) → Contains lines.now (Line.Sub x x) → ⊥ }
-    ensures after { IfOk result (IsAfterFollowed lines.now) }
-    ensures same { IfOk result (TellsSame lines.now) }
-    ensures bare { IfOk result IsBare }
-{
-    let places = follow(alloc, lines.items())?;
-    put_round(alloc, lines, &places)
-}
-
-// What is left of lines after as many rounds as put something in a place.
-fn put_away(alloc: Global, lines: Lines) -> Result<Lines, Memory>
+// What is left of lines when no existential has a candidate any more.
+fn leave(alloc: Global, lines: Lines) -> Result<Lines, Memory>
     ensures left { IfOk result (LeavesOf lines) }
-    ensures same { IfOk result (TellsSame lines) }
-    ensures once { IfOk result (AllPairs (λ a b. a ≢ b)) }
-    ensures no_self { IfOk result (λ left. (x : Dtv) → Contains left (Line.Sub x x) → ⊥) }
     ensures bare { IfOk result IsBare }
-    ensures solved { IfOk result IsSolved }
 {
-    let mut lines = tidy(alloc, lines)?;
-    loop {
-        let followed = put_followed(alloc, &lines)?;
-        let places = choose(alloc, followed.items())?;
-        if places.is_empty() {
-            return Ok(followed);
-        }
-        lines = put_round(alloc, &followed, &places)?;
-    }
+    let lines = needed(alloc, lines)?;
+    let lines = put_away(alloc, lines)?;
+    without_spare(alloc, lines)
 }
 
 /// The scheme of a list of lines (PLDI 2016, section 5): lines that tell the outside of every procedure the same, with no
 /// constant and no base more that is no existential.
 ///
-/// In rounds, as long as one puts something away: first each existential that comes from one variable without letters gives
-/// its place to that one; then, by rising number, each existential all of whose definitions are `Z <= v` with one Z of another
-/// base, once what is put in places already stands there, gives its place to Z. `X <= X` is `var X`, no line stands twice, and
-/// no `var` line stands whose variable is a front of a variable of another line. The existentials are numbered from 0 in the order in which they first stand in these lines, and then the lines are sorted by the bytes of their texts, with the
-/// names of the standard lattice whatever lattice the program works with: a constant numbered 12 or more stands as its
-/// number, of at least three digits. The error is want of memory.
+/// `X <= X` and `same X X` are `var X`, no line stands twice, and no `var` line stands whose variable is a prefix of a
+/// variable of another line. Then existentials give their places away, one after another, until none has a candidate: the
+/// least one that has one takes the other side of its only definition, `Z <= v`, or else of its only consumer, `v <= Z`, into
+/// its place, where Z has another base. `var` lines that others cover are left out again. The existentials are numbered from
+/// 0 in the order in which they first stand in these lines, and then the lines are sorted by the bytes of their texts, with
+/// the names of the standard lattice whatever lattice the program works with: a constant numbered 12 or more stands as its
+/// number, of at least three digits. The error is out of memory.
 pub fn settle(alloc: Global, lines: Lines) -> Result<Lines, Memory>
     // Which lines these are.
     ensures settled { IfOk result (IsSettled lines) }
@@ -106,7 +69,7 @@ pub fn settle(alloc: Global, lines: Lines) -> Result<Lines, Memory>
     ensures once { IfOk result (AllPairs (λ a b. a ≢ b)) }
     ensures sorted { IfOk result AreSorted }
 {
-    let lines = put_away(alloc, lines)?;
+    let lines = leave(alloc, lines)?;
     let lines = number(alloc, lines)?;
     sort_lines(alloc, lines)
 }

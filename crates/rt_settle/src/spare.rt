@@ -1,7 +1,7 @@
 // `var` lines that other lines cover.
 ghost use Rattle.std.specs.Prelude.{◌≡◌, ◌≢◌, ◌↔◌, ℕ, ◌<◌, AllPairs, Bool, false, List, Contains, get_or, slice_index_or, length, map, not, IfOk, IsSorted, OnOk, IsTrue};
-ghost use Rattle.rt_terms.specs.declared.line.Line.{Line};
-ghost use Rattle.rt_terms.specs.Orders.{Below};
+ghost use Rattle.rt_lines.specs.declared.line.Line.{Line};
+ghost use Rattle.rt_lines.specs.Orders.{Below};
 ghost use Rattle.rt_rules.specs.Rules.{Derivable};
 ghost use Rattle.rt_settle.specs.Sides.{AddsSide, AddsSides, AddsTwo, AreSides, IsCovered, IsFront, is_var, side_cmp};
 ghost use Rattle.rt_settle.specs.Tidy.{AreNeeded, IsBare, IsSpare, kept};
@@ -9,7 +9,7 @@ ghost use Rattle.rt_settle.specs.Told.{TellsSame};
 
 use crate::ranks::{Rank, ranks_of};
 use rt_base::{Memory, Sequence};
-use rt_terms::{Dtv, Line, Lines};
+use rt_lines::{Dtv, Line, Lines};
 use std::alloc::Global;
 use std::cmp::Ordering;
 
@@ -164,7 +164,7 @@ fn keep(alloc: Global, lines: Lines, stay: &[bool]) -> Result<Lines, Memory>
     Ok(Sequence::from_vec(kept))
 }
 
-/// The lines without the `var` lines whose variable is a front of the variable of another line. The error is want of
+/// The lines without the `var` lines whose variable is a front of the variable of another line. The error is out of
 /// memory.
 pub fn without_spare(alloc: Global, lines: Lines) -> Result<Lines, Memory>
     requires { AllPairs (λ a b. a ≢ b) lines }

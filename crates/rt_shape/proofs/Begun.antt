@@ -4,8 +4,9 @@ use Rattle.std.specs.Prelude.{slice_index, slice_index_or}
 use Rattle.std.specs.Map.{lookup}
 use Rattle.std.proofs.lemmas.Bool.{cases_eq, cases_lt}
 use Rattle.std.proofs.lemmas.List.{length_push, get_or_append_left, get_or_push, get_or_past}
-use Rattle.rt_terms.specs.declared.label.Label.{Label}
-use Rattle.rt_rules.proofs.Lists.{Contains-none, Contains-cons_cases}
+use Rattle.std.proofs.lemmas.Option.{none-some}
+use Rattle.rt_base.proofs.Lists.{Contains-none, Contains-cons_cases}
+use Rattle.rt_lines.specs.declared.label.Label.{Label}
 use Rattle.rt_shape.specs.Graphs.{Graph, letter_eq}
 use Rattle.rt_shape.specs.Classes.{Joined}
 use Rattle.rt_shape.specs.Classes.Joined.{joined_pair, joined_self}
@@ -70,9 +71,6 @@ begun graph pairs class members letters first todo each own alone empty no_first
   class_joined = λ i less. (subst (λ n. n < graph.count) (sym (own i less)) less, subst (Joined graph pairs i) (sym (own i less)) joined_self);
   members_joined = λ c k h. let a = alone.own c k h in (a.1, subst (λ n. Joined graph pairs k n) (sym a.0) joined_self);
   letters_lead = λ c l t h. absurd (empty.none c (l, t) h);
-  first_leads = λ c l t e. absurd (none_some t (subst (λ es. lookup (letter_eq (c, l)) es ≡ Some t) no_first e));
+  first_leads = λ c l t e. absurd (none-some t (subst (λ es. lookup (letter_eq (c, l)) es ≡ Some t) no_first e));
   todo_joined = λ i j h. let p = subst (λ ps. Contains ps (i, j)) same h in let within = pairs_in i j p in (within.0, within.1, joined_pair p);
 }
-  where
-    none_some : (t : ℕ) → None ≡ Some t → ⊥
-    none_some t e = cc

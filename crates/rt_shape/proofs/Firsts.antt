@@ -3,9 +3,9 @@ use Rattle.std.proofs.Common.{◌≡◌, ℕ, ◌+◌, ◌<◌, ◌⊎◌, inl, 
 use Rattle.std.specs.Prelude.{slice_get, slice_index}
 use Rattle.std.specs.Map.{lookup}
 use Rattle.std.proofs.lemmas.Bool.{cases_eq}
-use Rattle.std.proofs.lemmas.Option.{slice_get-get_or}
+use Rattle.std.proofs.lemmas.Option.{slice_get-get_or, none-some}
 use Rattle.std.proofs.lemmas.Map.Views.{Contains-from_lookup}
-use Rattle.rt_terms.specs.declared.label.Label.{Label}
+use Rattle.rt_lines.specs.declared.label.Label.{Label}
 use Rattle.rt_shape.specs.Graphs.{Graph, letter_eq, step_of}
 use Rattle.rt_shape.specs.Classes.{pointed, AreStepsOne, AreApart}
 use Rattle.rt_shape.proofs.Letters.{letter_equal, letter_self}
@@ -26,11 +26,8 @@ module _ (graph : Graph) (class : List ℕ) where
   pub begins : IsGoing graph class 0 []
   begins = record {
     done = λ j m l n less e. absurd (omega arith);
-    from = λ a k t e. absurd (none_some t e);
+    from = λ a k t e. absurd (none-some t e);
   }
-    where
-      none_some : (t : ℕ) → None ≡ Some t → ⊥
-      none_some t f = cc
 
   module _ (i : ℕ) (first : List ((ℕ × Label) × ℕ)) (going : IsGoing graph class i first) (m : ℕ) (l : Label) (n : ℕ) (edge : EdgeAt graph i m l n) where
     same_edge : (p : ℕ) (k : Label) (q : ℕ) → EdgeAt graph i p k q → ◌≡◌ {A = (ℕ × Label) × ℕ} ((m, l), n) ((p, k), q)

@@ -1,10 +1,10 @@
 -- Trees that grow by one base.
 use Rattle.std.proofs.Common.{◌≡◌, ℕ, ◌+◌, ◌<◌, ◌⊎◌, inl, inr, Bool, true, false, cond, Some, None, refl, sym, ap, subst, ◌∙◌, arith}
-use Rattle.rt_terms.specs.declared.label.Label.{Label}
-use Rattle.rt_terms.specs.declared.variable.Base.{Base}
-use Rattle.rt_terms.specs.declared.variable.Dtv.{Dtv}
-use Rattle.rt_terms.specs.Equality.{base_eq}
-use Rattle.rt_terms.proofs.Equal.{base_equal}
+use Rattle.rt_lines.specs.declared.label.Label.{Label}
+use Rattle.rt_lines.specs.declared.variable.Base.{Base}
+use Rattle.rt_lines.specs.declared.variable.Dtv.{Dtv}
+use Rattle.rt_lines.specs.Equality.{base_eq}
+use Rattle.rt_lines.proofs.Equal.{base_equal}
 use Rattle.rt_rules.specs.Rules.{longer}
 use Rattle.rt_shape.specs.Graphs.{Graph, bare, base_of, step_of, node_of, IsTree}
 use Rattle.rt_shape.proofs.Letters.{base_self}

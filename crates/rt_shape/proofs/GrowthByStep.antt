@@ -1,8 +1,8 @@
 -- Trees that grow by one step.
 use Rattle.std.proofs.Common.{◌≡◌, ℕ, ◌+◌, ◌<◌, ◌⊎◌, inl, inr, Bool, true, false, cond, Some, None, refl, sym, ap, subst, ◌∙◌, arith}
-use Rattle.rt_terms.specs.declared.label.Label.{Label}
-use Rattle.rt_terms.specs.declared.variable.Base.{Base}
-use Rattle.rt_terms.specs.declared.variable.Dtv.{Dtv}
+use Rattle.rt_lines.specs.declared.label.Label.{Label}
+use Rattle.rt_lines.specs.declared.variable.Base.{Base}
+use Rattle.rt_lines.specs.declared.variable.Dtv.{Dtv}
 use Rattle.rt_rules.specs.Rules.{longer}
 use Rattle.rt_shape.specs.Graphs.{Graph, letter_eq, base_of, step_of, node_of, IsTree}
 use Rattle.rt_shape.proofs.Letters.{letter_equal, letter_self}

@@ -1,11 +1,11 @@
 -- What has to be one in the tree of what the lines name has one shape.
 use Rattle.std.proofs.Common.{◌≡◌, ℕ, ◌<◌, ◌⊎◌, inl, inr, Some, List, Contains, refl, sym, ap, subst, ◌∙◌}
-use Rattle.rt_terms.specs.declared.label.Label.{Label}
-use Rattle.rt_terms.specs.declared.label.Label.TheVariants.{In, Out, Load, Store, Field}
-use Rattle.rt_terms.specs.declared.variable.Dtv.{Dtv}
-use Rattle.rt_terms.specs.declared.line.Line.{Line}
-use Rattle.rt_terms.specs.declared.line.Line.TheVariants.{Var, Same, Sub, Low, Up}
-use Rattle.rt_terms.specs.Orders.{Below}
+use Rattle.rt_lines.specs.declared.label.Label.{Label}
+use Rattle.rt_lines.specs.declared.label.Label.TheVariants.{In, Out, Load, Store, Field}
+use Rattle.rt_lines.specs.declared.variable.Dtv.{Dtv}
+use Rattle.rt_lines.specs.declared.line.Line.{Line}
+use Rattle.rt_lines.specs.declared.line.Line.TheVariants.{Var, Same, Sub, Low, Up}
+use Rattle.rt_lines.specs.Orders.{Below}
 use Rattle.rt_rules.specs.Rules.{longer, Derivable}
 use Rattle.rt_rules.specs.Rules.Derivable.{named, same_letter, same_line, same_sub, same_self, same_back, same_chain, same_longer, sub_line, sub_pointer}
 use Rattle.rt_rules.proofs.Covering.{front}

@@ -1,22 +1,18 @@
 -- Keys of look-ups, as `==` compares them.
 use Rattle.std.proofs.Common.{◌≡◌, ℕ, Bool, true, false, nat_eq, ◌&&◌, refl, sym, ap, subst, ◌∙◌, eq-eqb}
 use Rattle.std.specs.Cmp.{IsEquivalence}
-use Rattle.std.proofs.lemmas.Bool.{eqb-true}
-use Rattle.rt_terms.specs.declared.label.Label.{Label}
-use Rattle.rt_terms.specs.declared.variable.Base.{Base}
-use Rattle.rt_terms.specs.contracts.label.LabelEq.TheImpl.Laws as label_laws
-use Rattle.rt_terms.specs.contracts.variable.BaseEq.TheImpl.Laws as base_laws
-use Rattle.rt_terms.specs.Equality.{base_eq, label_eq}
-use Rattle.rt_terms.proofs.Equal.{label_equal}
+use Rattle.std.proofs.lemmas.Bool.{eqb-true, and_parts}
+use Rattle.rt_lines.specs.declared.label.Label.{Label}
+use Rattle.rt_lines.specs.declared.variable.Base.{Base}
+use Rattle.rt_lines.specs.contracts.label.LabelEq.TheImpl.Laws as label_laws
+use Rattle.rt_lines.specs.contracts.variable.BaseEq.TheImpl.Laws as base_laws
+use Rattle.rt_lines.specs.Equality.{base_eq, label_eq}
+use Rattle.rt_lines.proofs.Equal.{label_equal}
 use Rattle.rt_shape.specs.Graphs.{letter_eq}
-
-both : (a b : Bool) → (a && b) ≡ true → (a ≡ true) × (b ≡ true)
-both true b f = (refl, f)
-both false b f = cc
 
 pub letter_equal : (p q : ℕ × Label) → letter_eq p q ≡ true → p ≡ q
 letter_equal p q e =
-    let parts = both (nat_eq p.0 q.0) (label_eq p.1 q.1) e in
+    let parts = and_parts (nat_eq p.0 q.0) (label_eq p.1 q.1) e in
     let nodes : p.0 ≡ q.0 = eqb-true p.0 q.0 parts.0 in
     let labels : p.1 ≡ q.1 = label_equal p.1 q.1 parts.1 in
     λ i. (nodes i, labels i)

@@ -3,7 +3,7 @@ use Rattle.std.proofs.Common.{◌≡◌, ℕ, ◌+◌, ◌<◌, ◌⊎◌, inl, 
 use Rattle.std.specs.Prelude.{slice_get}
 use Rattle.std.specs.Map.{lookup}
 use Rattle.std.proofs.lemmas.Bool.{cases_eq}
-use Rattle.std.proofs.lemmas.Option.{slice_get-get_or}
+use Rattle.std.proofs.lemmas.Option.{slice_get-get_or, none-some, same_Some}
 use Rattle.std.proofs.lemmas.Map.Views.{Contains-from_lookup}
 
 pub entry_place : {E : Type 0} (es : List E) (e : E) → Contains es e → (j : ℕ) × (j < length es) × (slice_get es j ≡ Some e)
@@ -25,18 +25,12 @@ module _ {K J : Type 0} (same : K → K → Bool) (same_equal : (p q : K) → sa
   IsCarried-none = record {
     found = λ j q n less e. absurd (omega arith);
     done = λ j q n less e. absurd (omega arith);
-    from = λ k v e. absurd (none_some v e);
+    from = λ k v e. absurd (none-some v e);
   }
-    where
-      none_some : (v : ℕ) → None ≡ Some v → ⊥
-      none_some v f = cc
 
   module _ (coherent : (p q : K) (m n : ℕ) → key p ≡ key q → lookup (same p) entries ≡ Some m → lookup (same q) entries ≡ Some n → value m ≡ value n)
       (i : ℕ) (made after : List (J × ℕ)) (carried : IsCarried i made) (q : K) (n : ℕ) (entry : EntryAt i q n) (there : lookup (same q) entries ≡ Some n)
       (updates : (k : J) → lookup (eq k) after ≡ cond (eq (key q) k) (Some (value n)) (lookup (eq k) made)) where
-    some_same : (a b : ℕ) → Some a ≡ Some b → a ≡ b
-    some_same a b e = cc
-
     same_entry : (p : K) (m : ℕ) → EntryAt i p m → ◌≡◌ {A = K × ℕ} (q, n) (p, m)
     same_entry p m e = pair_same (sym entry ∙ e)
       where
@@ -75,7 +69,7 @@ module _ {K J : Type 0} (same : K → K → Bool) (same_equal : (p q : K) → sa
     from k v e = by (eq (key q) k) refl
       where
         by : (b : Bool) → eq (key q) k ≡ b → (p : K) × (m : ℕ) × (key p ≡ k) × (lookup (same p) entries ≡ Some m) × (value m ≡ v)
-        by true f = (q, n, equal (key q) k f, there, some_same (value n) v (sym (at true k f) ∙ e))
+        by true f = (q, n, equal (key q) k f, there, same_Some (value n) v (sym (at true k f) ∙ e))
         by false f = carried.from k v (sym (at false k f) ∙ e)
 
     pub IsCarried-more : IsCarried (i + 1) after

@@ -3,6 +3,7 @@ use Rattle.std.proofs.Common.{◌≡◌, ℕ, ◌+◌, ◌<◌, ◌≤◌, ◌�
 use Rattle.std.specs.Prelude.{slice_index}
 use Rattle.std.proofs.lemmas.Bool.{cases_eq}
 use Rattle.std.proofs.lemmas.List.{length-set, length_push, get_or_push, get_or_append_left}
+use Rattle.std.proofs.lemmas.Option.{none-some, same_Some}
 use Rattle.rt_shape.specs.Classes.{IsNumbering}
 
 -- the number of a class, where it is known
@@ -18,12 +19,6 @@ pub record AreNumbered (class : List ℕ) (i : ℕ) (known : List (Option ℕ)) 
   pub below : (c n : ℕ) → number_of known c ≡ Some n → n < count
   pub single : (c d n : ℕ) → number_of known c ≡ Some n → number_of known d ≡ Some n → c ≡ d
   pub all : (n : ℕ) → n < count → (k : ℕ) × (k < i) × (slice_index numbers k ≡ n)
-
-some_same : (a b : ℕ) → Some a ≡ Some b → a ≡ b
-some_same a b e = cc
-
-none_some : (a : ℕ) → None ≡ Some a → ⊥
-none_some a e = cc
 
 module _ (class : List ℕ) (i : ℕ) (known : List (Option ℕ)) (numbers : List ℕ) (count : ℕ) (are : AreNumbered class i known numbers count) where
   split : (k : ℕ) → k < i + 1 → (k < i) ⊎ (k ≡ i)
@@ -67,13 +62,13 @@ module _ (class : List ℕ) (i : ℕ) (known : List (Option ℕ)) (numbers : Lis
     elsewhere c ne = get_or-set_other known (slice_index class i) c (Some count) None ne
 
     kept : (c n : ℕ) → number_of known c ≡ Some n → number_of next c ≡ Some n
-    kept c n e = elsewhere c (λ same. none_some n (sym unknown ∙ ap (number_of known) (sym same) ∙ e)) ∙ e
+    kept c n e = elsewhere c (λ same. none-some n (sym unknown ∙ ap (number_of known) (sym same) ∙ e)) ∙ e
 
     cases : (c n : ℕ) → number_of next c ≡ Some n → ((n ≡ count) × (c ≡ slice_index class i)) ⊎ (number_of known c ≡ Some n)
     cases c n e = by (cases_eq c (slice_index class i))
       where
         by : (c ≡ slice_index class i) ⊎ (c ≡ slice_index class i → ⊥) → ((n ≡ count) × (c ≡ slice_index class i)) ⊎ (number_of known c ≡ Some n)
-        by (inl same) = inl (some_same n count (sym e ∙ ap (number_of next) same ∙ here), same)
+        by (inl same) = inl (same_Some n count (sym e ∙ ap (number_of next) same ∙ here), same)
         by (inr ne) = inr (sym (elsewhere c ne) ∙ e)
 
     below : (c n : ℕ) → ((n ≡ count) × (c ≡ slice_index class i)) ⊎ (number_of known c ≡ Some n) → n < count + 1
@@ -114,7 +109,7 @@ module _ (class : List ℕ) (i : ℕ) (known : List (Option ℕ)) (numbers : Lis
     within = λ k less. are.below (slice_index class k) (slice_index numbers k) (at k less);
     same = λ k j less_k less_j. (
       (λ e. are.single (slice_index class k) (slice_index class j) (slice_index numbers k) (at k less_k) (at j less_j ∙ ap Some (sym e))),
-      (λ e. some_same (slice_index numbers k) (slice_index numbers j) (sym (at k less_k) ∙ ap (number_of known) e ∙ at j less_j)),
+      (λ e. same_Some (slice_index numbers k) (slice_index numbers j) (sym (at k less_k) ∙ ap (number_of known) e ∙ at j less_j)),
     );
     all = λ n less. let a = are.all n less in (a.0, subst (λ m. a.0 < m) (sym whole) a.1, a.2);
   }

@@ -1,8 +1,8 @@
 -- The graph of the numbers of classes of which nothing is left to be made one.
 use Rattle.std.proofs.Common.{◌≡◌, ℕ, ◌<◌, Some, List, length, refl, sym, ap, subst, ◌∙◌}
 use Rattle.std.specs.Prelude.{slice_index}
-use Rattle.rt_terms.specs.declared.label.Label.TheVariants.{Load, Store}
-use Rattle.rt_terms.specs.declared.variable.Dtv.{Dtv}
+use Rattle.rt_lines.specs.declared.label.Label.TheVariants.{Load, Store}
+use Rattle.rt_lines.specs.declared.variable.Dtv.{Dtv}
 use Rattle.rt_shape.specs.Graphs.{Graph, bare, step_of, node_of, IsTree, IsShape}
 use Rattle.rt_shape.specs.Classes.{AreStepsOne, IsNumbering, IsQuotient}
 use Rattle.rt_shape.proofs.Walks.{Walks, walks, has_walked, node_of-longer}

@@ -1,12 +1,12 @@
 -- Nodes with a load and a store.
 use Rattle.std.proofs.Common.{◌≡◌, ℕ, Some, IsSome, List, subst}
 use Rattle.std.specs.Prelude.{◌↔◌}
-use Rattle.rt_terms.specs.declared.label.Label.{Label}
-use Rattle.rt_terms.specs.declared.label.Label.TheVariants.{Load, Store}
-use Rattle.rt_terms.specs.declared.variable.Dtv.{Dtv}
-use Rattle.rt_terms.specs.declared.line.Line.{Line}
-use Rattle.rt_terms.specs.declared.line.Line.TheVariants.{Var}
-use Rattle.rt_terms.specs.Orders.{Below}
+use Rattle.rt_lines.specs.declared.label.Label.{Label}
+use Rattle.rt_lines.specs.declared.label.Label.TheVariants.{Load, Store}
+use Rattle.rt_lines.specs.declared.variable.Dtv.{Dtv}
+use Rattle.rt_lines.specs.declared.line.Line.{Line}
+use Rattle.rt_lines.specs.declared.line.Line.TheVariants.{Var}
+use Rattle.rt_lines.specs.Orders.{Below}
 use Rattle.rt_rules.specs.Rules.{longer, Derivable}
 use Rattle.rt_shape.specs.Graphs.{Graph, node_of, step_of}
 use Rattle.rt_shape.specs.Shapes.{IsShapeOf}

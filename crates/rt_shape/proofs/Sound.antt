@@ -5,8 +5,9 @@ use Rattle.std.specs.Map.{lookup}
 use Rattle.std.proofs.lemmas.Bool.{cases_eq, cases_lt}
 use Rattle.std.proofs.lemmas.List.{length-set, set_past, get_or_read, get_or_read_under}
 use Rattle.std.proofs.lemmas.List.Elements.{Contains-push_cases}
-use Rattle.rt_terms.specs.declared.label.Label.{Label}
-use Rattle.rt_rules.proofs.Lists.{Contains-none}
+use Rattle.std.proofs.lemmas.Option.{none-some}
+use Rattle.rt_base.proofs.Lists.{Contains-none}
+use Rattle.rt_lines.specs.declared.label.Label.{Label}
 use Rattle.rt_shape.specs.Graphs.{Graph, letter_eq, step_of}
 use Rattle.rt_shape.specs.Classes.{pointed, Joined}
 use Rattle.rt_shape.specs.Classes.Joined.{joined_back, joined_chain, joined_letter}
@@ -135,11 +136,8 @@ module _ (graph : Graph) (pairs : List (ℕ × ℕ)) where
     pub sound-remove : (c : ℕ) (l : Label) (after : List ((ℕ × Label) × ℕ)) → ((q : ℕ × Label) → lookup (letter_eq q) after ≡ cond (letter_eq (c, l) q) None (lookup (letter_eq q) first)) → AreSound graph pairs class members letters after todo
     sound-remove c l after updates = sound-first after (λ d k s e. by d k s e (letter_eq (c, l) (d, k)) refl)
       where
-        none_some : (s : ℕ) → None ≡ Some s → ⊥
-        none_some s e = cc
-
         by : (d : ℕ) (k : Label) (s : ℕ) → lookup (letter_eq (d, k)) after ≡ Some s → (b : Bool) → letter_eq (c, l) (d, k) ≡ b → Leads graph pairs d k s
-        by d k s e true f = absurd (none_some s (sym (updates (d, k) ∙ ap (λ b. cond b None (lookup (letter_eq (d, k)) first)) f) ∙ e))
+        by d k s e true f = absurd (none-some s (sym (updates (d, k) ∙ ap (λ b. cond b None (lookup (letter_eq (d, k)) first)) f) ∙ e))
         by d k s e false f = sound.first_leads d k s (sym (updates (d, k) ∙ ap (λ b. cond b None (lookup (letter_eq (d, k)) first)) f) ∙ e)
 
     -- a letter more of a class

@@ -1,8 +1,8 @@
 -- Where words lead in a graph.
 use Rattle.std.proofs.Common.{◌≡◌, ℕ, Option, Some, None, List, [], ◌∷◌, ◌++◌, refl, sym, ap, subst, ◌∙◌}
-use Rattle.rt_terms.specs.declared.label.Label.{Label}
-use Rattle.rt_terms.specs.declared.variable.Base.{Base}
-use Rattle.rt_terms.specs.declared.variable.Dtv.{Dtv}
+use Rattle.rt_lines.specs.declared.label.Label.{Label}
+use Rattle.rt_lines.specs.declared.variable.Base.{Base}
+use Rattle.rt_lines.specs.declared.variable.Dtv.{Dtv}
 use Rattle.rt_rules.specs.Rules.{longer, extended}
 use Rattle.rt_rules.proofs.Covering.{extended-nil, extended-cons}
 use Rattle.rt_shape.specs.Graphs.{Graph, bare, base_of, step_of, walk, node_of}

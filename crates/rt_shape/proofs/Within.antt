@@ -1,8 +1,8 @@
 -- What is in a tree is below its count.
 use Rattle.std.proofs.Common.{◌≡◌, ℕ, ◌<◌, ◌⊎◌, inl, inr, Some, List, Contains, refl, sym, subst, ◌∙◌}
-use Rattle.rt_terms.specs.declared.label.Label.{Label}
-use Rattle.rt_terms.specs.declared.variable.Dtv.{Dtv}
-use Rattle.rt_terms.specs.declared.line.Line.{Line}
+use Rattle.rt_lines.specs.declared.label.Label.{Label}
+use Rattle.rt_lines.specs.declared.variable.Dtv.{Dtv}
+use Rattle.rt_lines.specs.declared.line.Line.{Line}
 use Rattle.rt_shape.specs.Graphs.{Graph, node_of, IsTree}
 use Rattle.rt_shape.specs.Shapes.{Equates, ArePairs}
 use Rattle.rt_shape.specs.Classes.{Joined}

@@ -1,10 +1,10 @@
 -- Nodes that have to be one, and classes of nodes.
 use Rattle.std.specs.Prelude.{◌≡◌, ℕ, ◌<◌, ◌↔◌, ◌==◌, if◌then◌else◌, min, max, List, Contains, length, Some, slice_index}
 use Rattle.std.specs.Map.{lookup}
-use Rattle.rt_terms.specs.declared.label.Label.{Label}
-use Rattle.rt_terms.specs.declared.label.Label.TheVariants.{In, Out, Load, Store, Field}
-use Rattle.rt_terms.specs.declared.variable.Base.{Base}
-use Rattle.rt_terms.specs.Equality.{base_eq}
+use Rattle.rt_lines.specs.declared.label.Label.{Label}
+use Rattle.rt_lines.specs.declared.label.Label.TheVariants.{In, Out, Load, Store, Field}
+use Rattle.rt_lines.specs.declared.variable.Base.{Base}
+use Rattle.rt_lines.specs.Equality.{base_eq}
 use Rattle.rt_shape.specs.Graphs.{Graph, letter_eq, base_of, step_of}
 
 -- a label, but that a store counts as a load

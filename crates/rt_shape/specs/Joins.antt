@@ -1,7 +1,7 @@
 -- What is known while nodes are made one.
 use Rattle.std.specs.Prelude.{◌≡◌, ℕ, ◌+◌, ◌<◌, List, [], Contains, length, sum_by, Some, slice_index, slice_index_or}
 use Rattle.std.specs.Map.{lookup}
-use Rattle.rt_terms.specs.declared.label.Label.{Label}
+use Rattle.rt_lines.specs.declared.label.Label.{Label}
 use Rattle.rt_shape.specs.declared.joining.Joining.{Joining}
 use Rattle.rt_shape.specs.Graphs.{Graph, letter_eq, step_of}
 use Rattle.rt_shape.specs.Classes.{pointed, Joined}

@@ -4,7 +4,7 @@ ghost use Rattle.rt_shape.specs.Classes.{AreApart, AreClasses, AreStepsOne, IsCl
 
 use crate::tree::Tree;
 use rt_base::Memory;
-use rt_terms::Label;
+use rt_lines::Label;
 use std::alloc::Global;
 use std::collections::HashMap;
 

@@ -7,7 +7,7 @@ ghost use Rattle.rt_shape.specs.Joins.{IsSound, Leads, MayEnter, MayJoin, work};
 use crate::closing::{own_classes, pointed};
 use crate::tree::Tree;
 use rt_base::{Memory, Sequence};
-use rt_terms::Label;
+use rt_lines::Label;
 use std::alloc::Global;
 use std::collections::HashMap;
 use std::mem;

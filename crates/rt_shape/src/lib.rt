@@ -12,13 +12,11 @@ mod naming;
 pub mod plain;
 mod quotient;
 mod shape;
-#[cfg(test)]
-mod tests;
 mod tree;
 mod walking;
 
 use rt_base::Memory;
-use rt_terms::Line;
+use rt_lines::Line;
 pub use shape::Shape;
 use std::alloc::Global;
 

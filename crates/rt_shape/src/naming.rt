@@ -1,13 +1,13 @@
 // The variables that lines name, and those of one shape by the lines themselves.
 ghost use Rattle.std.specs.Prelude.{◌≡◌, ℕ, ◌⊎◌, Some, IfOk, IfSome, OnOk};
-ghost use Rattle.rt_terms.specs.declared.variable.Dtv.{Dtv};
+ghost use Rattle.rt_lines.specs.declared.variable.Dtv.{Dtv};
 ghost use Rattle.rt_rules.specs.Rules.{HasSide};
 ghost use Rattle.rt_shape.specs.Graphs.{Has};
 ghost use Rattle.rt_shape.specs.Shapes.{ArePairOf, ArePairs, IsFront, IsNaming};
 
 use crate::tree::Tree;
 use rt_base::Memory;
-use rt_terms::Line;
+use rt_lines::Line;
 use std::alloc::Global;
 
 /// The tree of the variables that the lines name: the sides of the lines, and what has a front of a side's word. It

@@ -8,7 +8,7 @@ use crate::naming::{named, pairs};
 use crate::quotient::shape_of;
 use crate::shape::Shape;
 use rt_base::Memory;
-use rt_terms::Line;
+use rt_lines::Line;
 use std::alloc::Global;
 
 /// The graph of what the variables of the lines can do. The error is want of memory.

@@ -1,6 +1,6 @@
 // The graph of the classes of a tree's nodes.
 ghost use Rattle.std.specs.Prelude.{◌≡◌, ℕ, ◌<◌, ◌^◌, length, List, All, Contains, IfOk};
-ghost use Rattle.rt_terms.specs.declared.line.Line.{Line};
+ghost use Rattle.rt_lines.specs.declared.line.Line.{Line};
 ghost use Rattle.rt_shape.specs.Graphs.{IsTree};
 ghost use Rattle.rt_shape.specs.Shapes.{ArePairs, IsNaming, IsShapeOf};
 ghost use Rattle.rt_shape.specs.Classes.{AreBasesOf, AreClasses, AreEdgesOf, AreStepsOne, IsClosed, IsNumbering, IsQuotient};
@@ -10,7 +10,7 @@ use crate::shape::Shape;
 use crate::tree::Tree;
 use indexmap::IndexMap;
 use rt_base::Memory;
-use rt_terms::{Base, Label};
+use rt_lines::{Base, Label};
 use std::alloc::Global;
 
 /// The shape of the lines whose variables are the tree's and whose pairs these are, from classes of nodes that have to

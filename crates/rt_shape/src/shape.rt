@@ -4,7 +4,7 @@ ghost use Rattle.rt_shape.specs.Graphs.{node_of, step_of, IsReadWrite, IsShape};
 
 use crate::walking::walk;
 use indexmap::IndexMap;
-use rt_terms::{Base, Dtv, Label};
+use rt_lines::{Base, Dtv, Label};
 use std::marker::Model;
 
 /// The graph of what the variables of lines can do, which contracts see as that graph: its nodes are the classes of

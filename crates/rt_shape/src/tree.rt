@@ -7,7 +7,7 @@ ghost use Rattle.rt_shape.specs.Shapes.{IsFront};
 use crate::walking::walk;
 use indexmap::IndexMap;
 use rt_base::Memory;
-use rt_terms::{Base, Dtv, Label};
+use rt_lines::{Base, Dtv, Label};
 use std::alloc::{AllocError, Global};
 use std::marker::Model;
 

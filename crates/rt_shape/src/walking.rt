@@ -3,7 +3,7 @@ ghost use Rattle.std.specs.Prelude.{◌≡◌};
 ghost use Rattle.rt_shape.specs.Graphs.{node_of};
 
 use indexmap::IndexMap;
-use rt_terms::{Base, Dtv, Label};
+use rt_lines::{Base, Dtv, Label};
 
 /// The node of a variable: its base's, and a step for each letter of its word. It is found in time linear in the word.
 pub fn walk(

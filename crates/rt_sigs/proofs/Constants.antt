@@ -1,9 +1,10 @@
 -- Lines with a constant.
 use Rattle.std.proofs.Common.{◌≡◌, ◌≢◌, ℕ, zero, suc, ◌↔◌, ◌⊎◌, inl, inr, Bool, true, false, ◌&&◌, IsTrue, Option, Some, None, MatchOption, Bor, List, [], ◌∷◌, ◌++◌, Contains, length, codes, refl, sym, ap, subst, ◌∙◌, arith}
 use Rattle.std.proofs.lemmas.List.Elements.{All-cons}
-use Rattle.rt_terms.specs.declared.line.Line.{Line}
-use Rattle.rt_terms.specs.declared.line.Line.TheVariants.{Var, Same, Sub, Low, Up}
-use Rattle.rt_terms.specs.Names.{IsName, AreNames}
+use Rattle.std.proofs.lemmas.Bool.{and_parts, and_from}
+use Rattle.rt_lines.specs.declared.line.Line.{Line}
+use Rattle.rt_lines.specs.declared.line.Line.TheVariants.{Var, Same, Sub, Low, Up}
+use Rattle.rt_lines.specs.Names.{IsName, AreNames}
 use Rattle.rt_texts.specs.Goods.{IsLine}
 use Rattle.rt_texts.specs.Readings.{IsCut, IsNoText}
 use Rattle.rt_texts.specs.Texts.{dtv_text, line_text}
@@ -59,21 +60,13 @@ named_none text front back cut none nothing name line h = by (named_by name text
     by (inl e) = none name e
     by (inr (other, e)) = nothing name e
 
-both : (a b : Bool) → IsTrue (a && b) → IsTrue a × IsTrue b
-both true b h = (refl, h)
-both false b h = cc
-
-and_both : (a b : Bool) → IsTrue a → IsTrue b → IsTrue (a && b)
-and_both true b h k = k
-and_both false b h k = cc
-
 -- what is read where the name is the only one that is known
 unknown_if_only : (names : List (List ℕ)) (text name : List ℕ) (line : Line) (r : Bool) → ((n : List ℕ) (l : Line) → IsLineWith n text l → n ≡ name) → IsName name → (Contains names name → ⊥) → IsLine 1 line → line_text (name ∷ []) line ≡ text → r ≡ (has_constant line && is_signature_line line) → IsTrue r ↔ IsUnknown names text
 unknown_if_only names text name line r only spelled absent good is test = (forth, back)
   where
     forth : IsTrue r → IsUnknown names text
     forth h =
-        let parts = both (has_constant line) (is_signature_line line) (sym test ∙ h) in
+        let parts = and_parts (has_constant line) (is_signature_line line) (sym test ∙ h) in
         record { name = name; absent = absent; line = line; with_name = record { spelled = spelled; constant = parts.0; good = good; is = is }; allowed = parts.1 }
 
     back : IsUnknown names text → IsTrue r
@@ -83,7 +76,7 @@ unknown_if_only names text name line r only spelled absent good is test = (forth
         let same : u.line ≡ line = one_line (name ∷ []) u.line line (one_name name spelled) u.with_name.good good theirs in
         let constant : IsTrue (has_constant line) = sym (ap has_constant same) ∙ u.with_name.constant in
         let allowed : IsTrue (is_signature_line line) = sym (ap is_signature_line same) ∙ u.allowed in
-        test ∙ and_both (has_constant line) (is_signature_line line) constant allowed
+        test ∙ and_from (has_constant line) (is_signature_line line) constant allowed
 
 pub unknown_if : (names one none : List (List ℕ)) (text name : List ℕ) (line : Line) (r : Bool) → one ≡ none ++ name ∷ [] → none ≡ [] → ((n : List ℕ) (l : Line) → IsLineWith n text l → n ≡ name) → IsName name → (Contains names name → ⊥) → IsLine (length one) line × (line_text one line ≡ text) → r ≡ (has_constant line && is_signature_line line) → IsTrue r ↔ IsUnknown names text
 unknown_if names one none text name line r pushed empty only spelled absent read test =

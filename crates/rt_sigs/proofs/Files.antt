@@ -3,7 +3,7 @@ use Rattle.std.proofs.Common.{◌≡◌, ◌≢◌, ℕ, ◌+◌, ◌<◌, ◌�
 use Rattle.std.proofs.lemmas.List.Elements.{All-push, Contains-get_or}
 use Rattle.std.proofs.lemmas.List.Quantifiers.{all_pairs_push}
 use Rattle.std.proofs.lemmas.Grind.{flat_map-append}
-use Rattle.rt_terms.specs.declared.line.Line.{Line}
+use Rattle.rt_lines.specs.declared.line.Line.{Line}
 use Rattle.rt_texts.specs.Texts.{lines_text}
 use Rattle.rt_scheme.specs.NameReadings.{AreBytes}
 use Rattle.rt_scheme.specs.declared.scheme.Scheme.{Scheme}

@@ -4,7 +4,7 @@ use Rattle.std.specs.Str.{bytes_eq}
 use Rattle.std.proofs.lemmas.Slice.Eq.{bytes_eq-Decides}
 use Rattle.std.proofs.lemmas.List.Elements.{All-push}
 use Rattle.std.proofs.lemmas.Grind.{flat_map-append}
-use Rattle.rt_terms.specs.declared.line.Line.{Line}
+use Rattle.rt_lines.specs.declared.line.Line.{Line}
 use Rattle.rt_texts.specs.Readings.{IsCut}
 use Rattle.rt_texts.specs.Texts.{line_text, lines_text}
 use Rattle.rt_scheme.specs.NameTexts.{name_text}

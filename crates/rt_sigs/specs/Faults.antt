@@ -1,8 +1,8 @@
 -- What is wrong with a text that is that of no signatures: its first faulty line.
 use Rattle.std.specs.Prelude.{◌≡◌, ◌≢◌, ℕ, ◌+◌, ◌<◌, ◌≤◌, ◌⊎◌, Bool, true, false, IsTrue, List, [], ◌∷◌, ◌++◌, All, Contains, codes, length}
-use Rattle.rt_terms.specs.declared.line.Line.{Line}
-use Rattle.rt_terms.specs.declared.line.Line.TheVariants.{Var, Same, Sub, Low, Up}
-use Rattle.rt_terms.specs.Names.{IsName}
+use Rattle.rt_lines.specs.declared.line.Line.{Line}
+use Rattle.rt_lines.specs.declared.line.Line.TheVariants.{Var, Same, Sub, Low, Up}
+use Rattle.rt_lines.specs.Names.{IsName}
 use Rattle.rt_texts.specs.Goods.{IsLine}
 use Rattle.rt_texts.specs.Readings.{IsNoText, HasNo, IsCut}
 use Rattle.rt_texts.specs.Texts.{line_text, lines_text}

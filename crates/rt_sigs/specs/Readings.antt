@@ -1,6 +1,6 @@
 -- What the parts of a signature are read as.
 use Rattle.std.specs.Prelude.{◌≡◌, ℕ, ◌+◌, ◌≤◌, ◌⊎◌, List, ◌∷◌, ◌++◌, All, codes, length}
-use Rattle.rt_terms.specs.declared.line.Line.{Line}
+use Rattle.rt_lines.specs.declared.line.Line.{Line}
 use Rattle.rt_texts.specs.Readings.{IsNoText, HasNo}
 use Rattle.rt_texts.specs.Texts.{line_text, lines_text}
 use Rattle.rt_scheme.specs.NameReadings.{AreBytes}

@@ -4,8 +4,8 @@ ghost use Rattle.rt_sigs.specs.Readings.{IsBody, IsBodyFault};
 
 use crate::fault::SigFault;
 use crate::line::{first_line, read_signature_line};
+use rt_lines::Names;
 use rt_scheme::Scheme;
-use rt_terms::Names;
 use std::alloc::Global;
 
 // A signature's scheme, the text after its end, and the number of the first line of that text.

@@ -7,8 +7,6 @@ mod heading;
 mod line;
 mod reader;
 mod sigs;
-#[cfg(test)]
-mod tests;
 mod unknown;
 
 pub use fault::SigFault;

@@ -7,8 +7,8 @@ ghost use Rattle.rt_sigs.specs.Readings.{IsLineFault};
 
 use crate::fault::SigFault;
 use crate::unknown::is_unknown;
+use rt_lines::{Base, Line, Names};
 use rt_scheme::is_scheme_line;
-use rt_terms::{Base, Line, Names};
 use rt_texts::{TextFault, read_line, split_before};
 use std::alloc::Global;
 

@@ -7,7 +7,7 @@ use crate::body::read_body;
 use crate::fault::SigFault;
 use crate::heading::read_heading;
 use crate::sigs::Sigs;
-use rt_terms::Names;
+use rt_lines::Names;
 use std::alloc::Global;
 
 const MOST_BYTES: usize = 1_048_576;

@@ -1,12 +1,12 @@
 // Lines that are none for their constant alone.
 ghost use Rattle.std.specs.Prelude.{◌≡◌, ◌↔◌, ◌&&◌, List, ℕ, [], ◌∷◌, IfOk, IsTrue, MatchOption};
-ghost use Rattle.rt_terms.specs.declared.line.Line.{Line as SomeLine};
+ghost use Rattle.rt_lines.specs.declared.line.Line.{Line as SomeLine};
 ghost use Rattle.rt_sigs.specs.Signatures.{is_signature_line};
 ghost use Rattle.rt_sigs.specs.Faults.{IsLineWith, IsUnknown, has_constant};
 
 use crate::line::{after_front, is_signature_line};
 use rt_base::Memory;
-use rt_terms::{Line, Names, is_name};
+use rt_lines::{Line, Names, is_name};
 use rt_texts::{TextFault, read_line, split_before};
 use std::alloc::{AllocError, Global};
 

@@ -2,9 +2,9 @@
 use Rattle.std.proofs.Common.{◌≡◌, zero, suc, ◌<◌, ◌⊎◌, inl, inr, List, [], ◌∷◌, ◌++◌, All, Contains, length, sym, subst, arith}
 use Rattle.std.proofs.lemmas.List.Concat.{flat_map-cons}
 use Rattle.std.proofs.lemmas.List.Elements.{All-append, Contains-append_cases}
-use Rattle.rt_terms.specs.declared.variable.Base.TheVariants.{Global}
-use Rattle.rt_terms.specs.declared.line.Line.{Line}
-use Rattle.rt_elf.specs.declared.object.Object.{Object}
+use Rattle.rt_lines.specs.declared.variable.Base.TheVariants.{Global}
+use Rattle.rt_lines.specs.declared.line.Line.{Line}
+use Rattle.rt_elf.specs.Parts.{Parts as Object}
 use Rattle.rt_rules.specs.Laws.{NamesBase}
 use Rattle.rt_table.specs.Lists.{HasGlobalsOf}
 use Rattle.rt_settle.specs.Groups.{joined}

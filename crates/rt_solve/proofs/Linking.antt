@@ -5,9 +5,9 @@ use Rattle.std.proofs.lemmas.Bool.{both_ways, cases_lt, eq-eqb}
 use Rattle.std.proofs.lemmas.Option.{get_or_from_slice_get, slice_get-get_or, slice_get_within}
 use Rattle.std.proofs.lemmas.List.{get_or_default}
 use Rattle.std.proofs.lemmas.List.Elements.{Contains-append_cases, Contains-get_or}
-use Rattle.rt_terms.specs.declared.line.Line.{Line}
+use Rattle.rt_lines.specs.declared.line.Line.{Line}
 use Rattle.rt_lattice.specs.declared.roles.Roles.{Roles}
-use Rattle.rt_elf.specs.declared.object.Object.{Object}
+use Rattle.rt_elf.specs.Parts.{Parts as Object}
 use Rattle.rt_proc.specs.declared.proc.Proc as procedure
 use Rattle.rt_proc.specs.declared.site.Callee.{Callee}
 use Rattle.rt_proc.specs.declared.site.Callee.TheVariants as callee
@@ -15,9 +15,9 @@ use Rattle.rt_proc.specs.declared.site.Kind.{Kind}
 use Rattle.rt_proc.specs.declared.site.Kind.TheVariants as kind
 use Rattle.rt_proc.specs.declared.site.Site.{Site}
 use Rattle.rt_calls.specs.Calls.{Calls, CallsAt, TailCallsAt}
-use Rattle.rt_interface.specs.declared.call.Call.{Call}
-use Rattle.rt_interface.specs.Calls.{AreCallsIn}
-use Rattle.rt_interface.specs.Programs.{Program, called_by, callees_of}
+use Rattle.rt_liveness.specs.declared.call.Call.{Call}
+use Rattle.rt_liveness.specs.Calls.{AreCallsIn}
+use Rattle.rt_liveness.specs.Programs.{Program, called_by, callees_of}
 use Rattle.rt_scheme.specs.declared.scheme.Scheme.{Scheme}
 use Rattle.rt_sigs.specs.Signatures.{Signature}
 use Rattle.rt_table.specs.Facts.{AreKnown, Knowledge}

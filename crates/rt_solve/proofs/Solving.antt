@@ -5,13 +5,13 @@ use Rattle.std.proofs.lemmas.Bool.{cases_eq}
 use Rattle.std.proofs.lemmas.List.{get_or_default, get_or_past, length-replicate}
 use Rattle.std.proofs.lemmas.List.Elements.{Contains-get_or}
 use Rattle.std.proofs.lemmas.List.Kept.{AllPairs-from_increasing}
-use Rattle.rt_terms.specs.Lines.{HasConstantsBelow}
-use Rattle.rt_terms.specs.declared.line.Line.{Line}
+use Rattle.rt_lines.specs.Lines.{HasConstantsBelow}
+use Rattle.rt_lines.specs.declared.line.Line.{Line}
 use Rattle.rt_lattice.specs.declared.roles.Roles.{Roles}
-use Rattle.rt_elf.specs.declared.object.Object.{Object}
+use Rattle.rt_elf.specs.Parts.{Parts as Object}
 use Rattle.rt_proc.specs.declared.proc.Proc.{Proc}
-use Rattle.rt_groups.specs.Groups.{IsAmongFirst, group_at}
-use Rattle.rt_groups.specs.Groups.Reaches.{there}
+use Rattle.rt_components.specs.Groups.{IsAmongFirst, group_at}
+use Rattle.rt_components.specs.Groups.Reaches.{there}
 use Rattle.rt_calls.specs.Calls.{AreGroupsOf}
 use Rattle.rt_scheme.specs.declared.scheme.Scheme.{Scheme}
 use Rattle.rt_sigs.specs.Signatures.{Signature}

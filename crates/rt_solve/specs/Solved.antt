@@ -1,10 +1,10 @@
 -- The schemes of all procedures of an object.
 use Rattle.std.specs.Prelude.{◌≡◌, ℕ, ◌<◌, Contains, Option, Some, None, List, flat_map, fold, get_or, length, slice_index_or, slice_set}
-use Rattle.rt_terms.specs.declared.line.Line.{Line}
-use Rattle.rt_terms.specs.Orders.{Below}
+use Rattle.rt_lines.specs.declared.line.Line.{Line}
+use Rattle.rt_lines.specs.Orders.{Below}
 use Rattle.rt_rules.specs.Alike.{Alike, is_inside_for}
 use Rattle.rt_lattice.specs.declared.roles.Roles.{Roles}
-use Rattle.rt_elf.specs.declared.object.Object.{Object}
+use Rattle.rt_elf.specs.Parts.{Parts as Object}
 use Rattle.rt_proc.specs.declared.proc.Proc.{Proc}
 use Rattle.rt_sigs.specs.Signatures.{Signature}
 use Rattle.rt_scheme.specs.declared.scheme.Scheme.{Scheme}

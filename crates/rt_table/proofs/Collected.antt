@@ -4,18 +4,18 @@ use Rattle.std.specs.Prelude.{All, slice_index_or}
 use Rattle.std.specs.List.{list_any}
 use Rattle.std.proofs.lemmas.List.{get_or_default, length-map, take_more}
 use Rattle.std.proofs.lemmas.List.Elements.{All-nil, All-cons, All-append}
-use Rattle.rt_terms.specs.declared.line.Line.{Line}
-use Rattle.rt_terms.specs.declared.variable.Base.{Base}
-use Rattle.rt_terms.specs.declared.variable.Base.TheVariants as base
+use Rattle.rt_lines.specs.declared.line.Line.{Line}
+use Rattle.rt_lines.specs.declared.variable.Base.{Base}
+use Rattle.rt_lines.specs.declared.variable.Base.TheVariants as base
 use Rattle.rt_rules.specs.Laws.{NamesBase}
 use Rattle.rt_lattice.specs.declared.roles.Roles.{Roles}
-use Rattle.rt_elf.specs.declared.object.Object.{Object}
+use Rattle.rt_elf.specs.Parts.{Parts as Object}
 use Rattle.rt_proc.specs.declared.proc.Proc.{Proc}
 use Rattle.rt_proc.specs.declared.site.Callee.{Callee}
 use Rattle.rt_proc.specs.declared.site.Callee.TheVariants as callee
 use Rattle.rt_body.specs.Readings.{Reading}
-use Rattle.rt_interface.specs.declared.call.Call.{Call}
-use Rattle.rt_interface.specs.Programs.{Program}
+use Rattle.rt_liveness.specs.declared.call.Call.{Call}
+use Rattle.rt_liveness.specs.Programs.{Program}
 use Rattle.rt_scheme.specs.declared.scheme.Scheme as scheme
 use Rattle.rt_sigs.specs.Signatures.{Signature}
 use Rattle.rt_rows.specs.declared.row.Row.{Row}

@@ -3,16 +3,16 @@ use Rattle.std.proofs.Common.{◌≡◌, ◌<◌, ◌≤◌, ◌+◌, ◌↔◌,
 use Rattle.std.specs.Prelude.{All, Contains, slice_get}
 use Rattle.std.proofs.lemmas.Bool.{cases_lt}
 use Rattle.std.proofs.lemmas.List.{get_or-map, get_or_append_left, get_or_default, get_or_push, length-map}
-use Rattle.rt_elf.specs.declared.object.Object.{Object}
+use Rattle.rt_elf.specs.Parts.{Parts as Object}
 use Rattle.rt_proc.specs.declared.proc.Proc.{Proc}
 use Rattle.rt_body.specs.declared.body.Body.{Body}
 use Rattle.rt_body.specs.Readings.{Reading}
 use Rattle.rt_body.specs.Right.{IsReading}
 use Rattle.rt_body.specs.Told.{reading_of, sites_in}
-use Rattle.rt_interface.specs.declared.call.Call.{Call}
-use Rattle.rt_interface.specs.Calls.{AreCallsOf}
-use Rattle.rt_interface.specs.Programs.{Program, IsProgram}
-use Rattle.rt_interface.specs.Told.{program_of}
+use Rattle.rt_liveness.specs.declared.call.Call.{Call}
+use Rattle.rt_liveness.specs.Calls.{AreCallsOf}
+use Rattle.rt_liveness.specs.Programs.{Program, IsProgram}
+use Rattle.rt_liveness.specs.Told.{program_of}
 use Rattle.rt_sigs.specs.Signatures.{Signature}
 use Rattle.rt_frame.specs.Told.{frame_of, frame_sites}
 use Rattle.rt_table.specs.declared.facts.Framed.{Framed}

@@ -5,18 +5,18 @@ use lib.Pointwise.{pointwise}
 use Rattle.std.proofs.lemmas.Bool.{false≢true}
 use Rattle.std.proofs.lemmas.List.{get_or_default}
 use Rattle.std.proofs.lemmas.List.Elements.{All-head, All-tail, Contains-get_or}
-use Rattle.rt_terms.specs.declared.variable.Base.{Base}
-use Rattle.rt_terms.specs.declared.variable.Base.TheVariants as base
-use Rattle.rt_terms.specs.declared.variable.Dtv.{Dtv}
-use Rattle.rt_terms.specs.declared.line.Line.{Line}
-use Rattle.rt_terms.specs.declared.line.Line.TheVariants as line
-use Rattle.rt_terms.specs.Lines.{HasConstantsBelow}
+use Rattle.rt_lines.specs.declared.variable.Base.{Base}
+use Rattle.rt_lines.specs.declared.variable.Base.TheVariants as base
+use Rattle.rt_lines.specs.declared.variable.Dtv.{Dtv}
+use Rattle.rt_lines.specs.declared.line.Line.{Line}
+use Rattle.rt_lines.specs.declared.line.Line.TheVariants as line
+use Rattle.rt_lines.specs.Lines.{HasConstantsBelow}
 use Rattle.rt_rules.specs.Rules.{HasSide}
 use Rattle.rt_texts.specs.Goods.{IsLine}
 use Rattle.rt_lattice.specs.declared.role.Role.{Role}
 use Rattle.rt_lattice.specs.declared.roles.Roles.{Roles}
 use Rattle.rt_lattice.specs.Roles.{role_in}
-use Rattle.rt_elf.specs.declared.object.Object.{Object}
+use Rattle.rt_elf.specs.Parts.{Parts as Object}
 use Rattle.rt_elf.specs.Object.{IsLinkable}
 use Rattle.rt_link.specs.Laws.{IsLawOfSymbols}
 use Rattle.rt_proc.specs.declared.proc.Proc.{Proc}
@@ -25,9 +25,9 @@ use Rattle.rt_proc.specs.declared.site.Callee.TheVariants as callee
 use Rattle.rt_body.specs.Readings.{Reading}
 use Rattle.rt_body.specs.Registers.{HasRegisters}
 use Rattle.rt_body.specs.Right.{IsReading}
-use Rattle.rt_interface.specs.declared.call.Call.{Call}
-use Rattle.rt_interface.specs.Calls.{HasCallRegister, HasCalleeRegister}
-use Rattle.rt_interface.specs.Programs.{Program, signature_at}
+use Rattle.rt_liveness.specs.declared.call.Call.{Call}
+use Rattle.rt_liveness.specs.Calls.{HasCallRegister, HasCalleeRegister}
+use Rattle.rt_liveness.specs.Programs.{Program, signature_at}
 use Rattle.rt_scheme.specs.declared.scheme.Scheme as scheme
 use Rattle.rt_scheme.specs.Schemes.{is_scheme_line}
 use Rattle.rt_sigs.specs.Signatures.{AreSignatures, IsSignature, IsSignatureLine, Signature, is_no_global, names_no_global, signature_of}

@@ -4,9 +4,9 @@ use Rattle.std.specs.Prelude.{slice_get, slice_index_or}
 use Rattle.std.specs.List.{list_any}
 use Rattle.std.proofs.lemmas.List.{at_drop_more, take_more}
 use Rattle.std.proofs.lemmas.Bool.Decides.{nat_tests}
-use Rattle.rt_terms.specs.declared.label.Label.{Label}
+use Rattle.rt_lines.specs.declared.label.Label.{Label}
 use Rattle.rt_scheme.specs.Ports.{label_at}
-use Rattle.rt_interface.specs.declared.call.Call.{Call}
+use Rattle.rt_liveness.specs.declared.call.Call.{Call}
 use Rattle.rt_rows.specs.declared.row.Row.{Row}
 use Rattle.rt_table.specs.declared.item.Item.{Item}
 use Rattle.rt_table.specs.declared.item.Item.TheVariants as item

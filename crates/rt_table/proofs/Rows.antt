@@ -2,7 +2,7 @@
 use Rattle.std.proofs.Common.{◌≡◌, ◌+◌, ◌<◌, ℕ, List, [], ◌∷◌, ◌++◌, length, get_or, take, map, refl, sym, ap, ◌∙◌, append_assoc, add-one, add-zero, arith}
 use Rattle.std.proofs.lemmas.List.{append-nil, take_more, length-map, length-take, map-append}
 use Rattle.rt_body.specs.declared.action.Action.{Action}
-use Rattle.rt_interface.specs.declared.call.Call.{Call}
+use Rattle.rt_liveness.specs.declared.call.Call.{Call}
 use Rattle.rt_rows.specs.declared.row.Row.{Row}
 use Rattle.rt_table.specs.declared.item.Item.{Item}
 use Rattle.rt_table.specs.declared.item.Item.TheVariants as item

@@ -26,8 +26,8 @@ use Rattle.rt_body.specs.declared.action.Width.{Width}
 use Rattle.rt_body.specs.declared.action.Width.TheVariants as width
 use Rattle.rt_body.specs.Readings.{action_at}
 use Rattle.rt_body.specs.Registers.{HasAddressRegister, HasOperandRegister, HasRegisters}
-use Rattle.rt_interface.specs.declared.call.Call.{Call}
-use Rattle.rt_interface.specs.Calls.{gives_result, taken_registers, takes_register}
+use Rattle.rt_liveness.specs.declared.call.Call.{Call}
+use Rattle.rt_liveness.specs.Calls.{gives_result, taken_registers, takes_register}
 use Rattle.rt_frame.specs.declared.addition.Addition.{Addition}
 use Rattle.rt_frame.specs.declared.addition.Addition.TheVariants as addition
 use Rattle.rt_frame.specs.declared.spot.Spot.{Spot}
@@ -45,9 +45,9 @@ use Rattle.rt_rows.specs.declared.row.Term.{Term}
 use Rattle.rt_rows.specs.Terms.{IsGroupTerm, along, is_group_side, named, root_names, row_names}
 use Rattle.rt_scheme.specs.Instances.{instance_ports}
 use Rattle.rt_scheme.specs.Ports.{has_port}
-use Rattle.rt_terms.specs.declared.label.Loc.TheVariants.{Arg, Stack}
-use Rattle.rt_terms.specs.declared.label.Label.{Label}
-use Rattle.rt_terms.specs.declared.label.Label.TheVariants as label
+use Rattle.rt_lines.specs.declared.label.Loc.TheVariants.{Arg, Stack}
+use Rattle.rt_lines.specs.declared.label.Label.{Label}
+use Rattle.rt_lines.specs.declared.label.Label.TheVariants as label
 use Rattle.rt_table.specs.declared.item.Item.{Item}
 use Rattle.rt_table.specs.declared.item.Item.TheVariants as item
 use Rattle.rt_table.specs.declared.pointer.Pointer.{Pointer}

@@ -25,8 +25,8 @@ use Rattle.rt_frame.specs.declared.spot.Spot.{Spot}
 use Rattle.rt_frame.specs.declared.spot.Spot.TheVariants as spot
 use Rattle.rt_frame.specs.Frames.{Frame, Layout, byte_at, greatest_upto, is_from_to, spot_at, spot_from}
 use Rattle.rt_frame.specs.Questions.{address_value}
-use Rattle.rt_terms.specs.Words.{IsLoc}
-use Rattle.rt_terms.specs.declared.label.Loc.TheVariants.{Stack}
+use Rattle.rt_lines.specs.Words.{IsLoc}
+use Rattle.rt_lines.specs.declared.label.Loc.TheVariants.{Stack}
 use Rattle.rt_table.specs.Facts.{TakesWord}
 use Rattle.rt_table.specs.Table.{is_stack_word}
 use Rattle.rt_table.specs.Taken.{Gains, is_entry, is_location, is_passed_byte, is_passed_word, taken_at, taken_by, takes_at}

@@ -1,7 +1,7 @@
 -- What calls are told by.
 use Rattle.std.proofs.Common.{◌≡◌, ◌+◌, ◌<◌, ◌≤◌, ℕ, zero, suc, List, [], ◌∷◌, length, get_or, map, refl, ap, ◌∙◌, arith, Bor}
 use Rattle.rt_body.specs.declared.body.Body.{Body}
-use Rattle.rt_interface.specs.declared.call.Call.{Call}
+use Rattle.rt_liveness.specs.declared.call.Call.{Call}
 use Rattle.rt_table.specs.declared.context.Context.{Context as Given}
 use Rattle.rt_table.specs.declared.facts.Framed.{Framed}
 use Rattle.rt_scheme.specs.declared.scheme.Scheme.{Scheme}

@@ -4,7 +4,7 @@ use Rattle.std.specs.Prelude.{slice_get, slice_index_or}
 use Rattle.std.specs.Ordering.{int_eq}
 use Rattle.rt_track.specs.declared.value.Value.{Value}
 use Rattle.rt_track.specs.declared.value.Value.TheVariants as value
-use Rattle.rt_interface.specs.declared.call.Call.{Call}
+use Rattle.rt_liveness.specs.declared.call.Call.{Call}
 use Rattle.rt_rows.specs.declared.name.Name.{Name}
 use Rattle.rt_table.specs.declared.context.Context.{Context as Given}
 use Rattle.rt_table.specs.declared.context.Outside.{Outside}

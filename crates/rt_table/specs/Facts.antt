@@ -1,7 +1,7 @@
 -- What is known of an object's procedures.
 use Rattle.std.specs.Prelude.{◌≡◌, ◌↔◌, ℕ, zero, suc, pos, ◌+ℤ◌, ◌<◌, Some, true, List, [], ◌∷◌, length, get_or, slice_get, Contains}
 use Rattle.std.specs.List.Sorted.{IsStrictlyIncreasing}
-use Rattle.rt_elf.specs.declared.object.Object.{Object}
+use Rattle.rt_elf.specs.Parts.{Parts as Object}
 use Rattle.rt_elf.specs.Object.{IsLinkable}
 use Rattle.rt_proc.specs.declared.proc.Proc.{Proc}
 use Rattle.rt_flow.specs.declared.def.Def.TheVariants.{Entry}
@@ -12,10 +12,10 @@ use Rattle.rt_body.specs.declared.action.Loaded.TheVariants as loaded
 use Rattle.rt_body.specs.declared.body.Body.{Body}
 use Rattle.rt_body.specs.Readings.{Reading, action_at}
 use Rattle.rt_body.specs.Told.{reading_of}
-use Rattle.rt_interface.specs.declared.call.Call.{Call}
-use Rattle.rt_interface.specs.Programs.{Program, IsProgram}
-use Rattle.rt_interface.specs.Calls.{AreCallsIn}
-use Rattle.rt_interface.specs.Told.{program_of}
+use Rattle.rt_liveness.specs.declared.call.Call.{Call}
+use Rattle.rt_liveness.specs.Programs.{Program, IsProgram}
+use Rattle.rt_liveness.specs.Calls.{AreCallsIn}
+use Rattle.rt_liveness.specs.Told.{program_of}
 use Rattle.rt_sigs.specs.Signatures.{Signature}
 use Rattle.rt_frame.specs.declared.spot.Spot.TheVariants as spot
 use Rattle.rt_frame.specs.Frames.{Frame, IsFrameOf, spot_at, byte_at}

@@ -1,12 +1,12 @@
 -- Bodies and frames of procedures, one for each.
 use Rattle.std.specs.Prelude.{◌≡◌, ◌↔◌, ℕ, ◌<◌, List, [], Contains, get_or, length}
 use Rattle.std.specs.List.Sorted.{IsStrictlyIncreasing}
-use Rattle.rt_elf.specs.declared.object.Object.{Object}
+use Rattle.rt_elf.specs.Parts.{Parts as Object}
 use Rattle.rt_proc.specs.declared.proc.Proc.{Proc}
 use Rattle.rt_body.specs.declared.body.Body.{Body}
 use Rattle.rt_body.specs.Right.{IsReading}
 use Rattle.rt_body.specs.Told.{reading_of, sites_in}
-use Rattle.rt_interface.specs.declared.call.Call.{Call}
+use Rattle.rt_liveness.specs.declared.call.Call.{Call}
 use Rattle.rt_frame.specs.Frames.{IsFrameOf}
 use Rattle.rt_frame.specs.Told.{frame_of, frame_sites}
 use Rattle.rt_table.specs.declared.facts.Framed.{Framed}

@@ -1,21 +1,21 @@
 -- The lists of lines of procedures.
 use Rattle.std.specs.Prelude.{◌≡◌, ℕ, zero, suc, ◌<◌, ◌≤◌, nat_eq, Bool, Option, Some, None, All, List, [], ◌∷◌, map, get_or, length, slice_get, slice_index_or, if◌then◌else◌}
 use Rattle.std.specs.List.{list_any}
-use Rattle.rt_terms.specs.declared.line.Line.{Line}
-use Rattle.rt_terms.specs.declared.variable.Base.TheVariants.{Global}
-use Rattle.rt_terms.specs.Lines.{HasConstantsBelow}
+use Rattle.rt_lines.specs.declared.line.Line.{Line}
+use Rattle.rt_lines.specs.declared.variable.Base.TheVariants.{Global}
+use Rattle.rt_lines.specs.Lines.{HasConstantsBelow}
 use Rattle.rt_rules.specs.Laws.{NamesBase}
 use Rattle.rt_lattice.specs.declared.role.Role.{Role}
 use Rattle.rt_lattice.specs.declared.roles.Roles.{Roles}
 use Rattle.rt_lattice.specs.Roles.{role_in}
-use Rattle.rt_elf.specs.declared.object.Object.{Object}
+use Rattle.rt_elf.specs.Parts.{Parts as Object}
 use Rattle.rt_proc.specs.declared.proc.Proc as procedure
 use Rattle.rt_proc.specs.declared.site.Callee.{Callee}
 use Rattle.rt_proc.specs.declared.site.Callee.TheVariants as callee
 use Rattle.rt_body.specs.Readings.{Reading}
 use Rattle.rt_body.specs.Symbols.{is_code_symbol}
-use Rattle.rt_interface.specs.declared.call.Call.{Call}
-use Rattle.rt_interface.specs.Programs.{Program, signature_at}
+use Rattle.rt_liveness.specs.declared.call.Call.{Call}
+use Rattle.rt_liveness.specs.Programs.{Program, signature_at}
 use Rattle.rt_scheme.specs.declared.scheme.Scheme as scheme
 use Rattle.rt_sigs.specs.Signatures.{Signature}
 use Rattle.rt_rows.specs.declared.row.Row.{Row}

@@ -1,6 +1,6 @@
 -- Which constants and globals rows name.
 use Rattle.std.specs.Prelude.{ℕ, ◌<◌, All, List, length}
-use Rattle.rt_elf.specs.declared.object.Object.{Object}
+use Rattle.rt_elf.specs.Parts.{Parts as Object}
 use Rattle.rt_rows.specs.declared.row.Root.TheVariants.{Global}
 use Rattle.rt_rows.specs.declared.row.Row.{Row}
 use Rattle.rt_rows.specs.Terms.{HasConstantBelow, NamesRoot}

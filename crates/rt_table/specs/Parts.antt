@@ -1,11 +1,11 @@
 -- Parts of the table that functions compute alone.
 use Rattle.std.specs.Prelude.{◌≡◌, ◌≤◌, ◌<◌, ℕ, suc, ◌+◌, Option, Some, None, IsTrue, List, [], ◌∷◌, ◌++◌, flat_map, map, Bool, not, ◌&&◌, ◌==◌}
-use Rattle.rt_terms.specs.declared.label.Loc.TheVariants.{Arg, Stack}
-use Rattle.rt_terms.specs.declared.label.Label.{Label}
-use Rattle.rt_terms.specs.declared.label.Label.TheVariants as label
-use Rattle.rt_terms.specs.Words.{IsLabel}
+use Rattle.rt_lines.specs.declared.label.Loc.TheVariants.{Arg, Stack}
+use Rattle.rt_lines.specs.declared.label.Label.{Label}
+use Rattle.rt_lines.specs.declared.label.Label.TheVariants as label
+use Rattle.rt_lines.specs.Words.{IsLabel}
 use Rattle.rt_scheme.specs.Instances.{instance_ports}
-use Rattle.rt_interface.specs.declared.call.Call.{Call}
+use Rattle.rt_liveness.specs.declared.call.Call.{Call}
 use Rattle.rt_rows.specs.declared.row.Row.{Row}
 use Rattle.rt_rows.specs.declared.row.Term.{Term}
 use Rattle.rt_rows.specs.Terms.{along}

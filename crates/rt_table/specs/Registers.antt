@@ -1,8 +1,8 @@
 -- The registers that hold whom procedures call are x0 to x31.
 use Rattle.std.specs.Prelude.{All, List}
 use Rattle.std.specs.Coded.{Π_prop}
-use Rattle.rt_interface.specs.declared.call.Call.{Call}
-use Rattle.rt_interface.specs.Calls.{HasCallRegister, HaveCallRegisters-prop}
+use Rattle.rt_liveness.specs.declared.call.Call.{Call}
+use Rattle.rt_liveness.specs.Calls.{HasCallRegister, HaveCallRegisters-prop}
 
 -- those of the calls of procedures
 abbrev pub HaveRegisters : List (List (List Call)) → Type 0

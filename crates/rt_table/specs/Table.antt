@@ -4,9 +4,9 @@ use Rattle.std.specs.Ordering.{int_eq, nat_cmp}
 use Rattle.std.specs.List.{filter, list_any}
 use Rattle.std.specs.Int.{cast_unsigned, int_wrap, w32}
 use Rattle.std.specs.BTreeSet.{insert_key}
-use Rattle.rt_terms.specs.declared.label.Loc.TheVariants.{Arg, Stack}
-use Rattle.rt_terms.specs.declared.label.Label.{Label}
-use Rattle.rt_terms.specs.declared.label.Label.TheVariants as label
+use Rattle.rt_lines.specs.declared.label.Loc.TheVariants.{Arg, Stack}
+use Rattle.rt_lines.specs.declared.label.Label.{Label}
+use Rattle.rt_lines.specs.declared.label.Label.TheVariants as label
 use Rattle.rt_lattice.specs.declared.role.Role.{Role}
 use Rattle.rt_lattice.specs.declared.role.Role.TheVariants as role
 use Rattle.rt_flow.specs.declared.def.Def.{Def}
@@ -24,8 +24,8 @@ use Rattle.rt_body.specs.declared.action.Operation.TheVariants as operation
 use Rattle.rt_body.specs.declared.action.Width.{Width}
 use Rattle.rt_body.specs.declared.action.Width.TheVariants as width
 use Rattle.rt_body.specs.Readings.{Reading, action_at}
-use Rattle.rt_interface.specs.declared.call.Call.{Call}
-use Rattle.rt_interface.specs.Calls.{gives_result, taken_registers}
+use Rattle.rt_liveness.specs.declared.call.Call.{Call}
+use Rattle.rt_liveness.specs.Calls.{gives_result, taken_registers}
 use Rattle.rt_frame.specs.declared.spot.Spot.{Spot}
 use Rattle.rt_frame.specs.declared.spot.Spot.TheVariants as spot
 use Rattle.rt_frame.specs.declared.addition.Addition.{Addition}
@@ -34,11 +34,11 @@ use Rattle.rt_frame.specs.Questions.{def_value, is_multi, is_kept, addition, res
 use Rattle.rt_frame.specs.Frames.{Frame, spot_at, byte_at, is_frame}
 use Rattle.rt_rows.specs.declared.name.Name.{Name}
 use Rattle.rt_rows.specs.declared.name.Name.TheVariants as name
-use Rattle.rt_terms.specs.declared.variable.Base.{Base}
-use Rattle.rt_terms.specs.declared.variable.Base.TheVariants as base
-use Rattle.rt_terms.specs.declared.variable.Dtv.{Dtv}
-use Rattle.rt_terms.specs.declared.line.Line.{Line}
-use Rattle.rt_terms.specs.declared.line.Line.TheVariants as line
+use Rattle.rt_lines.specs.declared.variable.Base.{Base}
+use Rattle.rt_lines.specs.declared.variable.Base.TheVariants as base
+use Rattle.rt_lines.specs.declared.variable.Dtv.{Dtv}
+use Rattle.rt_lines.specs.declared.line.Line.{Line}
+use Rattle.rt_lines.specs.declared.line.Line.TheVariants as line
 use Rattle.rt_rows.specs.declared.row.Root.{Root}
 use Rattle.rt_rows.specs.declared.row.Root.TheVariants as root
 use Rattle.rt_rows.specs.declared.row.Term.{Term}

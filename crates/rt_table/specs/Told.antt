@@ -4,9 +4,9 @@ use Rattle.rt_proc.specs.declared.site.Callee.TheVariants.{Proc}
 use Rattle.rt_lattice.specs.Roles.{role_in}
 use Rattle.rt_body.specs.Symbols.{is_code_symbol}
 use Rattle.rt_body.specs.Told.{reading_of}
-use Rattle.rt_interface.specs.declared.call.Call.{Call}
-use Rattle.rt_interface.specs.Programs.{Program}
-use Rattle.rt_interface.specs.Told.{program_of}
+use Rattle.rt_liveness.specs.declared.call.Call.{Call}
+use Rattle.rt_liveness.specs.Programs.{Program}
+use Rattle.rt_liveness.specs.Told.{program_of}
 use Rattle.rt_frame.specs.Told.{frame_of}
 use Rattle.rt_table.specs.declared.context.Context.{Context as Given}
 use Rattle.rt_table.specs.declared.context.Outside.{Outside}

@@ -9,8 +9,8 @@ use crate::context::Context;
 use crate::receiver::Receiver;
 use rt_base::Memory;
 use rt_frame::Spot;
+use rt_lines::{Label, Loc};
 use rt_rows::{Rows, Term};
-use rt_terms::{Label, Loc};
 use rt_track::Value;
 
 impl Context<'_> {

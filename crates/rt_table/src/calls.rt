@@ -1,7 +1,7 @@
 // The items of calls.
 ghost use Rattle.std.specs.Prelude.{◌≡◌, ◌<◌, ◌≤◌, ◌++◌, ◌∷◌, [], OnOk};
 ghost use Rattle.rt_body.specs.Told.{sites_in};
-ghost use Rattle.rt_interface.specs.Calls.{HasCallRegister};
+ghost use Rattle.rt_liveness.specs.Calls.{HasCallRegister};
 ghost use Rattle.rt_table.specs.Parts.{IsTargetWithin, both_results, call_items, call_rows, comes_back, places_of};
 ghost use Rattle.rt_table.specs.Table.{Member, Scheme as SchemeTarget, call_by, calls_from, linked_at, pointer_call, tail_result, told};
 ghost use Rattle.rt_table.specs.Told.{context_of, linked_call, target_in, target_of};
@@ -14,11 +14,11 @@ use crate::side::Side;
 use crate::target::Target;
 use crate::targets::instance_of;
 use rt_base::Memory;
-use rt_interface::Call;
 use rt_lattice::Role;
+use rt_lines::Label;
+use rt_liveness::Call;
 use rt_rows::{Row, Rows, Term};
 use rt_scheme::Scheme;
-use rt_terms::Label;
 use std::alloc::AllocError;
 
 /// Adds rows.

@@ -1,7 +1,7 @@
 // What the table is read against.
 ghost use Rattle.std.specs.Prelude.{◌≡◌, All};
 ghost use Rattle.rt_body.specs.Told.{sites_in};
-ghost use Rattle.rt_interface.specs.Calls.{HasCallRegister, HaveCallRegisters-prop};
+ghost use Rattle.rt_liveness.specs.Calls.{HasCallRegister, HaveCallRegisters-prop};
 ghost use Rattle.rt_frame.specs.Told.{frame_sites};
 
 use crate::facts::Facts;
@@ -9,8 +9,8 @@ use indexmap::IndexSet;
 use rt_base::Sequence;
 use rt_body::Body;
 use rt_frame::Frame;
-use rt_interface::Call;
 use rt_lattice::Lattice;
+use rt_liveness::Call;
 use rt_scheme::Schemes;
 use std::alloc::Global;
 

@@ -9,7 +9,7 @@ use rt_base::Sequence;
 use rt_body::Body;
 use rt_elf::Object;
 use rt_frame::Frame;
-use rt_interface::Calls;
+use rt_liveness::Calls;
 use rt_proc::Procs;
 use rt_sigs::Sigs;
 

@@ -11,9 +11,9 @@ use crate::target::Target;
 use crate::targets::instance_of;
 use indexmap::IndexMap;
 use rt_base::Memory;
+use rt_lines::{Base, Dtv, Label, Line};
 use rt_rows::{Name, Root, Row, Rows, Term};
 use rt_scheme::{Ports, Scheme};
-use rt_terms::{Base, Dtv, Label, Line};
 use std::alloc::Global;
 
 // The ports of an instance, of which the labels are found by number.

@@ -1,14 +1,14 @@
 // The labels of the arguments that callees take.
 ghost use Rattle.std.specs.Prelude.{◌≡◌, ◌++◌, ◌∷◌, [], if◌then◌else◌, All, IfOk, OnOk};
-ghost use Rattle.rt_terms.specs.Words.{IsLabel};
+ghost use Rattle.rt_lines.specs.Words.{IsLabel};
 ghost use Rattle.rt_table.specs.Parts.{IsPassed, port_register_labels};
 ghost use Rattle.rt_table.specs.Table.{port_arguments, port_words, register_arguments, stack_arguments};
 
 use crate::results::has_port;
 use rt_base::Memory;
-use rt_interface::Call;
+use rt_lines::{Label, Loc};
+use rt_liveness::Call;
 use rt_scheme::Ports;
-use rt_terms::{Label, Loc};
 use std::alloc::Global;
 use std::collections::BTreeSet;
 

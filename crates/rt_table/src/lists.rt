@@ -1,10 +1,10 @@
 // The lists of lines of procedures.
 ghost use Rattle.std.specs.Prelude.{◌≡◌, ◌<◌, ◌≤◌, ℕ, All, IfOk, length};
-ghost use Rattle.rt_terms.specs.Lines.{HasConstantsBelow};
+ghost use Rattle.rt_lines.specs.Lines.{HasConstantsBelow};
 ghost use Rattle.rt_lattice.specs.Lattices.{size_of};
 ghost use Rattle.rt_rows.specs.Terms.{IsGroupRow};
 ghost use Rattle.rt_sigs.specs.Signatures.{AreSignatures};
-ghost use Rattle.rt_split.specs.Splitting.{AreInterfaceLines};
+ghost use Rattle.rt_scheme.specs.Splitting.{AreInterfaceLines};
 ghost use Rattle.rt_table.specs.Facts.{IsFactsOf};
 ghost use Rattle.rt_body.specs.Registers.{HasRegisters};
 ghost use Rattle.rt_table.specs.Lists.{AreGiven, AreLinesOf, AreRowsOf, HasGlobalsOf, IsContext, is_member, linked_in};
@@ -17,10 +17,10 @@ use crate::facts::Facts;
 use indexmap::IndexSet;
 use rt_base::{Memory, Sequence};
 use rt_lattice::Lattice;
+use rt_lines::Lines;
 use rt_rows::{Rows, group_lines};
 use rt_scheme::Schemes;
 use rt_sigs::Sigs;
-use rt_terms::Lines;
 use std::alloc::Global;
 
 /// The lists of lines of procedures.

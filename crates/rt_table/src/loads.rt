@@ -10,8 +10,8 @@ use crate::pointer::Pointer;
 use rt_base::Memory;
 use rt_body::{Address, Loaded};
 use rt_lattice::Role;
+use rt_lines::Label;
 use rt_rows::{Row, Rows, Term};
-use rt_terms::Label;
 
 // How many bits a load reads.
 fn loaded_bits(loaded: Loaded) -> u8

@@ -1,10 +1,9 @@
 // How what is known of an object's procedures is made.
 ghost use Rattle.std.specs.Prelude.{◌≡◌, None, [], All, IfOk, length};
-ghost use Rattle.rt_elf.specs.Object.{IsInFile, IsLinkable};
 ghost use Rattle.rt_link.specs.Checks.{link_fault};
 ghost use Rattle.rt_link.specs.Links.{AreLinksOf};
 ghost use Rattle.rt_proc.specs.Procs.{AreProcs};
-ghost use Rattle.rt_interface.specs.Calls.{HasCallRegister};
+ghost use Rattle.rt_liveness.specs.Calls.{HasCallRegister};
 ghost use Rattle.rt_table.specs.Facts.{IsFactsOf};
 ghost use Rattle.rt_table.specs.Framing.{AreFramed, AreReadings, IsFramed};
 ghost use Rattle.rt_table.specs.Registers.{HaveRegisters};
@@ -15,8 +14,8 @@ use rt_base::{Memory, Sequence};
 use rt_body::{Body, Symbols};
 use rt_elf::Object;
 use rt_frame::Frame;
-use rt_interface::{Call, Calls, calls_of};
 use rt_link::Links;
+use rt_liveness::{Call, Calls, calls_of};
 use rt_proc::Procs;
 use rt_sigs::Sigs;
 use std::alloc::Global;
@@ -28,14 +27,14 @@ fn bodies_of(
     links: &Links,
     procs: &Procs,
 ) -> Result<Vec<Body>, Memory>
-    requires in_file { IsInFile object.now }
-    requires linkable { IsLinkable object.now }
     requires linked { link_fault object.now ≡ None }
     requires links { AreLinksOf object.now links.now }
     requires procs { AreProcs object.now procs.now }
     ensures { IfOk result (λ bodies. AreReadings object.now procs.now bodies.items) }
 {
     rt_body::laws::procs();
+    // The relocations are of the object's code and about its symbols, so the bodies can be read.
+    let _relocs = object.relocs();
     let symbols = Symbols::of(alloc, object)?;
     let mut bodies = Vec::with_capacity(alloc, procs.len())?;
     for proc in procs.items() {
@@ -69,7 +68,7 @@ fn frames_of(alloc: Global, bodies: &[Body], calls: &[Calls]) -> Result<Vec<Fram
 
 /// What is known of the procedures of an object, where these functions outside have signatures. The error is want of memory.
 ///
-/// Condition: the object was read and its relocations were found good, and the links and the procedures are the object's.
+/// Condition: the object's relocations were found good, and the links and the procedures are the object's.
 pub fn prepare<'a>(
     alloc: Global,
     object: &'a Object,
@@ -77,13 +76,13 @@ pub fn prepare<'a>(
     procs: &'a Procs,
     sigs: &'a Sigs,
 ) -> Result<Facts<'a>, Memory>
-    requires in_file { IsInFile object.now }
-    requires linkable { IsLinkable object.now }
     requires linked { link_fault object.now ≡ None }
     requires links { AreLinksOf object.now links.now }
     requires procs { AreProcs object.now procs.now }
     ensures { IfOk result (IsFactsOf object.now procs.now sigs.now) }
 {
+    // The relocations are about the object's symbols.
+    let _relocs = object.relocs();
     let bodies = bodies_of(alloc, object, links, procs)?;
     let calls = calls_of(alloc, object, procs, &bodies, sigs)?;
     let frames = frames_of(alloc, &bodies, calls.items())?;

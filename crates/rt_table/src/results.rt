@@ -1,7 +1,7 @@
 // The sides of the results of calls.
 ghost use Rattle.std.specs.Prelude.{◌≡◌, ◌<◌, ◌≤◌, ◌&&◌, nat_le, ◌∷◌, [], ℕ, Option, IfOk};
 ghost use Rattle.rt_body.specs.Told.{sites_in};
-ghost use Rattle.rt_interface.specs.Calls.{HasCallRegister};
+ghost use Rattle.rt_liveness.specs.Calls.{HasCallRegister};
 ghost use Rattle.rt_scheme.specs.Ports.{has_port};
 ghost use Rattle.rt_table.specs.Parts.{IsOutcome, IsTargetWithin, held_side, result_of_calls, uses_by};
 ghost use Rattle.rt_table.specs.Table.{def_written, if_first, pointer_result, result_by, unknown_result, written_by, written_side};
@@ -14,10 +14,10 @@ use crate::target::Target;
 use crate::targets::instance_of;
 use crate::traced::Traced;
 use rt_base::Memory;
-use rt_interface::Call;
+use rt_lines::Label;
+use rt_liveness::Call;
 use rt_rows::{Name, Term};
 use rt_scheme::Ports;
-use rt_terms::Label;
 use rt_track::Value;
 
 // Whether a label has a port.

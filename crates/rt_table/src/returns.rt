@@ -8,8 +8,8 @@ use crate::context::Context;
 use rt_base::Memory;
 use rt_flow::Def;
 use rt_frame::questions::results;
+use rt_lines::Label;
 use rt_rows::{Row, Rows, Term};
-use rt_terms::Label;
 
 impl Context<'_> {
     // What flows into a result from the definitions of its register, or that it exists where none of them has a side.

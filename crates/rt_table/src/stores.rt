@@ -9,8 +9,8 @@ use crate::context::Context;
 use crate::pointer::Pointer;
 use rt_base::Memory;
 use rt_body::{Address, Width};
+use rt_lines::Label;
 use rt_rows::{Row, Rows, Term};
-use rt_terms::Label;
 
 // How many bits a store writes.
 fn width_bits(width: Width) -> u8

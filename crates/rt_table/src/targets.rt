@@ -2,8 +2,8 @@
 ghost use Rattle.std.specs.Prelude.{◌≡◌, ◌<◌, [], All, IfOk, IsTrue, option_copied, slice_index_or};
 ghost use Rattle.rt_body.specs.Symbols.{symbol_of};
 ghost use Rattle.rt_body.specs.Told.{sites_in};
-ghost use Rattle.rt_interface.specs.Calls.{HasCallRegister};
-ghost use Rattle.rt_interface.specs.Programs.{signature_at};
+ghost use Rattle.rt_liveness.specs.Calls.{HasCallRegister};
+ghost use Rattle.rt_liveness.specs.Programs.{signature_at};
 ghost use Rattle.rt_scheme.specs.Instances.{IsInstance};
 ghost use Rattle.rt_table.specs.Lists.{scheme_target, words_at};
 ghost use Rattle.rt_table.specs.Parts.{IsTargetWithin};
@@ -15,7 +15,7 @@ use crate::context::{Context, Outside};
 use crate::target::Target;
 use rt_base::Memory;
 use rt_body::Action;
-use rt_interface::Call;
+use rt_liveness::Call;
 use rt_proc::Callee;
 use rt_scheme::{Instance, Scheme, instantiate, laws};
 use std::alloc::{AllocError, Global};
@@ -59,7 +59,7 @@ impl<'a> Outside<'a> {
     fn signature(&self, symbol: u32) -> Option<&'a Scheme>
         ensures { option_copied result ≡ signature_at (program_in self.now.facts.now) symbol }
     {
-        match self.facts.object.symbols.items().get(symbol as usize) {
+        match self.facts.object.symbols().get(symbol as usize) {
             Some(symbol) => self.facts.sigs.find(symbol.name.items()),
             None => self.facts.sigs.find(b""),
         }

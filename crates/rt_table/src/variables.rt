@@ -8,8 +8,8 @@ use crate::side::Side;
 use rt_base::Memory;
 use rt_body::is_code_symbol;
 use rt_lattice::Role;
+use rt_lines::{Label, Loc};
 use rt_rows::{Name, Root, Term};
-use rt_terms::{Label, Loc};
 
 // Whether a register is one of a0 to a7.
 pub(crate) fn is_argument(register: u8) -> bool

@@ -1,17 +1,17 @@
 -- Bytes that do not stand in texts: dots in labels and bases, spaces in variables and constants.
 use Rattle.std.proofs.Common.{◌≡◌, ◌≢◌, ℕ, suc, ◌+◌, ◌<◌, ◌^◌, ◌%◌, ◌⊎◌, List, [], ◌∷◌, ◌++◌, Bool, true, false, ◌&&◌, nat_lt, refl, inl, inr, arith, codes, decimal, ℤ, pos, negsuc, FitsSigned, w32, All, length, slice_index_or}
 use Rattle.std.specs.Fmt.{signed_decimal}
-use Rattle.std.proofs.lemmas.Bool.{false≢true, ltb-true}
+use Rattle.std.proofs.lemmas.Bool.{false≢true, ltb-true, and_parts}
 use Rattle.std.proofs.lemmas.Fmt.{decimal_by_steps}
-use Rattle.rt_terms.specs.declared.label.Loc.TheVariants.{Arg, Stack}
-use Rattle.rt_terms.specs.declared.label.Label.{Label}
-use Rattle.rt_terms.specs.declared.label.Label.TheVariants.{In, Out, Load, Store, Field}
-use Rattle.rt_terms.specs.declared.variable.Base.{Base}
-use Rattle.rt_terms.specs.declared.variable.Base.TheVariants.{Proc, Global, Exist, Outer}
-use Rattle.rt_terms.specs.declared.variable.Dtv.{Dtv}
+use Rattle.rt_lines.specs.declared.label.Loc.TheVariants.{Arg, Stack}
+use Rattle.rt_lines.specs.declared.label.Label.{Label}
+use Rattle.rt_lines.specs.declared.label.Label.TheVariants.{In, Out, Load, Store, Field}
+use Rattle.rt_lines.specs.declared.variable.Base.{Base}
+use Rattle.rt_lines.specs.declared.variable.Base.TheVariants.{Proc, Global, Exist, Outer}
+use Rattle.rt_lines.specs.declared.variable.Dtv.{Dtv}
 use Rattle.std.proofs.lemmas.List.Elements.{All-head, All-tail}
-use Rattle.rt_terms.specs.Names.{IsNameByte, IsName, AreNames}
-use Rattle.rt_terms.specs.Words.{IsLabel}
+use Rattle.rt_lines.specs.Names.{IsNameByte, IsName, AreNames}
+use Rattle.rt_lines.specs.Words.{IsLabel}
 use Rattle.rt_texts.specs.Goods.{IsNumber, IsBase, IsWord, IsDtv}
 use Rattle.rt_texts.specs.Texts.{field_front, label_text, base_text, word_text, dtv_text, constant_text}
 use Rattle.rt_texts.specs.Readings.{HasNo, StopsAt}
@@ -37,14 +37,10 @@ abbrev are_above : List ℕ → Bool
 are_above [] = true
 are_above (x ∷ xs) = nat_lt 46 x && are_above xs
 
-both : (a b : Bool) → (a && b) ≡ true → (a ≡ true) × (b ≡ true)
-both true b h = (refl, h)
-both false b h = absurd (false≢true h)
-
 HasNo-front : (byte : ℕ) (front : List ℕ) → IsMark byte → are_above front ≡ true → HasNo byte front
 HasNo-front byte [] mark h = tt
 HasNo-front byte (x ∷ xs) mark h =
-    let parts = both (nat_lt 46 x) (are_above xs) h in
+    let parts = and_parts (nat_lt 46 x) (are_above xs) h in
     let above : 46 < x = ltb-true 46 x parts.0 in
     (λ e. elim mark [ inl m ↦ absurd (omega arith) | inr m ↦ absurd (omega arith) ], HasNo-front byte xs mark parts.1)
 

@@ -4,9 +4,9 @@ use Rattle.std.specs.Fmt.{signed_decimal}
 use Rattle.std.proofs.lemmas.Fmt.{decimal_digit, decimal_step, decimal_injective}
 use Rattle.std.proofs.lemmas.Int.{to_z-of_z}
 use Rattle.std.proofs.lemmas.List.{append_cancel_left}
-use Rattle.rt_terms.specs.declared.label.Loc.TheVariants.{Arg, Stack}
-use Rattle.rt_terms.specs.declared.label.Label.{Label}
-use Rattle.rt_terms.specs.declared.label.Label.TheVariants.{In, Out, Load, Store, Field}
+use Rattle.rt_lines.specs.declared.label.Loc.TheVariants.{Arg, Stack}
+use Rattle.rt_lines.specs.declared.label.Label.{Label}
+use Rattle.rt_lines.specs.declared.label.Label.TheVariants.{In, Out, Load, Store, Field}
 use Rattle.rt_texts.specs.Goods.{IsNumber, IsArg, IsStack, IsOut, IsField}
 use Rattle.rt_texts.specs.Texts.{field_front, label_text}
 use Rattle.rt_texts.specs.Readings.{IsNoText}

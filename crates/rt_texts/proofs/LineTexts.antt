@@ -1,13 +1,13 @@
 -- Texts of lines, read.
 use Rattle.std.proofs.Common.{◌≡◌, ◌≢◌, ℕ, ◌⊎◌, inl, inr, List, [], ◌∷◌, ◌++◌, length, refl, ap, sym, ◌∙◌, arith, codes, append_assoc, append-nil}
 use Rattle.std.proofs.lemmas.List.{append_cancel_left}
-use Rattle.rt_terms.specs.Names.{AreNames}
-use Rattle.rt_terms.specs.declared.variable.Base.{Base}
-use Rattle.rt_terms.specs.declared.variable.Base.TheVariants.{Proc, Global, Exist, Outer}
-use Rattle.rt_terms.specs.declared.variable.Dtv.{Dtv}
-use Rattle.rt_terms.specs.declared.line.Line.{Line}
-use Rattle.rt_terms.specs.declared.line.Line.TheVariants.{Var, Same, Sub, Low, Up}
-use Rattle.rt_terms.specs.declared.line.Judge.TheVariants.{Var as JudgeVar, Sub as JudgeSub, Low as JudgeLow, Up as JudgeUp}
+use Rattle.rt_lines.specs.Names.{AreNames}
+use Rattle.rt_lines.specs.declared.variable.Base.{Base}
+use Rattle.rt_lines.specs.declared.variable.Base.TheVariants.{Proc, Global, Exist, Outer}
+use Rattle.rt_lines.specs.declared.variable.Dtv.{Dtv}
+use Rattle.rt_lines.specs.declared.line.Line.{Line}
+use Rattle.rt_lines.specs.declared.line.Line.TheVariants.{Var, Same, Sub, Low, Up}
+use Rattle.rt_lines.specs.declared.line.Judge.TheVariants.{Var as JudgeVar, Sub as JudgeSub, Low as JudgeLow, Up as JudgeUp}
 use Rattle.rt_texts.specs.declared.fault.TextFault.{TextFault}
 use Rattle.rt_texts.specs.declared.fault.TextFault.TheVariants.{BadText, Memory}
 use Rattle.rt_texts.specs.Goods.{IsLine, IsJudge}

@@ -1,7 +1,7 @@
 -- Texts of words of several parts.
 use Rattle.std.proofs.Common.{◌≡◌, ℕ, ◌+◌, ◌<◌, List, [], ◌∷◌, ◌++◌, length, take, get_or, refl, append_assoc, append-nil, add-one}
 use Rattle.std.proofs.Math.Seq.{take-suc}
-use Rattle.rt_terms.specs.declared.label.Label.{Label}
+use Rattle.rt_lines.specs.declared.label.Label.{Label}
 use Rattle.rt_texts.specs.Texts.{label_text, word_text}
 
 pub word_text-append : (u w : List Label) → word_text (u ++ w) ≡ word_text u ++ word_text w

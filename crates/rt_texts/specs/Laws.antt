@@ -1,7 +1,7 @@
 -- The law of texts.
 use Rattle.std.specs.Prelude.{◌≡◌, ℕ, List, length}
-use Rattle.rt_terms.specs.declared.line.Line.{Line}
-use Rattle.rt_terms.specs.Names.{AreNames}
+use Rattle.rt_lines.specs.declared.line.Line.{Line}
+use Rattle.rt_lines.specs.Names.{AreNames}
 use Rattle.rt_texts.specs.Goods.{IsLine}
 use Rattle.rt_texts.specs.Texts.{line_text}
 

@@ -1,7 +1,7 @@
 -- The two sides of a line, and their texts.
 use Rattle.std.specs.Prelude.{ℕ, ◌<◌, List, []}
-use Rattle.rt_terms.specs.declared.line.Line.{Line}
-use Rattle.rt_terms.specs.declared.line.Line.TheVariants.{Sub, Low, Up}
+use Rattle.rt_lines.specs.declared.line.Line.{Line}
+use Rattle.rt_lines.specs.declared.line.Line.TheVariants.{Sub, Low, Up}
 use Rattle.rt_texts.specs.declared.line.Pair.{Pair}
 use Rattle.rt_texts.specs.declared.line.Bound.{Bound}
 use Rattle.rt_texts.specs.Goods.{IsDtv}

@@ -2,16 +2,16 @@
 use Rattle.std.specs.Prelude.{ℕ, List, [], ◌∷◌, ◌++◌, codes, decimal, slice_index_or}
 use Rattle.std.specs.Fmt.{signed_decimal}
 use Rattle.std.specs.List.{flat_map}
-use Rattle.rt_terms.specs.declared.label.Loc.TheVariants.{Arg, Stack}
-use Rattle.rt_terms.specs.declared.label.Label.{Label}
-use Rattle.rt_terms.specs.declared.label.Label.TheVariants.{In, Out, Load, Store, Field}
-use Rattle.rt_terms.specs.declared.variable.Base.{Base}
-use Rattle.rt_terms.specs.declared.variable.Base.TheVariants.{Proc, Global, Exist, Outer}
-use Rattle.rt_terms.specs.declared.variable.Dtv.{Dtv}
-use Rattle.rt_terms.specs.declared.line.Line.{Line}
-use Rattle.rt_terms.specs.declared.line.Line.TheVariants.{Var, Same, Sub, Low, Up}
-use Rattle.rt_terms.specs.declared.line.Judge.{Judge}
-use Rattle.rt_terms.specs.declared.line.Judge.TheVariants.{Var as JudgeVar, Sub as JudgeSub, Low as JudgeLow, Up as JudgeUp}
+use Rattle.rt_lines.specs.declared.label.Loc.TheVariants.{Arg, Stack}
+use Rattle.rt_lines.specs.declared.label.Label.{Label}
+use Rattle.rt_lines.specs.declared.label.Label.TheVariants.{In, Out, Load, Store, Field}
+use Rattle.rt_lines.specs.declared.variable.Base.{Base}
+use Rattle.rt_lines.specs.declared.variable.Base.TheVariants.{Proc, Global, Exist, Outer}
+use Rattle.rt_lines.specs.declared.variable.Dtv.{Dtv}
+use Rattle.rt_lines.specs.declared.line.Line.{Line}
+use Rattle.rt_lines.specs.declared.line.Line.TheVariants.{Var, Same, Sub, Low, Up}
+use Rattle.rt_lines.specs.declared.line.Judge.{Judge}
+use Rattle.rt_lines.specs.declared.line.Judge.TheVariants.{Var as JudgeVar, Sub as JudgeSub, Low as JudgeLow, Up as JudgeUp}
 
 -- what stands before a field's offset
 abbrev pub field_front : ℕ → List ℕ

@@ -1,12 +1,12 @@
 // Readers of labels.
 ghost use Rattle.std.specs.Prelude.{◌≡◌};
-ghost use Rattle.rt_terms.specs.Words.{IsLabel};
+ghost use Rattle.rt_lines.specs.Words.{IsLabel};
 ghost use Rattle.rt_texts.specs.Goods.{IsArg, IsStack, IsOut, IsPointer, IsField};
 ghost use Rattle.rt_texts.specs.Readings.{Reads};
 ghost use Rattle.rt_texts.specs.Texts.{label_text};
 
 use crate::cut::{read_numbered, read_signed_after};
-use rt_terms::{Label, Loc};
+use rt_lines::{Label, Loc};
 
 // Reads the label of an argument in a register.
 fn read_arg(text: &[u8]) -> Option<Label>

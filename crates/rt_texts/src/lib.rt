@@ -14,6 +14,3 @@ pub use cut::{after_front, read_number, split_before};
 pub use fault::TextFault;
 pub use line::{read_judge, read_line};
 pub use print::{print_line, print_lines, print_number, print_variable};
-
-#[cfg(test)]
-mod tests;

@@ -8,7 +8,7 @@ ghost use Rattle.rt_texts.specs.Texts.{dtv_text, constant_text, line_text, judge
 use crate::cut::{after_front, split_before};
 use crate::fault::TextFault;
 use crate::variable::read_variable;
-use rt_terms::{Dtv, Judge, Line, Names};
+use rt_lines::{Dtv, Judge, Line, Names};
 use std::alloc::Global;
 
 // Two variables.

@@ -1,12 +1,12 @@
 // Printing of labels, variables and lines.
 ghost use Rattle.std.specs.Prelude.{◌≡◌, ◌++◌, OnOk, OnErr, All, length, decimal};
 ghost use Rattle.std.specs.Prelude.{◌<◌};
-ghost use Rattle.rt_terms.specs.Lines.{HasConstantsBelow};
+ghost use Rattle.rt_lines.specs.Lines.{HasConstantsBelow};
 ghost use Rattle.rt_texts.specs.Texts.{label_text, base_text, word_text, dtv_text, constant_text, line_text, lines_text};
 
 use itoa::Buffer;
 use rt_base::Memory;
-use rt_terms::{Base, Dtv, Label, Line, Loc, Names, Word};
+use rt_lines::{Base, Dtv, Label, Line, Loc, Names, Word};
 use std::alloc::Global;
 
 /// Adds a number in decimal at the end. After want of memory the bytes are as they were.

@@ -1,6 +1,6 @@
 // Readers of words and of variables.
 ghost use Rattle.std.specs.Prelude.{◌≡◌, ◌<◌};
-ghost use Rattle.rt_terms.specs.Words.{IsLabel};
+ghost use Rattle.rt_lines.specs.Words.{IsLabel};
 ghost use Rattle.rt_texts.specs.Goods.{IsBase, IsWord, IsDtv};
 ghost use Rattle.rt_texts.specs.Readings.{Reads, ReadsOrFails};
 ghost use Rattle.rt_texts.specs.Texts.{base_text, word_text, dtv_text};
@@ -8,7 +8,7 @@ ghost use Rattle.rt_texts.specs.Texts.{base_text, word_text, dtv_text};
 use crate::cut::{after_front, read_numbered, split_before};
 use crate::fault::TextFault;
 use crate::label::read_label;
-use rt_terms::{Base, Dtv, Word};
+use rt_lines::{Base, Dtv, Word};
 use std::alloc::Global;
 
 // Reads a base.

@@ -14,8 +14,6 @@ mod nodes;
 mod op;
 mod ops;
 mod solve;
-#[cfg(test)]
-mod tests;
 mod uses;
 mod value;
 mod values;

@@ -1,5 +1,5 @@
 use Rattle.std.proofs.Common.{◌≡◌, map, take}
-use Rattle.rt_elf.specs.declared.object.Object.{Object}
+use Rattle.rt_elf.specs.Parts.{Parts as Object}
 use Rattle.rt_link.specs.Links.{AreLinksOf}
 use Rattle.rt_body.specs.Actions.{site_action}
 use Rattle.rt_body.specs.Lowest.{AreSymbolsOf}

@@ -1,4 +1,4 @@
-use Rattle.rt_interface.specs.Calls.{takes_register}
+use Rattle.rt_liveness.specs.Calls.{takes_register}
 use Rattle.rt_frame.proofs.Arguments.{argument_more}
 use Rattle.rt_frame.proofs.asked.ask_arguments.Goals as goal
 

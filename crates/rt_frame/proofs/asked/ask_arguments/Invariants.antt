@@ -1,5 +1,5 @@
 use Rattle.std.proofs.Common.{◌≡◌, [], ◌∷◌, ◌++◌, map, filter, take}
-use Rattle.rt_interface.specs.Calls.{takes_register}
+use Rattle.rt_liveness.specs.Calls.{takes_register}
 use Rattle.rt_frame.specs.declared.question.Question.TheVariants.{OfUse}
 use Rattle.rt_frame.proofs.asked.ask_arguments.Given as goal
 

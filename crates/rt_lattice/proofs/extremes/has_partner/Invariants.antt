@@ -1,5 +1,5 @@
 use Rattle.std.proofs.Common.{◌≢◌, ℕ, ◌<◌}
-use Rattle.rt_terms.specs.Orders.{IsAtOrBelow}
+use Rattle.rt_lines.specs.Orders.{IsAtOrBelow}
 use Rattle.rt_lattice.proofs.extremes.has_partner.Given as goal
 
 abbrev pub invariant-loop-b : goal.invariant-loop-b

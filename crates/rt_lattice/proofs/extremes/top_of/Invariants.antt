@@ -1,5 +1,5 @@
 use Rattle.std.proofs.Common.{ℕ, ◌<◌}
-use Rattle.rt_terms.specs.Orders.{IsAtOrBelow}
+use Rattle.rt_lines.specs.Orders.{IsAtOrBelow}
 use Rattle.rt_lattice.specs.Bounds.{IsTop}
 use Rattle.rt_lattice.proofs.extremes.top_of.Given as goal
 

@@ -1,4 +1,4 @@
-use Rattle.rt_terms.specs.Orders.{IsAtOrBelow}
+use Rattle.rt_lines.specs.Orders.{IsAtOrBelow}
 use Rattle.rt_lattice.specs.Searches.{IsBelowUppers}
 use Rattle.rt_lattice.proofs.joins.is_least.Given as goal
 

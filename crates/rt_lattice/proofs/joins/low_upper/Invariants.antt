@@ -1,4 +1,4 @@
-use Rattle.rt_terms.specs.Orders.{IsAtOrBelow}
+use Rattle.rt_lines.specs.Orders.{IsAtOrBelow}
 use Rattle.rt_lattice.specs.Searches.{IsLowUpper}
 use Rattle.rt_lattice.proofs.joins.low_upper.Given as goal
 

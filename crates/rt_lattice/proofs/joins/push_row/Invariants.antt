@@ -1,4 +1,4 @@
-use Rattle.rt_terms.specs.Orders.{IsAtOrBelow}
+use Rattle.rt_lines.specs.Orders.{IsAtOrBelow}
 use Rattle.rt_lattice.specs.Bounds.{IsLeastUpper}
 use Rattle.rt_lattice.specs.Grids.{IsFilledTo}
 use Rattle.rt_lattice.proofs.joins.push_row.Given as goal

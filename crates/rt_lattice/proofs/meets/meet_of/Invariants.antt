@@ -1,4 +1,4 @@
-use Rattle.rt_terms.specs.Orders.{IsAtOrBelow}
+use Rattle.rt_lines.specs.Orders.{IsAtOrBelow}
 use Rattle.rt_lattice.specs.Searches.{IsHighLower}
 use Rattle.rt_lattice.proofs.meets.meet_of.Given as goal
 

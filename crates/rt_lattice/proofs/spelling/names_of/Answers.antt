@@ -1,7 +1,7 @@
 use Rattle.std.proofs.Common.{◌≡◌, ◌<◌, ◌≤◌, refl, ap, length, arith}
 use Rattle.std.proofs.lemmas.List.{take_more, length-take-le}
 use Rattle.std.proofs.Math.Seq.{take-length}
-use Rattle.rt_terms.proofs.NameLists.{AreNames-push}
+use Rattle.rt_lines.proofs.NameLists.{AreNames-push}
 use Rattle.rt_lattice.proofs.Spelled.{AreNames-none, are_names-not, names_fault-bad, names_fault-none}
 use Rattle.rt_lattice.proofs.spelling.names_of.Goals as goal
 

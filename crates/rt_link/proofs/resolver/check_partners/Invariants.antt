@@ -5,4 +5,4 @@ use Rattle.rt_link.proofs.resolver.check_partners.Given as goal
 
 abbrev pub invariant-loop-index : goal.invariant-loop-index
 invariant-loop-index l =
-    IsChecking (λ (i : ℕ). partner_fault l.object (reloc_by l.object i)) (length l.object.relocs) l.index (partners_fault l.object)
+    IsChecking (λ (i : ℕ). partner_fault l.object l.relocs (reloc_by l.relocs i)) (length l.relocs) l.index (partners_fault l.object l.relocs)

@@ -11,4 +11,4 @@ loop-index-preserved c = record {
 
 pub returns-clause-all : goal.returns-clause-all
 returns-clause-all c =
-    holds_all c.args.object.now c.loop-index.heads c.loop-index.index (omega arith) (ends _ _ _ _ c.loop-index.invariant.checking (omega arith)) c.loop-index.invariant.heads
+    holds_all c.args.object.now c.args.relocs.now c.loop-index.heads c.loop-index.index (omega arith) (ends _ _ _ _ c.loop-index.invariant.checking (omega arith)) c.loop-index.invariant.heads

@@ -6,6 +6,6 @@ use Rattle.rt_link.proofs.resolver.read_places.Given as goal
 
 abbrev pub invariant-loop-index : goal.invariant-loop-index
 invariant-loop-index l = record {
-  checking : IsChecking (λ (i : ℕ). place_fault l.object (take i l.object.relocs) (reloc_by l.object i)) (length l.object.relocs) l.index (places_fault l.object);
-  heads : AreHeads l.object.symbols (take l.index l.object.relocs) l.heads;
+  checking : IsChecking (λ (i : ℕ). place_fault l.object (take i l.relocs) (reloc_by l.relocs i)) (length l.relocs) l.index (places_fault l.object l.relocs);
+  heads : AreHeads l.object.symbols (take l.index l.relocs) l.heads;
 }

@@ -10,8 +10,8 @@ pub returns-in_err-check_symbol-clause-bad : goal.returns-in_err-check_symbol-cl
 returns-in_err-check_symbol-clause-bad c =
     let object = c.args.object.now in
     let n = c.loop-symbol.symbol-index in
-    let lengths = ap length c.items-symbol-items.ensures in
-    let here = item object c.items-symbol-items.result.now n c.symbol-item.result c.items-symbol-items.ensures c.loop-symbol-test.true c.symbol-item.is in
+    let lengths = ap length c.symbols-symbol-items.ensures.symbols in
+    let here = item object c.symbols-symbol-items.result.now n c.symbol-item.result c.symbols-symbol-items.ensures.symbols c.loop-symbol-test.true c.symbol-item.is in
     let e : CodeFault = c.in_err-check_symbol.field-0.0 in
     let fault = checked-err (symbol_fault object c.symbol-item.result) e c.in_err-check_symbol.ensures in
     let first = stops _ _ n _ e c.loop-symbol.invariant.checking (omega arith) (ap (symbol_fault object) here ∙ fault) in
@@ -22,9 +22,9 @@ pub loop-symbol-preserved : goal.loop-symbol-preserved
 loop-symbol-preserved c =
     let object = c.args.object.now in
     let n = c.loop-symbol.symbol-index in
-    let lengths = ap length c.items-symbol-items.ensures in
+    let lengths = ap length c.symbols-symbol-items.ensures.symbols in
     let within : n < length object.symbols = omega arith in
-    let here = item object c.items-symbol-items.result.now n c.symbol-item.result c.items-symbol-items.ensures c.loop-symbol-test.true c.symbol-item.is in
+    let here = item object c.symbols-symbol-items.result.now n c.symbol-item.result c.symbols-symbol-items.ensures.symbols c.loop-symbol-test.true c.symbol-item.is in
     let none = checked-ok (symbol_fault object c.symbol-item.result) c.in_ok-check_symbol.field-0 c.in_ok-check_symbol.ensures in
     record {
       checking = goes_on _ _ n _ c.loop-symbol.invariant.checking within (ap (symbol_fault object) here ∙ none);
@@ -37,5 +37,5 @@ loop-symbol-preserved c =
 
 pub returns-clause-found : goal.returns-clause-found
 returns-clause-found c =
-    let lengths = ap length c.items-symbol-items.ensures in
+    let lengths = ap length c.symbols-symbol-items.ensures.symbols in
     IsListing-all c.args.object.now c.loop-symbol.symbol-index c.loop-symbol.places (omega arith) c.loop-symbol.invariant.listing

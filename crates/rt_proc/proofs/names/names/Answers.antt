@@ -10,4 +10,4 @@ loop-symbol-preserved c = λ place.
     let symbol = c.symbol-item.result in
     c.in_ok-note.ensures place
     ∙ ap (λ name. option_or name (name_there object symbol place)) (c.loop-symbol.invariant place)
-    ∙ sym (name_of_first-more object c.items-symbol-items.result.now c.loop-symbol.symbol-index symbol place c.loop-symbol-test.true c.symbol-item.is)
+    ∙ sym (name_of_first-more object c.symbols-symbol-items.result.now c.loop-symbol.symbol-index symbol place c.loop-symbol-test.true c.symbol-item.is)

@@ -1,28 +1,48 @@
 use Rattle.std.proofs.Common.{ap, ◌∙◌, arith}
-use Rattle.indexmap.specs.IndexSet.{insert_all}
-use Rattle.rt_link.specs.Effects.{is_place}
+use Rattle.std.proofs.lemmas.Option.{slice_get_read}
+use Rattle.rt_control.specs.Tables.{with_places}
 use Rattle.rt_control.specs.Laws.{IsGood}
 use Rattle.rt_proc.specs.Entries.{IsFunction, LeadsTo}
+use Rattle.rt_proc.specs.Looks.{led_by}
+use Rattle.rt_proc.proofs.Forms.{leads, good-led}
 use Rattle.rt_proc.proofs.Inserted.{inserted-all}
-use Rattle.rt_proc.proofs.Walking.{begins, next-good, goes_on, ends}
+use Rattle.rt_proc.proofs.Looking.{no-looks, looks-more, all-looks}
+use Rattle.rt_proc.proofs.Walking.{begins, next-good, goes_on, ends, all}
 use Rattle.rt_proc.proofs.reach.reach.Goals as goal
 
 pub loop-index-init : goal.loop-index-init
 loop-index-init c =
-    let same = inserted-all c.new-found.result.keys c.args.functions.now c.add_all.new.found.keys c.new-found.ensures.empty c.in_ok-add_all.ensures in
-    begins (IsFunction c.args.object.now) (LeadsTo c.args.object.now) (IsGood c.args.object.now) c.add_all.new.found.keys
-    (λ p. ((λ h. (c.requires.functions p).0 ((same p).0 h)), λ h. (same p).1 ((c.requires.functions p).1 h)))
-    (λ p h. h.is_good)
+    let same = inserted-all c.new-found.result.places.items c.args.functions.now c.insert_all.new.self.places.items c.new-found.ensures.empty c.in_ok-insert_all.ensures.places in
+    record {
+      walking = begins (IsFunction c.args.object.now) (LeadsTo c.args.object.now) (IsGood c.args.object.now) c.insert_all.new.self.places.items
+          (λ p. ((λ h. (c.requires.functions p).0 ((same p).0 h)), λ h. (same p).1 ((c.requires.functions p).1 h)))
+          (λ p h. h.is_good);
+      looks = no-looks c.args.object.now c.new-looks.result c.new-looks.ensures;
+      kept = c.in_ok-insert_all.ensures.same;
+    }
 
-pub led_from-requires-clause-is_good : goal.led_from-requires-clause-is_good
-led_from-requires-clause-is_good c =
-    next-good (IsFunction c.args.object.now) (LeadsTo c.args.object.now) (IsGood c.args.object.now) c.loop-index.found.keys c.loop-index.index c.index-place.result.now c.index-place.ensures c.loop-index.invariant
+pub look_at-requires-clause-is_good : goal.look_at-requires-clause-is_good
+look_at-requires-clause-is_good c =
+    next-good (IsFunction c.args.object.now) (LeadsTo c.args.object.now) (IsGood c.args.object.now) c.loop-index.found.places.items c.loop-index.index c.index-place.result.now (slice_get_read c.loop-index.found.places.items c.len.result c.loop-index.index c.index-place.result.now (omega arith) c.loop-index-test.true c.index-place.ensures) c.loop-index.invariant.walking
 
 pub loop-index-preserved : goal.loop-index-preserved
 loop-index-preserved c =
-    goes_on (IsFunction c.args.object.now) (LeadsTo c.args.object.now) (IsGood c.args.object.now) c.loop-index.found.keys c.in_ok-led_from.field-0.items c.add_all-in-loop-index.new.found.keys
-    c.loop-index.index c.index-place.result.now c.index-place.ensures (c.in_ok-add_all-2.ensures ∙ ap (insert_all is_place c.loop-index.found.keys) c.deref.ensures.value) c.in_ok-led_from.ensures.led c.in_ok-led_from.ensures.good c.loop-index.invariant
+    let led = c.in_ok-insert_all-2.ensures.places ∙ ap (with_places c.loop-index.found.places.items) (c.deref.ensures.value ∙ c.in_ok-led_by.ensures) in
+    record {
+      walking = goes_on (IsFunction c.args.object.now) (LeadsTo c.args.object.now) (IsGood c.args.object.now) c.loop-index.found.places.items (led_by c.in_ok-look.look) c.insert_all-in-loop-index.new.self.places.items
+          c.loop-index.index c.index-place.result.now (slice_get_read c.loop-index.found.places.items c.len.result c.loop-index.index c.index-place.result.now (omega arith) c.loop-index-test.true c.index-place.ensures) led
+          (leads c.args.object.now c.index-place.result.now c.in_ok-look.look c.in_ok-look.ensures) (good-led c.args.object.now c.index-place.result.now c.in_ok-look.look c.in_ok-look.ensures) c.loop-index.invariant.walking;
+      looks = looks-more c.args.object.now c.loop-index.looks c.insert.new.self c.loop-index.found.places.items (led_by c.in_ok-look.look) c.insert_all-in-loop-index.new.self.places.items
+          c.loop-index.index c.index-place.result.now c.in_ok-look.look (slice_get_read c.loop-index.found.places.items c.len.result c.loop-index.index c.index-place.result.now (omega arith) c.loop-index-test.true c.index-place.ensures) led c.in_ok-look.ensures c.in_ok-insert.ensures c.loop-index.invariant.looks;
+      kept = c.in_ok-insert_all-2.ensures.same;
+    }
 
 pub returns-clause-reached : goal.returns-clause-reached
 returns-clause-reached c =
-    ends (IsFunction c.args.object.now) (LeadsTo c.args.object.now) (IsGood c.args.object.now) c.loop-index.found.keys c.loop-index.index (omega arith) c.loop-index.invariant
+    ends (IsFunction c.args.object.now) (LeadsTo c.args.object.now) (IsGood c.args.object.now) c.loop-index.found.places.items c.loop-index.index (omega arith) c.loop-index.invariant.walking
+
+pub returns-clause-looks : goal.returns-clause-looks
+returns-clause-looks c =
+    all-looks c.args.object.now c.loop-index.looks c.loop-index.found.places.items c.loop-index.index (omega arith)
+    (all (IsFunction c.args.object.now) (LeadsTo c.args.object.now) (IsGood c.args.object.now) c.loop-index.found.places.items c.loop-index.index (omega arith) c.loop-index.invariant.walking)
+    c.loop-index.invariant.looks

@@ -1,11 +1,17 @@
-use Rattle.std.proofs.Common.{◌-◌}
+use Rattle.std.proofs.Common.{◌-◌, take}
 use Rattle.rt_control.specs.Laws.{IsGood}
 use Rattle.rt_proc.specs.Entries.{IsFunction, LeadsTo}
+use Rattle.rt_proc.specs.Founds.{HasFound}
+use Rattle.rt_proc.proofs.Looking.{AreLooksAt}
 use Rattle.rt_proc.proofs.Walking.{IsWalking}
 use Rattle.rt_proc.proofs.reach.reach.Given as goal
 
 abbrev pub invariant-loop-index : goal.invariant-loop-index
-invariant-loop-index l = IsWalking (IsFunction l.object) (LeadsTo l.object) (IsGood l.object) l.found.keys l.index
+invariant-loop-index l = record {
+  walking : IsWalking (IsFunction l.object) (LeadsTo l.object) (IsGood l.object) l.found.places.items l.index;
+  looks : AreLooksAt l.object l.looks (take l.index l.found.places.items);
+  kept : HasFound l.found;
+}
 
 abbrev pub decreases-loop-index : goal.decreases-loop-index
-decreases-loop-index l = 9223372036854775808 - l.index
+decreases-loop-index l = 18446744073709551616 - l.index

@@ -1,6 +1,6 @@
 use Rattle.std.proofs.Common.{◌≡◌, unwrap_or, ◌∙◌}
 use Rattle.std.specs.List.{position_or_len}
-use Rattle.rt_numbering.proofs.Places.{place-or-length}
+use Rattle.rt_base.proofs.Lists.{place-or-length}
 use Rattle.rt_rows.specs.Terms.{name_eq}
 use Rattle.rt_rows.proofs.numbering.base_of.Goals as goal
 

@@ -1,9 +1,9 @@
 use Rattle.std.proofs.Common.{◌≡◌, IfOk, [], All, get_or, flat_map, map, sym, ap, subst, ◌∙◌}
 use Rattle.std.proofs.lemmas.Result.{IfOk-weaker}
-use Rattle.rt_terms.specs.Lines.{HasConstantsBelow}
+use Rattle.rt_lines.specs.Lines.{HasConstantsBelow}
 use Rattle.rt_rules.specs.Laws.{NamesBase}
-use Rattle.rt_numbering.specs.Numbering.{deduplicated}
-use Rattle.rt_split.specs.Splitting.{AreInterfaceLines}
+use Rattle.rt_lines.specs.Numbering.{deduplicated}
+use Rattle.rt_scheme.specs.Splitting.{AreInterfaceLines}
 use Rattle.rt_rows.specs.Terms.{lines_by, names_of}
 use Rattle.rt_rows.proofs.Grouping.{group-bases, group-constants, group-interfaces}
 use Rattle.rt_rows.proofs.numbering.group_lines.Goals as goal

@@ -1,5 +1,5 @@
 use Rattle.std.proofs.Common.{◌≡◌, map}
-use Rattle.rt_numbering.specs.Numbering.{deduplicated}
+use Rattle.rt_lines.specs.Numbering.{deduplicated}
 use Rattle.rt_rows.specs.Terms.{lines_by}
 use Rattle.rt_rows.proofs.numbering.lists_by.Given as goal
 

@@ -1,7 +1,7 @@
 use Rattle.std.proofs.Common.{◌≡◌, ◌+◌, unwrap_or, ap, ◌∙◌}
 use Rattle.std.specs.List.{position_or_len}
+use Rattle.rt_base.proofs.Lists.{place-or-length}
 use Rattle.rt_scheme.specs.Instances.{origin_eq}
-use Rattle.rt_scheme.proofs.Origins.{place-or-length}
 use Rattle.rt_scheme.proofs.instance.number_of.Goals as goal
 
 pub returns : goal.returns

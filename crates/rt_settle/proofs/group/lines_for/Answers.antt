@@ -2,7 +2,7 @@ use Rattle.std.proofs.Common.{◌≡◌, sym, ap, subst, ◌∙◌}
 use Rattle.std.proofs.lemmas.Bool.{both_ways}
 use Rattle.std.proofs.lemmas.Result.{IfOk-weaker}
 use Rattle.rt_scheme.specs.Schemes.{AreSchemeLines}
-use Rattle.rt_split.specs.Places.{split_for}
+use Rattle.rt_scheme.specs.SplitExistentials.{split_for}
 use Rattle.rt_settle.specs.Chosen.{IsChosenFrom, IsSettled}
 use Rattle.rt_settle.specs.Chosen.IsChosenFrom.{as_they_stand, split}
 use Rattle.rt_settle.specs.Groups.{TellsOutside}

@@ -2,22 +2,24 @@ use Rattle.std.proofs.Common.{subst, sym}
 use Rattle.std.specs.Prelude.{IfOk}
 use Rattle.std.proofs.lemmas.Result.{IfOk-weaker}
 use Rattle.std.specs.List.Sorted.{IsPermutation}
-use Rattle.rt_settle.specs.Chosen.{AreInOrder, IsSettled}
-use Rattle.rt_settle.specs.Rounds.{IsSolved}
+use Rattle.rt_settle.specs.Chosen.{AreInOrder, IsSettled, IsSolved}
 use Rattle.rt_settle.specs.Tidy.{IsTidy}
 use Rattle.rt_settle.specs.Told.{TellsSame}
 use Rattle.rt_settle.proofs.Interfaces.{interfaces_stay, schemes_stay}
-use Rattle.rt_settle.proofs.Numbering.{moved-solved, moved-tidy, numbered-solved, numbered-tidy}
+use Rattle.rt_settle.proofs.Leaving.{HasNoOnlyUse, leaves_no_self, leaves_no_use, leaves_once, leaves_told, no_use-solved}
+use Rattle.rt_settle.proofs.Numbering.{moved-no_use, moved-tidy, numbered-no_use, numbered-tidy}
 use Rattle.rt_settle.proofs.Told.{TellsSame-bases, TellsSame-numbered, TellsSame-permutation, TellsSame-trans}
 use Rattle.rt_settle.proofs.scheme.settle.Goals as goal
 
 -- the lines that are left, and these with their numbers
 left_tidy : (c : goal.After-sort_lines) → IsTidy c.in_ok-lines.lines
-left_tidy c = record { once = c.in_ok-lines.ensures.once; no_self = c.in_ok-lines.ensures.no_self; bare = c.in_ok-lines.ensures.bare }
+left_tidy c =
+    let left = c.in_ok-lines.ensures.left in
+    record { once = leaves_once c.args.lines c.in_ok-lines.lines left; no_self = leaves_no_self c.args.lines c.in_ok-lines.lines left; bare = c.in_ok-lines.ensures.bare }
 
 numbered_tells : (c : goal.After-sort_lines) → TellsSame c.args.lines c.in_ok-lines-2.lines
 numbered_tells c =
-    TellsSame-trans c.args.lines c.in_ok-lines.lines c.in_ok-lines-2.lines c.in_ok-lines.ensures.same
+    TellsSame-trans c.args.lines c.in_ok-lines.lines c.in_ok-lines-2.lines (leaves_told c.args.lines c.in_ok-lines.lines c.in_ok-lines.ensures.left)
     (subst (TellsSame c.in_ok-lines.lines) (sym c.in_ok-lines-2.ensures) (TellsSame-numbered c.in_ok-lines.lines))
 
 settled_tells : (c : goal.After-sort_lines) → IfOk c.sort_lines.result (TellsSame c.args.lines)
@@ -51,7 +53,8 @@ returns-clause-bare c = IfOk-weaker c.sort_lines.result IsTidy _ (λ r tidy. tid
 pub returns-clause-solved : goal.returns-clause-solved
 returns-clause-solved c =
     IfOk-weaker c.sort_lines.result (IsPermutation c.in_ok-lines-2.lines) IsSolved
-    (λ r moved. moved-solved c.in_ok-lines-2.lines r moved (subst IsSolved (sym c.in_ok-lines-2.ensures) (numbered-solved c.in_ok-lines.lines c.in_ok-lines.ensures.solved)))
+    (λ r moved. no_use-solved r (moved-no_use c.in_ok-lines-2.lines r moved
+    (subst HasNoOnlyUse (sym c.in_ok-lines-2.ensures) (numbered-no_use c.in_ok-lines.lines (leaves_no_use c.args.lines c.in_ok-lines.lines c.in_ok-lines.ensures.left)))))
     c.sort_lines.ensures.same
 
 pub returns-clause-alike : goal.returns-clause-alike

@@ -1,5 +1,5 @@
 use Rattle.std.proofs.Common.{◌∙◌, sym}
-use Rattle.rt_terms.specs.Equality.{label_eq}
+use Rattle.rt_lines.specs.Equality.{label_eq}
 use Rattle.std.specs.List.{starts_with}
 use Rattle.rt_settle.proofs.Fronts.{front_is}
 use Rattle.rt_settle.proofs.spare.is_front.Goals as goal

@@ -1,7 +1,7 @@
 use Rattle.std.proofs.Common.{List, Contains, refl, sym, subst, ap, ◌∙◌}
 use Rattle.std.proofs.lemmas.Result.{IfOk-weaker}
-use Rattle.rt_terms.specs.declared.line.Line.{Line}
-use Rattle.rt_terms.specs.Orders.{Below}
+use Rattle.rt_lines.specs.declared.line.Line.{Line}
+use Rattle.rt_lines.specs.Orders.{Below}
 use Rattle.rt_rules.specs.Rules.{Derivable}
 use Rattle.rt_settle.specs.Tidy.{AreNeeded, IsBare, kept}
 use Rattle.rt_settle.specs.Told.{TellsSame}

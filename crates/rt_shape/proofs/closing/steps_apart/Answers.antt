@@ -1,7 +1,7 @@
 use Rattle.std.proofs.Common.{◌≡◌, ℕ, None, Some, cond, refl, sym, subst, arith}
 use Rattle.std.specs.Prelude.{slice_index}
 use Rattle.std.specs.Map.{lookup}
-use Rattle.rt_terms.specs.declared.label.Label.{Label}
+use Rattle.rt_lines.specs.declared.label.Label.{Label}
 use Rattle.rt_shape.specs.Graphs.{letter_eq}
 use Rattle.rt_shape.proofs.Firsts.{passes, begins_letter, apart, ends}
 use Rattle.rt_shape.proofs.closing.steps_apart.Goals as goal

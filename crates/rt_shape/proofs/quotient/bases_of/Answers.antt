@@ -1,18 +1,16 @@
 use Rattle.std.proofs.Common.{◌≡◌, ℕ, Some, List, slice_index, sym, ap, subst, ◌∙◌, arith}
-use Rattle.rt_terms.specs.declared.variable.Base.{Base}
-use Rattle.rt_terms.specs.Equality.{base_eq}
-use Rattle.rt_terms.proofs.Equal.{base_equal}
+use Rattle.std.proofs.lemmas.Option.{same_Some}
+use Rattle.rt_lines.specs.declared.variable.Base.{Base}
+use Rattle.rt_lines.specs.Equality.{base_eq}
+use Rattle.rt_lines.proofs.Equal.{base_equal}
 use Rattle.rt_shape.specs.Graphs.{Graph, base_of}
 use Rattle.rt_shape.proofs.Letters.{base_self}
 use Rattle.rt_shape.proofs.Mapped.{IsCarried-more, IsCarried-all}
 use Rattle.rt_shape.proofs.quotient.bases_of.Goals as goal
 
-some_same : (a b : ℕ) → Some a ≡ Some b → a ≡ b
-some_same a b e = cc
-
 -- one base has one node
 coherent : (graph : Graph) (number : List ℕ) (p q : Base) (m n : ℕ) → p ≡ q → base_of graph p ≡ Some m → base_of graph q ≡ Some n → slice_index number m ≡ slice_index number n
-coherent graph number p q m n same e f = ap (slice_index number) (some_same m n (sym e ∙ ap (base_of graph) same ∙ f))
+coherent graph number p q m n same e f = ap (slice_index number) (same_Some m n (sym e ∙ ap (base_of graph) same ∙ f))
 
 pub loop-i-preserved : goal.loop-i-preserved
 loop-i-preserved c =

@@ -1,6 +1,6 @@
 use Rattle.std.proofs.Common.{slice_index}
-use Rattle.rt_terms.specs.Equality.{base_eq}
-use Rattle.rt_terms.proofs.Equal.{base_equal}
+use Rattle.rt_lines.specs.Equality.{base_eq}
+use Rattle.rt_lines.proofs.Equal.{base_equal}
 use Rattle.rt_shape.proofs.Letters.{base_self}
 use Rattle.rt_shape.proofs.Mapped.{IsCarried}
 use Rattle.rt_shape.proofs.quotient.bases_of.Given as goal

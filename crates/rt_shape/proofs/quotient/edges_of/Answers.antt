@@ -1,5 +1,5 @@
 use Rattle.std.proofs.Common.{◌≡◌, ℕ, Some, List, slice_index, ap, subst, arith}
-use Rattle.rt_terms.specs.declared.label.Label.{Label}
+use Rattle.rt_lines.specs.declared.label.Label.{Label}
 use Rattle.rt_shape.specs.Graphs.{Graph, letter_eq, step_of}
 use Rattle.rt_shape.specs.Classes.{pointed, AreStepsOne}
 use Rattle.rt_shape.proofs.Letters.{letter_equal, letter_self}

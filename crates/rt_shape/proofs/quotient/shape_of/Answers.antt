@@ -1,6 +1,6 @@
 use Rattle.std.proofs.Common.{ℕ, List, sym, subst}
 use Rattle.std.proofs.lemmas.Result.{IfOk-weaker}
-use Rattle.rt_terms.specs.declared.line.Line.{Line}
+use Rattle.rt_lines.specs.declared.line.Line.{Line}
 use Rattle.rt_shape.specs.Graphs.{Graph, IsTree}
 use Rattle.rt_shape.specs.Shapes.{IsNaming, ArePairs, IsShapeOf}
 use Rattle.rt_shape.specs.Classes.{AreClasses, IsClosed, IsNumbering, IsQuotient}

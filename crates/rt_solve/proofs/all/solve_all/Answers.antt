@@ -1,5 +1,5 @@
 use Rattle.std.proofs.Common.{◌≡◌, ◌<◌, All, length, sym, subst, ◌∙◌}
-use Rattle.rt_groups.specs.Groups.{group_at}
+use Rattle.rt_components.specs.Groups.{group_at}
 use Rattle.rt_solve.specs.Solved.{AddsSchemesOf}
 use Rattle.rt_solve.proofs.Solving.{group_read, members_within, solved_more}
 use Rattle.rt_solve.proofs.all.solve_all.Goals as goal

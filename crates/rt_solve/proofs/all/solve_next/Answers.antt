@@ -1,6 +1,6 @@
 use Rattle.std.proofs.Common.{◌<◌, All, IsTrue, length, sym, subst, arith}
 use Rattle.rt_lattice.specs.Lattices.{size_of}
-use Rattle.rt_split.specs.Splitting.{is_interface_line}
+use Rattle.rt_scheme.specs.Splitting.{is_interface_line}
 use Rattle.rt_table.specs.Lists.{AreGiven}
 use Rattle.rt_solve.proofs.Gathering.{All-joined}
 use Rattle.rt_solve.proofs.Solving.{given_more}

@@ -1,7 +1,7 @@
 use Rattle.std.proofs.Common.{◌≡◌, ◌++◌, ◌∷◌, [], sym, ap, ◌∙◌}
 use Rattle.std.specs.Prelude.{if◌then◌else◌}
-use Rattle.rt_terms.specs.declared.label.Loc.TheVariants.{Arg}
-use Rattle.rt_terms.specs.declared.label.Label.TheVariants.{In}
+use Rattle.rt_lines.specs.declared.label.Loc.TheVariants.{Arg}
+use Rattle.rt_lines.specs.declared.label.Label.TheVariants.{In}
 use Rattle.rt_scheme.specs.Ports.{has_port}
 use Rattle.rt_table.proofs.Labelling.{first_registers-more}
 use Rattle.rt_table.proofs.labels.port_registers.Goals as goal

@@ -1,9 +1,9 @@
 use Rattle.std.proofs.Common.{◌≡◌, ◌+◌, ◌++◌, ◌∷◌, [], All, sym, ap, subst, ◌∙◌}
 use Rattle.std.specs.Prelude.{if◌then◌else◌}
-use Rattle.rt_terms.specs.declared.label.Loc.TheVariants.{Arg}
-use Rattle.rt_terms.specs.declared.label.Label.TheVariants.{In}
-use Rattle.rt_terms.specs.Words.{IsLabel}
-use Rattle.rt_interface.specs.Calls.{takes_register}
+use Rattle.rt_lines.specs.declared.label.Loc.TheVariants.{Arg}
+use Rattle.rt_lines.specs.declared.label.Label.TheVariants.{In}
+use Rattle.rt_lines.specs.Words.{IsLabel}
+use Rattle.rt_liveness.specs.Calls.{takes_register}
 use Rattle.rt_table.proofs.Labelling.{first_arguments-more, label-if}
 use Rattle.rt_table.proofs.labels.register_arguments.Goals as goal
 

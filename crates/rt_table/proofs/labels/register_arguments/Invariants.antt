@@ -1,5 +1,5 @@
 use Rattle.std.proofs.Common.{◌≡◌, All}
-use Rattle.rt_terms.specs.Words.{IsLabel}
+use Rattle.rt_lines.specs.Words.{IsLabel}
 use Rattle.rt_table.proofs.Labelling.{first_arguments}
 use Rattle.rt_table.proofs.labels.register_arguments.Given as goal
 

@@ -3,7 +3,7 @@ use Rattle.std.specs.Prelude.{All}
 use Rattle.std.proofs.lemmas.List.{length-map}
 use Rattle.rt_body.specs.Told.{reading_of, sites_in}
 use Rattle.rt_frame.specs.Told.{frame_sites}
-use Rattle.rt_interface.specs.Calls.{HasCallRegister}
+use Rattle.rt_liveness.specs.Calls.{HasCallRegister}
 use Rattle.rt_table.specs.declared.facts.Framed.{Framed}
 use Rattle.rt_table.proofs.Framings.{knowledge-here, known_by, maps-at}
 use Rattle.rt_table.proofs.lists.context_at.Goals as goal

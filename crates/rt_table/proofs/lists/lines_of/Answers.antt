@@ -1,9 +1,9 @@
 use Rattle.std.proofs.Common.{◌≡◌, ◌∙◌, ap, length, map, sym, subst}
 use Rattle.std.specs.Prelude.{All}
 use Rattle.std.proofs.lemmas.List.{length-map, take_all}
-use Rattle.rt_terms.specs.Lines.{HasConstantsBelow}
+use Rattle.rt_lines.specs.Lines.{HasConstantsBelow}
 use Rattle.rt_lattice.specs.Lattices.{size_of}
-use Rattle.rt_split.specs.Splitting.{AreInterfaceLines}
+use Rattle.rt_scheme.specs.Splitting.{AreInterfaceLines}
 use Rattle.rt_body.specs.Told.{reading_of}
 use Rattle.rt_rows.specs.Terms.{IsGroupRow}
 use Rattle.rt_table.specs.Lists.{AreLinesOf, AreRowsOf, HasGlobalsOf}

@@ -1,9 +1,9 @@
 use Rattle.std.proofs.Common.{◌≡◌, ◌∙◌, List, refl, sym, subst}
 use Rattle.rt_body.specs.declared.body.Body.{Body}
 use Rattle.rt_body.specs.Told.{sites_in}
-use Rattle.rt_interface.specs.Calls.{AreCallsOf}
-use Rattle.rt_interface.specs.Programs.{IsProgram}
-use Rattle.rt_interface.specs.Told.{program_of}
+use Rattle.rt_liveness.specs.Calls.{AreCallsOf}
+use Rattle.rt_liveness.specs.Programs.{IsProgram}
+use Rattle.rt_liveness.specs.Told.{program_of}
 use Rattle.rt_frame.specs.Told.{frame_sites}
 use Rattle.rt_table.specs.declared.facts.Framed.{Framed}
 use Rattle.rt_table.specs.Framing.{AreFramed}
@@ -49,7 +49,7 @@ returns c =
     (subst (λ cs. AreFramed c.deref-2.result.now cs frames) c.items.ensures c.in_ok-frames.ensures)
     in
     record {
-      linkable = c.requires.linkable;
+      linkable = c.relocs-relocs.ensures.sound.linkable;
       object_is = refl;
       procs_is = refl;
       signatures_are = refl;

@@ -1,6 +1,6 @@
 use Rattle.std.proofs.Common.{◌≡◌, ℕ, ◌<◌, List, [], ◌∷◌, ◌++◌, length, Contains, refl, sym, ap, subst, ◌∙◌, append-nil, arith}
 use Rattle.std.proofs.lemmas.List.Elements.{Contains-append_left, Contains-push}
-use Rattle.rt_terms.specs.declared.label.Label.{Label}
+use Rattle.rt_lines.specs.declared.label.Label.{Label}
 use Rattle.rt_shape.specs.Graphs.{Graph}
 use Rattle.rt_shape.specs.Classes.{Joined}
 use Rattle.rt_shape.specs.Joins.{AreSound}

@@ -2,9 +2,9 @@ use Rattle.std.proofs.Common.{◌≡◌, ℕ, ◌+◌, ◌-◌, ◌<◌, List, [
 use Rattle.std.specs.Prelude.{sum_by}
 use Rattle.std.proofs.lemmas.List.Sums.{sum_by-set}
 use Rattle.std.proofs.lemmas.List.Elements.{Contains-get_or}
-use Rattle.rt_terms.specs.declared.label.Label.{Label}
-use Rattle.rt_terms.specs.declared.label.Label.TheVariants.{In}
-use Rattle.rt_terms.specs.declared.label.Loc.TheVariants.{Arg}
+use Rattle.rt_lines.specs.declared.label.Label.{Label}
+use Rattle.rt_lines.specs.declared.label.Label.TheVariants.{In}
+use Rattle.rt_lines.specs.declared.label.Loc.TheVariants.{Arg}
 use Rattle.rt_shape.specs.Graphs.{Graph}
 use Rattle.rt_shape.specs.Classes.{Joined}
 use Rattle.rt_shape.specs.Joins.{AreSound, IsSound, Leads, work}

@@ -1,5 +1,5 @@
 use Rattle.std.proofs.Common.{◌≡◌, ◌<◌, ◌⊎◌, Some, take}
-use Rattle.rt_terms.specs.declared.variable.Dtv.{Dtv}
+use Rattle.rt_lines.specs.declared.variable.Dtv.{Dtv}
 use Rattle.rt_shape.specs.Graphs.{Has, node_of}
 use Rattle.rt_shape.specs.Shapes.{IsFront}
 use Rattle.rt_shape.proofs.tree.Tree.enter.Given as goal

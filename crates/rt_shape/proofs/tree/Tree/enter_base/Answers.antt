@@ -1,9 +1,9 @@
 use Rattle.std.proofs.Common.{◌≡◌, ℕ, ◌+◌, ◌⊎◌, None, Some, List, cond, refl, sym, subst, arith}
 use Rattle.std.specs.Map.{lookup}
-use Rattle.rt_terms.specs.declared.label.Label.{Label}
-use Rattle.rt_terms.specs.declared.variable.Base.{Base}
-use Rattle.rt_terms.specs.declared.variable.Dtv.{Dtv}
-use Rattle.rt_terms.specs.Equality.{base_eq}
+use Rattle.rt_lines.specs.declared.label.Label.{Label}
+use Rattle.rt_lines.specs.declared.variable.Base.{Base}
+use Rattle.rt_lines.specs.declared.variable.Dtv.{Dtv}
+use Rattle.rt_lines.specs.Equality.{base_eq}
 use Rattle.rt_shape.specs.Graphs.{Graph, bare, Has, IsTree}
 use Rattle.rt_shape.proofs.Growth.{GrowsBy, has_kept, has_cases}
 use Rattle.rt_shape.proofs.GrowthByBase.{grown_by_base}

@@ -1,8 +1,8 @@
 use Rattle.std.proofs.Common.{◌≡◌, ℕ, ◌+◌, ◌<◌, ◌⊎◌, inl, inr, None, Some, List, cond, refl, sym, ap, subst, ◌∙◌, arith}
 use Rattle.std.specs.Map.{lookup}
-use Rattle.rt_terms.specs.declared.label.Label.{Label}
-use Rattle.rt_terms.specs.declared.variable.Base.{Base}
-use Rattle.rt_terms.specs.declared.variable.Dtv.{Dtv}
+use Rattle.rt_lines.specs.declared.label.Label.{Label}
+use Rattle.rt_lines.specs.declared.variable.Base.{Base}
+use Rattle.rt_lines.specs.declared.variable.Dtv.{Dtv}
 use Rattle.rt_rules.specs.Rules.{longer}
 use Rattle.rt_shape.specs.Graphs.{Graph, letter_eq, node_of, step_of, Has, IsTree}
 use Rattle.rt_shape.proofs.Walks.{node_of-longer}

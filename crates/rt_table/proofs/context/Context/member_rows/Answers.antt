@@ -1,6 +1,6 @@
 use Rattle.std.proofs.Common.{All, sym, subst, ◌∙◌}
 use Rattle.std.proofs.lemmas.List.Elements.{All-append}
-use Rattle.rt_terms.specs.Words.{IsLabel}
+use Rattle.rt_lines.specs.Words.{IsLabel}
 use Rattle.rt_table.specs.Table.{stack_arguments}
 use Rattle.rt_table.proofs.Labelling.{words-labels}
 use Rattle.rt_table.proofs.context.Context.member_rows.Goals as goal

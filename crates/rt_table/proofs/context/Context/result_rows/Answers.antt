@@ -1,6 +1,6 @@
 use Rattle.std.proofs.Common.{◌≡◌, ◌++◌, ◌+◌, ap, sym, ◌∙◌}
 use Rattle.std.proofs.lemmas.Result.{on_ok_weaker}
-use Rattle.rt_terms.specs.declared.label.Label.TheVariants.{Out}
+use Rattle.rt_lines.specs.declared.label.Label.TheVariants.{Out}
 use Rattle.rt_frame.specs.Questions.{results}
 use Rattle.rt_table.specs.Table.{port, returned}
 use Rattle.rt_table.specs.Told.{context_of}

@@ -1,0 +1,10 @@
+pub mod Growing
+pub mod Bridges
+pub mod Eliminating
+pub mod Chains
+pub mod Exact
+pub mod Tables
+pub mod Pushed
+pub mod Trees
+pub mod Bounds
+pub mod Lawful

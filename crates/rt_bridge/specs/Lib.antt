@@ -1,0 +1,5 @@
+pub mod Growing
+pub mod Counted
+pub mod Ways
+pub mod Bounds
+pub mod Laws

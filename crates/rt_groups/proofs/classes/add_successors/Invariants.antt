@@ -1,6 +1,0 @@
-use Rattle.std.proofs.Common.{take}
-use Rattle.rt_groups.specs.Classes.{AddsOthers}
-use Rattle.rt_groups.proofs.classes.add_successors.Given as goal
-
-abbrev pub invariant-loop-node : goal.invariant-loop-node
-invariant-loop-node l = AddsOthers l.classes.class.items l.class (take l.node-index l.nodes) l.fn.successors l.successors

@@ -1,5 +1,0 @@
-use Rattle.rt_groups.specs.Classes.{AreMembers}
-use Rattle.rt_groups.proofs.classes.members_of.Given as goal
-
-abbrev pub invariant-loop-node : goal.invariant-loop-node
-invariant-loop-node l = AreMembers l.classes.class.items l.classes.count l.node l.members.items

@@ -1,5 +1,0 @@
-use Rattle.rt_groups.specs.Classes.{AreSuccessors}
-use Rattle.rt_groups.proofs.classes.successors_of.Given as goal
-
-abbrev pub invariant-loop-node : goal.invariant-loop-node
-invariant-loop-node l = AreSuccessors l.graph l.classes.class.items l.classes.count l.node l.successors.items

@@ -1,7 +1,0 @@
-use Rattle.std.proofs.Common.{length}
-use Rattle.rt_groups.specs.Graphs.{HasEdge}
-use Rattle.rt_groups.proofs.Unique.{one_list}
-use Rattle.rt_groups.proofs.laws.one_order.Goals as goal
-
-pub returns : goal.returns
-returns c = λ graph groups others p q. one_list (length graph) (HasEdge graph) groups others p q

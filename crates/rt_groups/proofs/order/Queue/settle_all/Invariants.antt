@@ -1,9 +1,0 @@
-use Rattle.std.proofs.Common.{◌≡◌, drop}
-use Rattle.rt_groups.specs.Orders.{IsQueue}
-use Rattle.rt_groups.proofs.order.Queue.settle_all.Given as goal
-
-abbrev pub invariant-loop-class : goal.invariant-loop-class
-invariant-loop-class l = record {
-  queue : IsQueue l.successors l.members l.self (drop l.class-index l.classes);
-  come : l.self.come.items ≡ l.fn.self.come.items;
-}

@@ -1,4 +1,0 @@
-use Rattle.rt_groups.proofs.walk.Walk.reach.Given as goal
-
-abbrev pub ghost-enter : goal.ghost-enter
-ghost-enter g a = g.graph

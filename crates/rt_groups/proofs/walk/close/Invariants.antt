@@ -1,6 +1,0 @@
-use Rattle.std.proofs.Common.{◌+◌}
-use Rattle.rt_groups.proofs.Closing.{IsClosedTo}
-use Rattle.rt_groups.proofs.walk.close.Given as goal
-
-abbrev pub invariant-loop-node : goal.invariant-loop-node
-invariant-loop-node l = IsClosedTo l.fn.state l.state l.place (l.place + l.node-index) l.class

@@ -1,7 +1,0 @@
-use Rattle.rt_interface.specs.Additions.{Adds}
-use Rattle.rt_interface.specs.Closures.{Says}
-use Rattle.rt_interface.proofs.Adding.{ForFirst}
-use Rattle.rt_interface.proofs.closure.note_all.Given as goal
-
-abbrev pub invariant-loop-rule : goal.invariant-loop-rule
-invariant-loop-rule l = Adds l.initial.found.keys l.found.keys (ForFirst l.rules (Says l.when) l.rule-index)

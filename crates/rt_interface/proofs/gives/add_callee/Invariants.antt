@@ -1,7 +1,0 @@
-use Rattle.std.proofs.Common.{◌≡◌, ℕ, ◌+◌, ◌<◌}
-use Rattle.rt_interface.specs.Additions.{Adds}
-use Rattle.rt_interface.specs.Conditions.{port_of, when_given}
-use Rattle.rt_interface.proofs.gives.add_callee.Given as goal
-
-abbrev pub invariant-loop-r : goal.invariant-loop-r
-invariant-loop-r l = Adds l.initial.rules l.rules (λ rule. (r : ℕ) × (r < l.r) × (rule ≡ record { when = when_given l.named l.callee r; port = port_of l.procedure (10 + r) }))

@@ -1,8 +1,0 @@
-use Rattle.std.proofs.Common.{ℕ, ◌+◌, ◌<◌}
-use Rattle.rt_body.specs.Told.{reading_of}
-use Rattle.rt_interface.specs.Additions.{Adds}
-use Rattle.rt_interface.specs.GivesRules.{AreWriterRules}
-use Rattle.rt_interface.proofs.gives.add_return.Given as goal
-
-abbrev pub invariant-loop-r : goal.invariant-loop-r
-invariant-loop-r l = Adds l.initial.rules l.rules (λ rule. (r : ℕ) × (r < l.r) × AreWriterRules l.named l.procedure.sites.now l.procedure.number r ((reading_of l.procedure.body.now).reaching l.site (10 + r)) rule)

@@ -1,7 +1,0 @@
-use Rattle.rt_interface.specs.Additions.{Adds}
-use Rattle.rt_interface.specs.GivesRules.{AreCalleeRules}
-use Rattle.rt_interface.proofs.Adding.{ForFirst}
-use Rattle.rt_interface.proofs.gives.add_tails.Given as goal
-
-abbrev pub invariant-loop-callee : goal.invariant-loop-callee
-invariant-loop-callee l = Adds l.initial.rules l.rules (ForFirst l.tails (AreCalleeRules l.named l.procedure) l.callee-index)

@@ -1,0 +1,33 @@
+-- The lines, each once.
+use Rattle.std.proofs.Common.{◌≡◌, ◌≢◌, ◌⊎◌, inl, inr, true, List, [], AllPairs, All, Contains, arith}
+use Rattle.std.proofs.lemmas.List.Elements.{All-contains}
+use Rattle.rt_base.proofs.Lists.{Contains-none, All-from_contains}
+use Rattle.rt_lines.specs.declared.line.Line.{Line}
+use Rattle.rt_lines.specs.contracts.line.LineEq.TheImpl.Laws as line_laws
+use Rattle.rt_lines.specs.Equality.{line_eq}
+use Rattle.rt_lines.proofs.Equal.{line_equal}
+use Rattle.rt_lines.specs.Numbering.{deduplicated}
+use Rattle.rt_lines.proofs.Distinct.{inserted-has, inserted-source, inserted-distinct}
+
+-- each line stands there
+pub deduplicated-has : (lines : List Line) (l : Line) → Contains lines l → Contains (deduplicated lines) l
+deduplicated-has lines l h = inserted-has line_eq line_equal lines [] l h
+
+-- and no other
+pub deduplicated-source : (lines : List Line) (l : Line) → Contains (deduplicated lines) l → Contains lines l
+deduplicated-source lines l h = by (inserted-source line_eq lines [] l h)
+  where
+    by : Contains [] l ⊎ Contains lines l → Contains lines l
+    by (inl c) = absurd (Contains-none l c)
+    by (inr c) = c
+
+line_self : (l : Line) → line_eq l l ≡ true
+line_self l = (line_laws.laws-law).refl l
+
+-- once
+pub deduplicated-distinct : (lines : List Line) → AllPairs (λ a b. a ≢ b) (deduplicated lines)
+deduplicated-distinct lines = inserted-distinct line_eq line_self lines [] (λ i j d less within. absurd (omega arith))
+
+-- what holds of each line holds of each line that is left
+pub deduplicated-all : (P : Line → Type 0) (lines : List Line) → All P lines → All P (deduplicated lines)
+deduplicated-all P lines h = All-from_contains P (deduplicated lines) (λ l c. All-contains P lines l h (deduplicated-source lines l c))

@@ -1,0 +1,9 @@
+pub mod Words
+pub mod Orders
+pub mod OrderFacts
+pub mod Names
+pub mod Lines
+pub mod Equality
+pub mod Sides
+pub mod SidesLeft
+pub mod Numbering

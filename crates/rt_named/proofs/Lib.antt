@@ -1,0 +1,3 @@
+pub mod Making
+pub mod Prefixes
+pub mod Contents

@@ -1,4 +1,0 @@
-pub mod Places
-pub mod Distinct
-pub mod Deduplicating
-pub mod Numbers

@@ -1,6 +1,0 @@
-use Rattle.std.proofs.Common.{◌≡◌, take}
-use Rattle.rt_numbering.specs.Numbering.{existentials}
-use Rattle.rt_numbering.proofs.numbering.existentials.Given as goal
-
-abbrev pub invariant-loop-line : goal.invariant-loop-line
-invariant-loop-line l = l.found.keys ≡ existentials (take l.line-index l.lines)

@@ -1,0 +1,16 @@
+pub mod Cuts
+pub mod AlikeTidied
+pub mod Exchanging
+pub mod OneAnswer
+pub mod Slots
+pub mod Settling
+pub mod Holding
+pub mod Soles
+pub mod Agreeing
+pub mod Moved
+pub mod Giving
+pub mod Pairs
+pub mod Turning
+pub mod Moving
+pub mod Placing
+pub mod Falling

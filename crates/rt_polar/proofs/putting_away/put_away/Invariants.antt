@@ -1,0 +1,19 @@
+use Rattle.std.proofs.Common.{List}
+use Rattle.std.specs.BTreeSet.{contains}
+use Rattle.std.specs.Ordering.{nat_cmp}
+use Rattle.rt_lines.specs.declared.line.Line.{Line}
+use Rattle.rt_polar.specs.Places.{ArePending, ArePlaces, lines_of}
+use Rattle.rt_polar.specs.Puts.{Puts}
+use Rattle.rt_polar.specs.Tidied.{tidied}
+use Rattle.rt_polar.proofs.Falling.{sub_count}
+use Rattle.rt_polar.proofs.putting_away.put_away.Given as goal
+
+abbrev pub invariant-loop-pending : goal.invariant-loop-pending
+invariant-loop-pending l = record {
+  places : ArePlaces l.places;
+  pending : ArePending (contains nat_cmp l.pending) l.places.slots.items;
+  puts : (left : List Line) → Puts left (lines_of l.places.slots.items) → Puts left (tidied l.fn.lines);
+}
+
+abbrev pub decreases-loop-pending : goal.decreases-loop-pending
+decreases-loop-pending l = sub_count (lines_of l.places.slots.items)

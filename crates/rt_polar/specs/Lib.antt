@@ -1,0 +1,7 @@
+pub mod Polar
+pub mod Tidied
+pub mod Puts
+pub mod Laws
+pub mod Index
+pub mod Places
+pub mod Turns

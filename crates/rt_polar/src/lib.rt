@@ -1,0 +1,16 @@
+//! Existentials that give their places to their only definition or their only consumer, one after another (PLDI 2016,
+//! section 5). The definitions stand in `specs/`.
+#![tactic(auto)]
+
+mod choosing;
+mod index;
+pub mod laws;
+mod places;
+mod putting;
+mod putting_away;
+mod tidying;
+
+pub use choosing::{Side, candidate};
+pub use putting::put;
+pub use putting_away::put_away;
+pub use tidying::tidy;

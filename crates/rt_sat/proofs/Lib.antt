@@ -1,0 +1,4 @@
+pub mod Binary
+pub mod Deciding
+pub mod Searching
+pub mod Indices

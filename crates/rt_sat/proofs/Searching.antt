@@ -1,0 +1,269 @@
+-- Searches: what offers, visits and rounds keep.
+use Rattle.std.proofs.Common.{◌≡◌, ℕ, ◌+◌, ◌<◌, ◌≤◌, ◌⊎◌, inl, inr, Bool, true, false, cond, List, [], ◌∷◌, ◌++◌, Contains, Option, Some, None, length, get_or, refl, sym, ap, subst, ◌∙◌, arith}
+use Rattle.std.specs.Prelude.{not, nat_eq, ◌&&◌}
+use Rattle.std.specs.Bool.{beq}
+use Rattle.std.specs.Map.{lookup}
+use Rattle.std.proofs.lemmas.Bool.{eqb-true, cases_eq}
+use Rattle.std.proofs.lemmas.List.{get_or_default}
+use Rattle.std.proofs.lemmas.List.Elements.{Contains-append_left, Contains-append_right, Contains-append_cases, Contains-push}
+use Rattle.rt_rules.proofs.Lists.{Contains-none, Contains-here, Contains-cons_cases}
+use Rattle.rt_sat.specs.declared.state.State.{State}
+use Rattle.rt_sat.specs.declared.state.Edge.{Edge}
+use Rattle.rt_sat.specs.contracts.state.StateEq.TheImpl.Laws as state_laws
+use Rattle.rt_sat.specs.Searches.{state_eq, turned, Walk, stays, turns, steps, IsKnown, IsWithin, AreWalks, IsRelaxed, AreRelaxed, AreFallen, IsOffered, IsIndexed, IsSearch, IsVisited, IsPassed, IsFollowed}
+
+both_true : (a b : Bool) → (a && b) ≡ true → (a ≡ true) × (b ≡ true)
+both_true true b e = (refl, e)
+both_true false b e = absurd (cc)
+
+same_bool : (a b : Bool) → beq a b ≡ true → a ≡ b
+same_bool true true e = refl
+same_bool true false e = absurd (cc)
+same_bool false true e = absurd (cc)
+same_bool false false e = refl
+
+pub state_equal : (a b : State) → state_eq a b ≡ true → a ≡ b
+state_equal a b e =
+    let p : (nat_eq a.variable b.variable ≡ true) × (beq a.contra b.contra ≡ true) = both_true (nat_eq a.variable b.variable) (beq a.contra b.contra) e in
+    let m : a.variable ≡ b.variable = eqb-true a.variable b.variable p.0 in
+    let n : a.contra ≡ b.contra = same_bool a.contra b.contra p.1 in
+    λ i. record { variable = m i; contra = n i }
+
+pub state_self : (a : State) → state_eq a a ≡ true
+state_self a = (state_laws.laws-law).refl a
+
+one_count : (found : List (State × ℕ)) (s : State) (j k : ℕ) → IsKnown found s j → IsKnown found s k → j ≡ k
+one_count found s j k e f = let g : Some j ≡ Some k = sym e ∙ f in cc
+
+pub within-fallen : (old new : List (State × ℕ)) (s : State) (k : ℕ) → AreFallen old new → IsWithin old s k → IsWithin new s k
+within-fallen old new s k f w = let r : IsWithin new s w.0 = f s w.0 w.1 in (r.0, r.1, omega (arith, r.2, w.2))
+
+pub fallen-self : (found : List (State × ℕ)) → AreFallen found found
+fallen-self found s k h = (k, h, omega arith)
+
+pub fallen-chain : (a b c : List (State × ℕ)) → AreFallen a b → AreFallen b c → AreFallen a c
+fallen-chain a b c f g s k h = within-fallen b c s k g (f s k h)
+
+-- a count put down
+module _ (old new : List (State × ℕ)) (to : State) (count : ℕ) (updates : (q : State) → lookup (state_eq q) new ≡ cond (state_eq to q) (Some count) (lookup (state_eq q) old)) where
+  here : (s : State) → to ≡ s → IsKnown new s count
+  here s e = updates s ∙ ap (λ b. cond b (Some count) (lookup (state_eq s) old)) (ap (λ t. state_eq t s) e ∙ state_self s)
+
+  elsewhere : (s : State) → state_eq to s ≡ false → lookup (state_eq s) new ≡ lookup (state_eq s) old
+  elsewhere s e = updates s ∙ ap (λ b. cond b (Some count) (lookup (state_eq s) old)) e
+
+  cases : (s : State) (k : ℕ) (b : Bool) → state_eq to s ≡ b → IsKnown new s k → IsKnown old s k ⊎ ((to ≡ s) × (k ≡ count))
+  cases s k true e h = let t : to ≡ s = state_equal to s e in inr (t, one_count new s k count h (here s t))
+  cases s k false e h = inl (sym (elsewhere s e) ∙ h)
+
+  falls : ((k : ℕ) → IsKnown old to k → count ≤ k) → (s : State) (k : ℕ) (b : Bool) → state_eq to s ≡ b → IsKnown old s k → IsWithin new s k
+  falls less s k true e h = let t : to ≡ s = state_equal to s e in (count, here s t, less k (subst (λ z. IsKnown old z k) (sym t) h))
+  falls less s k false e h = (k, elsewhere s e ∙ h, omega arith)
+
+  pub offered_new : (active : List State) → ((k : ℕ) → IsKnown old to k → count ≤ k) → IsOffered old new active (active ++ to ∷ []) to count
+  offered_new active less = record {
+    within = (count, here to refl, omega arith);
+    fallen = λ s k h. falls less s k (state_eq to s) refl h;
+    kept = λ s c. Contains-append_left active (to ∷ []) s c;
+    changed = λ s k h. elim (cases s k (state_eq to s) refl h) [
+      | inl g ↦ inl g
+      | inr p ↦ inr (subst (Contains (active ++ to ∷ [])) p.0 (Contains-push active to), sym p.0, p.1)
+    ];
+  }
+
+pub offered_same : (found : List (State × ℕ)) (active : List State) (to : State) (k count : ℕ) → IsKnown found to k → k ≤ count → IsOffered found found active active to count
+offered_same found active to k count h less = record { within = (k, h, less); fallen = fallen-self found; kept = λ s c. c; changed = λ s j g. inl g }
+
+-- one way after another
+pub on : {edges : List Edge} {x y z : State} {j k : ℕ} → Walk edges x y j → Walk edges y z k → Walk edges x z (j + k)
+on {edges} {y} {z} {k} stays w = subst (λ n. Walk edges y z n) (omega arith) w
+on {edges} {x} {z} {k} (turns {k = i} v) w = subst (λ n. Walk edges x z n) (omega arith) (turns (on v w))
+on {edges} {x} {z} {k} (steps {k = i} e c v) w = subst (λ n. Walk edges x z n) (omega arith) (steps e c (on v w))
+
+pub on_edge : {edges : List Edge} {x y : State} {k : ℕ} (e : Edge) → Contains edges e → e.from ≡ y → Walk edges x y k → Walk edges x e.to (e.count + k)
+on_edge {edges} {x} {k} e c f w = subst (λ n. Walk edges x e.to n) (omega arith) (on (subst (λ y. Walk edges x y k) (sym f) w) (steps e c stays))
+
+pub on_turn : {edges : List Edge} {x y : State} {k : ℕ} → Walk edges x y k → Walk edges x (turned y) (1 + k)
+on_turn {edges} {x} {y} {k} w = subst (λ n. Walk edges x (turned y) n) (omega arith) (on w (turns {x = y} stays))
+
+module _ (edges : List Edge) (old : List (State × ℕ)) (active : List State) (state : State) (count : ℕ) (known : IsKnown old state count) where
+  pub visited_turn : (new : List (State × ℕ)) (next : List State) → IsOffered old new active next (turned state) (1 + count) → IsVisited edges old new active next state count (λ e. ⊥)
+  visited_turn new next o = record {
+    walks = λ start w s k h. (elim (o.changed s k h) [
+      | inl g ↦ w s k g
+      | inr p ↦ subst (λ z. Walk edges start z k) (sym p.1) (subst (λ n. Walk edges start (turned state) n) (sym p.2) (on_turn (w state count known)))
+    ]);
+    fallen = o.fallen;
+    kept = o.kept;
+    changed = λ s k h. (elim (o.changed s k h) [ inl g ↦ inl g | inr p ↦ inr p.0 ]);
+    turn = o.within;
+    edge = λ e d f. absurd d;
+  }
+
+  -- an edge more
+  pub visited_edge : (mid new : List (State × ℕ)) (between next : List State) (Done More : Edge → Type 0) (e : Edge) → Contains edges e → e.from ≡ state →
+      ((g : Edge) → More g → Done g ⊎ (g ≡ e)) → IsVisited edges old mid active between state count Done → IsOffered mid new between next e.to (e.count + count) → IsVisited edges old new active next state count More
+  visited_edge mid new between next Done More e c f split v o = record {
+    walks = λ start w s k h. (elim (o.changed s k h) [
+      | inl g ↦ v.walks start w s k g
+      | inr p ↦ subst (λ z. Walk edges start z k) (sym p.1) (subst (λ n. Walk edges start e.to n) (sym p.2) (on_edge e c f (w state count known)))
+    ]);
+    fallen = fallen-chain old mid new v.fallen o.fallen;
+    kept = λ s h. o.kept s (v.kept s h);
+    changed = λ s k h. (elim (o.changed s k h) [
+      | inl g ↦ elim (v.changed s k g) [ inl a ↦ inl a | inr b ↦ inr (o.kept s b) ]
+      | inr p ↦ inr p.0
+    ]);
+    turn = within-fallen mid new (turned state) (1 + count) o.fallen v.turn;
+    edge = λ g d h. (elim (split g d) [
+      | inl x ↦ within-fallen mid new g.to (g.count + count) o.fallen (v.edge g x h)
+      | inr q ↦ subst (λ (z : Edge). IsWithin new z.to (z.count + count)) (sym q) o.within
+    ]);
+  }
+
+  -- a test of more edges, none of which leaves the state
+  pub visited_more : (new : List (State × ℕ)) (next : List State) (Done More : Edge → Type 0) → ((g : Edge) → More g → g.from ≡ state → Done g) → IsVisited edges old new active next state count Done → IsVisited edges old new active next state count More
+  visited_more new next Done More split v = record { walks = v.walks; fallen = v.fallen; kept = v.kept; changed = v.changed; turn = v.turn; edge = λ g d h. v.edge g (split g d h) h }
+
+  -- all edges that leave the state
+  pub visited_all : (new : List (State × ℕ)) (next rest : List State) → IsVisited edges old new active next state count (Contains edges) → AreRelaxed edges old (active ++ state ∷ rest) → AreRelaxed edges new (next ++ rest)
+  visited_all new next rest v r s k h = by (v.changed s k h)
+    where
+      relaxed : IsRelaxed edges old s k → IsRelaxed edges new s k
+      relaxed q = record { turn = within-fallen old new (turned s) (1 + k) v.fallen q.turn; edge = λ e c f. within-fallen old new e.to (e.count + k) v.fallen (q.edge e c f) }
+
+      itself : state ≡ s → IsKnown old s k → IsRelaxed edges new s k
+      itself e g =
+          let m : k ≡ count = one_count old state k count (subst (λ z. IsKnown old z k) (sym e) g) known in
+          subst (λ z. IsRelaxed edges new z k) e (subst (λ n. IsRelaxed edges new state n) (sym m) (record { turn = v.turn; edge = λ x c f. v.edge x c f }))
+
+      listed : IsKnown old s k → Contains active s ⊎ Contains (state ∷ rest) s → Contains (next ++ rest) s ⊎ IsRelaxed edges new s k
+      listed g (inl c) = inl (Contains-append_left next rest s (v.kept s c))
+      listed g (inr c) = elim (Contains-cons_cases state rest s c) [
+        | inl e ↦ inr (itself e g)
+        | inr d ↦ inl (Contains-append_right next rest s d)
+      ]
+
+      by : IsKnown old s k ⊎ Contains next s → Contains (next ++ rest) s ⊎ IsRelaxed edges new s k
+      by (inr c) = inl (Contains-append_left next rest s c)
+      by (inl g) = elim (r s k g) [
+        | inl c ↦ listed g (Contains-append_cases active (state ∷ rest) s c)
+        | inr q ↦ inr (relaxed q)
+      ]
+
+-- a state of which nothing is known
+pub unknown_state : (edges : List Edge) (found : List (State × ℕ)) (active rest : List State) (state : State) → lookup (state_eq state) found ≡ None → AreRelaxed edges found (active ++ state ∷ rest) → AreRelaxed edges found (active ++ rest)
+unknown_state edges found active rest state none r s k h = by (r s k h)
+  where
+    listed : Contains active s ⊎ Contains (state ∷ rest) s → Contains (active ++ rest) s ⊎ IsRelaxed edges found s k
+    listed (inl c) = inl (Contains-append_left active rest s c)
+    listed (inr c) = elim (Contains-cons_cases state rest s c) [
+      | inl e ↦ (let g : IsKnown found state k = subst (λ z. IsKnown found z k) (sym e) h in let f : ◌≡◌ {A = _} None (Some k) = sym none ∙ g in absurd (cc))
+      | inr d ↦ inl (Contains-append_right active rest s d)
+    ]
+
+    by : Contains (active ++ state ∷ rest) s ⊎ IsRelaxed edges found s k → Contains (active ++ rest) s ⊎ IsRelaxed edges found s k
+    by (inl c) = listed (Contains-append_cases active (state ∷ rest) s c)
+    by (inr q) = inr q
+
+-- where nothing is active any more, each way leads to what is known
+module _ (edges : List Edge) (found : List (State × ℕ)) (closed : AreRelaxed edges found []) where
+  relaxed_of : (s : State) (k : ℕ) → IsKnown found s k → IsRelaxed edges found s k
+  relaxed_of s k h = elim (closed s k h) [ inl c ↦ absurd (Contains-none s c) | inr q ↦ q ]
+
+  pub reached : {x y : State} {k : ℕ} → Walk edges x y k → (d : ℕ) → IsWithin found x d → IsWithin found y (k + d)
+  reached stays d w = (w.0, w.1, omega (arith, w.2))
+  reached (turns {x} {y} {k} v) d w =
+      let t : IsWithin found (turned x) (1 + w.0) = (relaxed_of x w.0 w.1).turn in
+      let r : IsWithin found y (k + (1 + w.0)) = reached v (1 + w.0) t in
+      (r.0, r.1, omega (arith, r.2, w.2))
+  reached (steps {y} {k} e c v) d w =
+      let t : IsWithin found e.to (e.count + w.0) = (relaxed_of e.from w.0 w.1).edge e c refl in
+      let r : IsWithin found y (k + (e.count + w.0)) = reached v (e.count + w.0) t in
+      (r.0, r.1, omega (arith, r.2, w.2))
+
+  pub searched : (start : State) → IsWithin found start 0 → AreWalks edges start found → IsSearch edges start found
+  searched start w sound = record {
+    sound = sound;
+    complete = λ s k v. (let r : IsWithin found s (k + 0) = reached v 0 w in (r.0, r.1, omega (arith, r.2)));
+  }
+
+-- an index more
+pub passed-split : (edges : List Edge) (items : List ℕ) (i : ℕ) (e : Edge) → get_or items i 0 < length edges → e ≡ get_or edges (get_or items i 0) e → (g : Edge) → IsPassed edges items (i + 1) g → IsPassed edges items i g ⊎ (g ≡ e)
+passed-split edges items i e h f g p = by (cases_eq p.0 i)
+  where
+    by : (p.0 ≡ i) ⊎ (p.0 ≡ i → ⊥) → IsPassed edges items i g ⊎ (g ≡ e)
+    by (inl s) = inr (sym p.2 ∙ ap (λ n. get_or edges (get_or items n 0) g) s ∙ get_or_default edges (get_or items i 0) g e h ∙ sym f)
+    by (inr n) = inl (p.0, (let less = p.1 in omega arith), p.2)
+
+-- all edges that leave a state are among those of its variable's indices
+pub passed_all : (edges : List Edge) (out : List (List ℕ)) (state : State) (e : Edge) → IsIndexed edges out → Contains edges e → e.from ≡ state →
+    IsPassed edges (get_or out state.variable []) (length (get_or out state.variable [])) e
+passed_all edges out state e indexed c f =
+    let a : (i : ℕ) × Contains (get_or out e.from.variable []) i × (i < length edges) × (get_or edges i e ≡ e) = indexed.all e c in
+    let d : Contains (get_or out state.variable []) a.0 = subst (λ (s : State). Contains (get_or out s.variable []) a.0) f a.1 in
+    (d.0, d.1, ap (λ n. get_or edges n e) (get_or_default (get_or out state.variable []) d.0 0 a.0 d.1 ∙ d.2) ∙ a.3)
+
+-- from a visit of the first indices to all edges
+pub visited_whole : (edges : List Edge) (out : List (List ℕ)) (old mid new : List (State × ℕ)) (active between next rest : List State) (state : State) (count : ℕ) → IsIndexed edges out → IsKnown old state count →
+    IsOffered old mid active between (turned state) (1 + count) →
+    IsFollowed edges (get_or out state.variable []) mid new between next state count (length (get_or out state.variable [])) →
+    IsVisited edges old new active next state count (Contains edges)
+visited_whole edges out old mid new active between next rest state count indexed known offered followed =
+    visited_more edges old active state count known new next (IsPassed edges (get_or out state.variable []) (length (get_or out state.variable []))) (Contains edges)
+    (λ g c f. passed_all edges out state g indexed c f)
+    (followed.follows old active known (visited_turn edges old active state count known mid between offered))
+
+-- no index yet
+pub follows_none : (edges : List Edge) (items : List ℕ) (found : List (State × ℕ)) (next : List State) (state : State) (count : ℕ) → IsFollowed edges items found found next next state count 0
+follows_none edges items found next state count = record {
+  follows = λ old active known v. visited_more edges old active state count known found next (λ e. ⊥) (IsPassed edges items 0) (λ g p f. (let less = p.1 in omega arith)) v;
+}
+
+-- an index of another state's edge
+pub follows_other : (edges : List Edge) (items : List ℕ) (before found : List (State × ℕ)) (first next : List State) (state : State) (count i : ℕ) (e : Edge) → get_or items i 0 < length edges → e ≡ get_or edges (get_or items i 0) e →
+    (e.from ≡ state → ⊥) → IsFollowed edges items before found first next state count i → IsFollowed edges items before found first next state count (i + 1)
+follows_other edges items before found first next state count i e h f apart w = record {
+  follows = λ old active known v. visited_more edges old active state count known found next (IsPassed edges items i) (IsPassed edges items (i + 1))
+      (λ g p q. elim (passed-split edges items i e h f g p) [ inl d ↦ d | inr s ↦ absurd (apart (ap (λ (z : Edge). z.from) (sym s) ∙ q)) ])
+      (w.follows old active known v);
+}
+
+-- an index of an edge of the state
+pub follows_edge : (edges : List Edge) (items : List ℕ) (before mid found : List (State × ℕ)) (first between next : List State) (state : State) (count i : ℕ) (e : Edge) → get_or items i 0 < length edges → e ≡ get_or edges (get_or items i 0) e →
+    e.from ≡ state → IsOffered mid found between next e.to (e.count + count) → IsFollowed edges items before mid first between state count i → IsFollowed edges items before found first next state count (i + 1)
+follows_edge edges items before mid found first between next state count i e h f same o w = record {
+  follows = λ old active known v. visited_edge edges old active state count known mid found between next (IsPassed edges items i) (IsPassed edges items (i + 1)) e (get_or items i 0, h, sym f) same
+      (passed-split edges items i e h f) (w.follows old active known v) o;
+}
+
+pub differ : (a b : State) (r : Bool) → r ≡ not (state_eq a b) → r ≡ true → a ≡ b → ⊥
+differ a b r e f g = let h : state_eq a b ≡ true = subst (λ z. state_eq a z ≡ true) g (state_self a) in let k : r ≡ false = e ∙ ap not h in absurd (cc)
+
+pub agree : (a b : State) (r : Bool) → r ≡ not (state_eq a b) → r ≡ false → a ≡ b
+agree a b r e f = by (state_eq a b) refl
+  where
+    by : (c : Bool) → state_eq a b ≡ c → a ≡ b
+    by true g = state_equal a b g
+    by false g = let k : r ≡ true = e ∙ ap not g in absurd (cc)
+
+-- the start alone
+pub begun : (edges : List Edge) (old new : List (State × ℕ)) (start : State) (count : ℕ) → count ≡ 0 → ((s : State) (k : ℕ) → IsKnown old s k → ⊥) →
+    ((q : State) → lookup (state_eq q) new ≡ cond (state_eq start q) (Some count) (lookup (state_eq q) old)) →
+    (AreWalks edges start new) × (IsWithin new start 0) × (AreRelaxed edges new (start ∷ []))
+begun edges old new start count zero none updates = (walks, (count, here old new start count updates start refl, omega (arith, zero)), relaxed)
+  where
+    walks : AreWalks edges start new
+    walks s k h = elim (cases old new start count updates s k (state_eq start s) refl h) [
+      | inl g ↦ absurd (none s k g)
+      | inr p ↦ subst (λ z. Walk edges start z k) p.0 (subst (λ n. Walk edges start start n) (sym zero ∙ sym p.1) stays)
+    ]
+
+    relaxed : AreRelaxed edges new (start ∷ [])
+    relaxed s k h = elim (cases old new start count updates s k (state_eq start s) refl h) [
+      | inl g ↦ absurd (none s k g)
+      | inr p ↦ inl (subst (Contains (start ∷ [])) p.0 (Contains-here start []))
+    ]
+
+pub none_of_empty : (old : List (State × ℕ)) → old ≡ [] → (s : State) (k : ℕ) → IsKnown old s k → ⊥
+none_of_empty old e s k h = let f : ◌≡◌ {A = Option ℕ} None (Some k) = sym (ap (lookup (state_eq s)) e) ∙ h in absurd (cc)

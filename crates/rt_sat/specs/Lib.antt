@@ -1,0 +1,4 @@
+pub mod Counts
+pub mod Probe
+pub mod Deciding
+pub mod Searches

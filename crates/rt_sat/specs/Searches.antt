@@ -1,0 +1,79 @@
+-- Ways along numbered edges, and what a search of them finds.
+use Rattle.std.specs.Prelude.{◌≡◌, ℕ, ◌+◌, ◌<◌, ◌≤◌, ◌⊎◌, List, [], Contains, Bool, not, Some, length, slice_index_or}
+use Rattle.std.specs.Map.{lookup}
+use Rattle.rt_sat.specs.declared.state.State.{State}
+use Rattle.rt_sat.specs.declared.state.Edge.{Edge}
+use Rattle.rt_sat.specs.contracts.state.StatePartialEq.TheImpl as the_state
+
+abbrev pub state_eq : State → State → Bool
+state_eq = (the_state.ghosts).eq
+
+-- the same variable with the other sign
+abbrev pub turned : State → State
+turned s = record { variable = s.variable; contra = not s.contra }
+
+-- a way along edges, and turns, with the sum of their counts
+pub data Walk (edges : List Edge) : State → State → ℕ → Type 0 where
+  stays : {x : State} → Walk edges x x 0
+  turns : {x y : State} {k : ℕ} → Walk edges (turned x) y k → Walk edges x y (1 + k)
+  steps : {y : State} {k : ℕ} (e : Edge) → Contains edges e → Walk edges e.to y k → Walk edges e.from y (e.count + k)
+
+-- the count that is known of a state
+abbrev pub IsKnown : List (State × ℕ) → State → ℕ → Type 0
+IsKnown found s k = lookup (state_eq s) found ≡ Some k
+
+-- a count of at most so much is known
+abbrev pub IsWithin : List (State × ℕ) → State → ℕ → Type 0
+IsWithin found s k = (j : ℕ) × IsKnown found s j × (j ≤ k)
+
+-- what is known are counts of ways from the start
+abbrev pub AreWalks : List Edge → State → List (State × ℕ) → Type 0
+AreWalks edges start found = (s : State) (k : ℕ) → IsKnown found s k → Walk edges start s k
+
+-- the state's edges and its turn lead to what is known to be no farther
+pub record IsRelaxed (edges : List Edge) (found : List (State × ℕ)) (s : State) (k : ℕ) : Type 0 where
+  pub turn : IsWithin found (turned s) (1 + k)
+  pub edge : (e : Edge) → Contains edges e → e.from ≡ s → IsWithin found e.to (e.count + k)
+
+-- each known state is active, or relaxed
+abbrev pub AreRelaxed : List Edge → List (State × ℕ) → List State → Type 0
+AreRelaxed edges found active = (s : State) (k : ℕ) → IsKnown found s k → Contains active s ⊎ IsRelaxed edges found s k
+
+-- known counts only fall
+abbrev pub AreFallen : List (State × ℕ) → List (State × ℕ) → Type 0
+AreFallen old new = (s : State) (k : ℕ) → IsKnown old s k → IsWithin new s k
+
+-- a count offered to a state: it is known to be no farther, others stay, and what changed is active
+pub record IsOffered (old new : List (State × ℕ)) (old_active new_active : List State) (to : State) (count : ℕ) : Type 0 where
+  pub within : IsWithin new to count
+  pub fallen : AreFallen old new
+  pub kept : (s : State) → Contains old_active s → Contains new_active s
+  pub changed : (s : State) (k : ℕ) → IsKnown new s k → IsKnown old s k ⊎ (Contains new_active s × (s ≡ to) × (k ≡ count))
+
+-- for each variable the indices of the edges that leave it
+pub record IsIndexed (edges : List Edge) (out : List (List ℕ)) : Type 0 where
+  pub within : (v i : ℕ) → Contains (slice_index_or out v []) i → i < length edges
+  pub all : (e : Edge) → Contains edges e → (i : ℕ) × Contains (slice_index_or out e.from.variable []) i × (i < length edges) × (slice_index_or edges i e ≡ e)
+
+-- each state that a way leads to from the start, with the least count
+pub record IsSearch (edges : List Edge) (start : State) (found : List (State × ℕ)) : Type 0 where
+  pub sound : AreWalks edges start found
+  pub complete : (s : State) (k : ℕ) → Walk edges start s k → IsWithin found s k
+
+-- a visit of a state at a count, so far: its turn, and edges that a test finds
+pub record IsVisited (edges : List Edge) (old new : List (State × ℕ)) (old_active new_active : List State) (state : State) (count : ℕ) (Done : Edge → Type 0) : Type 0 where
+  pub walks : (start : State) → AreWalks edges start old → AreWalks edges start new
+  pub fallen : AreFallen old new
+  pub kept : (s : State) → Contains old_active s → Contains new_active s
+  pub changed : (s : State) (k : ℕ) → IsKnown new s k → IsKnown old s k ⊎ Contains new_active s
+  pub turn : IsWithin new (turned state) (1 + count)
+  pub edge : (e : Edge) → Done e → e.from ≡ state → IsWithin new e.to (e.count + count)
+
+-- the edge is among those of the first indices
+abbrev pub IsPassed : List Edge → List ℕ → ℕ → Edge → Type 0
+IsPassed edges items i e = (j : ℕ) × (j < i) × (slice_index_or edges (slice_index_or items j 0) e ≡ e)
+
+-- a visit, begun with the turn, goes on along the edges of the first indices
+pub record IsFollowed (edges : List Edge) (items : List ℕ) (before after : List (State × ℕ)) (first next : List State) (state : State) (count i : ℕ) : Type 0 where
+  pub follows : (old : List (State × ℕ)) (active : List State) → IsKnown old state count → IsVisited edges old before active first state count (λ e. ⊥) →
+      IsVisited edges old after active next state count (IsPassed edges items i)

@@ -1,0 +1,139 @@
+// Least counts from a state along edges.
+ghost use Rattle.std.specs.Prelude.{◌≡◌, ℕ, ◌<◌, ◌++◌, ◌∷◌, [], List, Contains, IfOk, OnOk, length, slice_index_or};
+ghost use Rattle.rt_sat.specs.Searches.{AreFallen, AreRelaxed, AreWalks, IsFollowed, IsIndexed, IsOffered, IsSearch, turned};
+ghost use Rattle.rt_sat.specs.declared.state.State.{State as Place};
+
+use crate::count::Count;
+use crate::state::{Edge, State};
+use indexmap::IndexMap;
+use rt_base::{Memory, Sequence};
+use std::alloc::{AllocError, Global};
+
+// More rounds than there are states.
+const ROUNDS: u64 = 0xff_ffff_ffff;
+
+// The least count of a way to each state that a way leads to from the start. The edges that leave a variable are given by
+// their indices. Each round goes on from the states whose counts fell in the one before.
+pub(crate) fn search(
+    alloc: Global,
+    edges: &[Edge],
+    out: &[Sequence<u32>],
+    start: State,
+) -> Result<IndexMap<State, Count>, Memory>
+    requires { IsIndexed edges.now out.now }
+    ensures { IfOk result (λ found. IsSearch edges.now start found.entries) }
+{
+    let mut found = IndexMap::new(alloc);
+    found.insert(start, Count::small(alloc, 0))?;
+    let mut active = Vec::new(alloc);
+    active.push(start)?;
+    for _ in 0..ROUNDS {
+        if active.is_empty() {
+            return Ok(found);
+        }
+        active = round(alloc, edges, out, &mut found, &active)?;
+    }
+    Err(AllocError)
+}
+
+// Goes on from each active state, and gives those whose counts fell.
+fn round(
+    alloc: Global,
+    edges: &[Edge],
+    out: &[Sequence<u32>],
+    found: &mut IndexMap<State, Count>,
+    active: &[State],
+) -> Result<Vec<State>, Memory>
+    requires { IsIndexed edges.now out.now }
+    ensures walks { OnOk result ((start : Place) → AreWalks edges.now start found.old.entries → AreWalks edges.now start found.new.entries) }
+    ensures fallen { OnOk result (AreFallen found.old.entries found.new.entries) }
+    ensures relaxed { IfOk result (λ next. AreRelaxed edges.now found.old.entries active.now → AreRelaxed edges.now found.new.entries next.items) }
+{
+    let mut next = Vec::new(alloc);
+    for state in active {
+        visit(alloc, edges, out, found, &mut next, *state)?;
+    }
+    Ok(next)
+}
+
+// Goes on from a state, and notes those whose counts fell.
+fn visit(
+    alloc: Global,
+    edges: &[Edge],
+    out: &[Sequence<u32>],
+    found: &mut IndexMap<State, Count>,
+    next: &mut Vec<State>,
+    state: State,
+) -> Result<(), Memory>
+    requires { IsIndexed edges.now out.now }
+    ensures walks { OnOk result ((start : Place) → AreWalks edges.now start found.old.entries → AreWalks edges.now start found.new.entries) }
+    ensures fallen { OnOk result (AreFallen found.old.entries found.new.entries) }
+    ensures relaxed { OnOk result ((rest : List Place) → AreRelaxed edges.now found.old.entries (next.old.items ++ state ∷ rest) → AreRelaxed edges.now found.new.entries (next.new.items ++ rest)) }
+{
+    let Some(known) = found.get(&state) else {
+        return Ok(());
+    };
+    let count = known.copy(alloc)?;
+    let turn = Count::small(alloc, 1).plus(alloc, &count)?;
+    let other = State {
+        variable: state.variable,
+        contra: !state.contra,
+    };
+    offer(found, next, other, turn)?;
+    let leaving = leaving(out, state.variable);
+    follow(alloc, edges, leaving, found, next, state, &count)?;
+    Ok(())
+}
+
+// The indices of the edges that leave a variable.
+fn leaving(out: &[Sequence<u32>], variable: u32) -> &[u32]
+    ensures { result.now ≡ slice_index_or out.now variable [] }
+{
+    match out.get(variable as usize) {
+        Some(indices) => indices.items(),
+        None => &[],
+    }
+}
+
+// Goes on along the edges of these indices that leave the state, of which a count is known.
+fn follow(
+    alloc: Global,
+    edges: &[Edge],
+    leaving: &[u32],
+    found: &mut IndexMap<State, Count>,
+    next: &mut Vec<State>,
+    state: State,
+    count: &Count,
+) -> Result<(), Memory>
+    requires { (i : ℕ) → Contains leaving.now i → i < length edges.now }
+    ensures { OnOk result (IsFollowed edges.now leaving.now found.old.entries found.new.entries next.old.items next.new.items state count.now (length leaving.now)) }
+{
+    for index in leaving {
+        let edge = &edges[*index as usize];
+        if edge.from != state {
+            continue;
+        }
+        let sum = edge.count.plus(alloc, count)?;
+        offer(found, next, edge.to, sum)?;
+    }
+    Ok(())
+}
+
+// Notes a count of a state, where none that is as small is known.
+fn offer(
+    found: &mut IndexMap<State, Count>,
+    next: &mut Vec<State>,
+    to: State,
+    count: Count,
+) -> Result<(), Memory>
+    ensures { OnOk result (IsOffered found.old.entries found.new.entries next.old.items next.new.items to count) }
+{
+    if let Some(known) = found.get(&to) {
+        if !count.is_less(known) {
+            return Ok(());
+        }
+    }
+    found.insert(to, count)?;
+    next.push(to)?;
+    Ok(())
+}

@@ -1,0 +1,5 @@
+use Rattle.rt_settle.proofs.ChosenAlike.{chosen_alike}
+use Rattle.rt_settle.proofs.laws.alike.Goals as goal
+
+pub returns : goal.returns
+returns c = chosen_alike

@@ -1,0 +1,5 @@
+use Rattle.rt_settle.proofs.ChosenAlike.{chosen_scheme}
+use Rattle.rt_settle.proofs.laws.scheme.Goals as goal
+
+pub returns : goal.returns
+returns c = chosen_scheme

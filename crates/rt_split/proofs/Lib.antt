@@ -1,5 +1,0 @@
-pub mod Parts
-pub mod There
-pub mod Back
-pub mod Placed
-pub mod Free

@@ -1,9 +1,0 @@
-use Rattle.std.proofs.Common.{IsTrue, sym, subst, ◌∙◌}
-use Rattle.std.proofs.lemmas.List.Elements.{All-push}
-use Rattle.rt_split.specs.Splitting.{AreInterfaceLines, is_interface_line}
-use Rattle.rt_split.proofs.tests.lines.Goals as goal
-
-pub loop-text-preserved : goal.loop-text-preserved
-loop-text-preserved c =
-    subst AreInterfaceLines (sym c.in_ok-push.ensures.ok)
-    (All-push (λ line. IsTrue (is_interface_line line)) c.loop-text.lines c.in_ok-line.line c.loop-text.invariant (sym c.is_interface_line.ensures ∙ c.if-not-is_interface_line.false))

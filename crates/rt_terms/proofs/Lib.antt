@@ -1,4 +1,0 @@
-pub mod Signs
-pub mod Equal
-pub mod NameLists
-pub mod OrderCells
