@@ -5,3 +5,5 @@ mod Ranging
 mod Operating
 mod Transferred
 mod Read
+pub mod Asked
+pub mod Uniqueness

@@ -36,12 +36,12 @@ kind_in_range object count kind.Return h = tt
 kind_in_range object count kind.Stop h = tt
 
 pub procs_lem : IsLawOfSteps → IsLawOfCallees → IsLawOfProcs
-procs_lem steps callees object procs linkable are k d less =
+procs_lem steps callees object ends procs linkable are k d less =
     let proc = get_or procs k d in
     record {
       rising = (are.each k d less).rising;
-      closed = steps object procs are k d less;
-      in_range = λ j e within. kind_in_range object (length procs) (get_or proc.sites j e).kind (callees object procs linkable are k d less j e within).0;
+      closed = steps object ends procs are k d less;
+      in_range = λ j e within. kind_in_range object (length procs) (get_or proc.sites j e).kind (callees object ends procs linkable are k d less j e within).0;
     }
 
 abbrev IsRegister : ℕ → Type 0

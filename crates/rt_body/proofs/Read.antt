@@ -1,6 +1,7 @@
 -- A body that was read is what is known of its procedure.
-use Rattle.std.proofs.Common.{◌≡◌, ℕ, ◌+◌, ◌<◌, pos, List, [], length, map, refl, sym, ap, subst, ◌∙◌, arith}
+use Rattle.std.proofs.Common.{◌≡◌, ℕ, ◌+◌, ◌<◌, ◌≤◌, ◌⊎◌, inl, inr, pos, List, [], length, map, refl, sym, ap, subst, ◌∙◌, arith}
 use Rattle.std.specs.Prelude.{All, Contains}
+use Rattle.std.proofs.lemmas.Bool.{cases_lt}
 use Rattle.std.proofs.lemmas.List.{length-map}
 use Rattle.std.proofs.lemmas.List.Elements.{All-contains}
 use Rattle.rt_elf.specs.Parts.{Parts as Object}
@@ -8,29 +9,32 @@ use Rattle.rt_link.specs.declared.place.Place.{Place}
 use Rattle.rt_proc.specs.declared.proc.Proc.{Proc}
 use Rattle.rt_proc.specs.declared.site.Site.{Site}
 use Rattle.rt_proc.specs.Procs.{places_of}
-use Rattle.rt_flow.specs.declared.def.Def.{Def}
 use Rattle.rt_flow.specs.declared.def.Def.TheVariants.{At}
 use Rattle.rt_flow.specs.declared.reach.Reach.{Reach}
-use Rattle.rt_flow.specs.Bodies.{Body, Defines, AreReaching, IsBody}
+use Rattle.rt_flow.specs.Bodies.{Body as Graph, Defines, AreReaching}
 use Rattle.rt_flow.specs.Reaching.{IsReachOf}
 use Rattle.rt_flow.specs.Sources.{defs_in}
+use Rattle.rt_track.specs.declared.op.Op.TheVariants.{Own}
 use Rattle.rt_track.specs.declared.ops.Ops.{Ops}
-use Rattle.rt_track.specs.declared.values.Values.{Values}
-use Rattle.rt_track.specs.Candidates.{Use, Definition}
+use Rattle.rt_track.specs.declared.value.Value.TheVariants as value
+use Rattle.rt_track.specs.Candidates.{Use, Definition, IsCandidate, IsValue}
 use Rattle.rt_track.specs.Operations.{op_in}
 use Rattle.rt_track.specs.Told.{value_at, value_of}
 use Rattle.rt_track.specs.Tracked.{AreValuesOf}
 use Rattle.rt_body.specs.declared.action.Action.{Action}
 use Rattle.rt_body.specs.declared.action.Action.TheVariants as action
+use Rattle.rt_body.specs.declared.body.Body.{Body}
 use Rattle.rt_body.specs.Actions.{actions_of, defined_by, site_action}
 use Rattle.rt_body.specs.Readable.{IsReadable}
-use Rattle.rt_body.specs.Readings.{number_at, edges_from, definitions_from, flow_body, register_body, action_at, op_at, Reading}
+use Rattle.rt_body.specs.Readings.{number_at, edges_from, definitions_from, flow_body, register_body, action_at, op_at}
 use Rattle.rt_body.specs.Parts.{AreParts}
 use Rattle.rt_body.specs.Right.{IsReading}
+use Rattle.rt_body.specs.Told.{reading_of, use_value, definition_value}
+use Rattle.rt_body.proofs.Asked.{use_within, use_beyond, definition_within, definition_beyond, reaching_within_body, reaching_beyond}
 use Rattle.rt_body.proofs.Numbering.{defined_at, edges_within, number_within}
 use Rattle.rt_body.proofs.Operating.{defining_within}
 use Rattle.rt_body.proofs.Ranging.{actions_registers, op_registers}
-use Rattle.rt_body.proofs.Transferred.{value_transferred}
+use Rattle.rt_body.proofs.Transferred.{own_value, value_transferred}
 
 module _ (proc : Proc) (readable : IsReadable proc) (places : List Place) (count : ℕ) (are : places ≡ places_of proc.sites) (counted : count ≡ length proc.sites) where
   long : length places ≡ count
@@ -79,27 +83,46 @@ module _ (actions : List Action) (entry : ℕ) (edges : List (ℕ × ℕ)) where
       → (s r d : ℕ) → s < length actions → Contains (defs_in reach s (pos r)) (At d) → d < length actions
   reaching_within reach told s r d less there = defining_within actions d r (defining d r (((told s r less).reaching (At d)).0 there).0)
 
-  module _ (object : Object) (proc : Proc) (reach : Reach) (ops : Ops) (values : Values) (are_parts : AreParts object proc actions entry edges) (of : IsReachOf (flow_body actions entry edges) reach)
-      (told : (s r : ℕ) → s < length actions → AreReaching (flow_body actions entry edges) (pos r) s (defs_in reach s (pos r)))
-      (same : (s r : ℕ) → Contains (defined_by (action_at actions s)) r → op_in ops s r ≡ op_at actions s r) (are : AreValuesOf reach ops values) where
-    agree : (s r : ℕ) → Defines (flow_body actions entry edges) s (pos r) → op_in ops s r ≡ op_at actions s r
-    agree s r defines = same s r (defining s r defines)
+module _ (body : Body) (object : Object) (proc : Proc) (ops : Ops) (are_parts : AreParts object proc body.actions body.entry body.edges)
+    (of : IsReachOf (flow_body body.actions body.entry body.edges) body.reach)
+    (told : (s r : ℕ) → s < length body.actions → AreReaching (flow_body body.actions body.entry body.edges) (pos r) s (defs_in body.reach s (pos r)))
+    (same : (s r : ℕ) → Contains (defined_by (action_at body.actions s)) r → op_in ops s r ≡ op_at body.actions s r)
+    (rest : (s r : ℕ) → (Contains (defined_by (action_at body.actions s)) r → ⊥) → op_in ops s r ≡ Own) (are : AreValuesOf body.reach ops body.values) where
+  abbrev graph : Graph
+  graph = flow_body body.actions body.entry body.edges
 
-    pub is_reading : IsReading object proc (record {
-      actions = actions;
-      body = flow_body actions entry edges;
-      value_at = λ s r. value_at values s r;
-      value_of = λ s r. value_of values s r;
-      reaching = λ s r. defs_in reach s (pos r);
-    })
-    is_reading = record {
-      actions = are_parts.acting;
-      body = are_parts.flowing;
-      is_body = of.is_body;
-      value_at = λ s r less register. value_transferred (flow_body actions entry edges) (op_in ops) (op_at actions) agree (Use s r) tt (value_at values s r) (are.uses (flow_body actions entry edges) of s r less register);
-      value_of = λ s r defines.
-          let less = defining_within actions s r defines in
-          let register : r < 32 = All-contains (λ n. n < 32) (defined_by (action_at actions s)) r (op_registers (action_at actions s) (are_parts.ranged s action.Pass less)).defined defines in
-          value_transferred (flow_body actions entry edges) (op_in ops) (op_at actions) agree (Definition (At s) r) (same s r defines) (value_of values s r) (are.definitions (flow_body actions entry edges) of s r less register);
-      reaching = λ s r less register. told s r less;
-    }
+  agree : (s r : ℕ) → Defines graph s (pos r) → op_in ops s r ≡ op_at body.actions s r
+  agree s r defines = same s r (defining body.actions body.entry body.edges s r defines)
+
+  used : (s r : ℕ) → s < length body.actions → r < 32 → IsValue (IsCandidate graph (op_at body.actions) (Use s r)) (use_value body s r)
+  used s r less few =
+      subst (IsValue (IsCandidate graph (op_at body.actions) (Use s r))) (sym (use_within body s r less few))
+      (value_transferred graph (op_in ops) (op_at body.actions) agree (Use s r) tt (value_at body.values s r) (are.uses graph of s r less few))
+
+  given : (s r : ℕ) → Contains (defined_by (action_at body.actions s)) r → IsValue (IsCandidate graph (op_at body.actions) (Definition (At s) r)) (definition_value body s r)
+  given s r defines =
+      let less = defining_within body.actions s r defines in
+      let few : r < 32 = All-contains (λ n. n < 32) (defined_by (action_at body.actions s)) r (op_registers (action_at body.actions s) (are_parts.ranged s action.Pass less)).defined defines in
+      subst (IsValue (IsCandidate graph (op_at body.actions) (Definition (At s) r))) (sym (definition_within body s r less few))
+      (value_transferred graph (op_in ops) (op_at body.actions) agree (Definition (At s) r) (same s r defines) (value_of body.values s r) (are.definitions graph of s r less few))
+
+  not_given : (s r : ℕ) → (Contains (defined_by (action_at body.actions s)) r → ⊥) → definition_value body s r ≡ value.At s r (pos 0)
+  not_given s r none = by (cases_lt s (length body.actions)) (cases_lt r 32)
+    where
+      by : (s < length body.actions) ⊎ (length body.actions ≤ s) → (r < 32) ⊎ (32 ≤ r) → definition_value body s r ≡ value.At s r (pos 0)
+      by (inl less) (inl few) = definition_within body s r less few ∙ own_value graph (op_in ops) s r (rest s r none) (value_of body.values s r) (are.definitions graph of s r less few)
+      by (inl less) (inr many) = definition_beyond body s r (λ h few. omega (arith, few, many))
+      by (inr past) other = definition_beyond body s r (λ less few. omega (arith, less, past))
+
+  pub is_reading : IsReading object proc (reading_of body)
+  is_reading = record {
+    actions = are_parts.acting;
+    body = are_parts.flowing;
+    is_body = of.is_body;
+    value_at = used;
+    value_of = given;
+    reaching = λ s r less. subst (AreReaching graph (pos r) s) (sym (reaching_within_body body s r less)) (told s r less);
+    value_at_else = use_beyond body;
+    value_of_else = not_given;
+    reaching_else = reaching_beyond body;
+  }

@@ -1,10 +1,13 @@
 -- Candidates by operations that agree where registers are defined.
-use Rattle.std.proofs.Common.{◌≡◌, ℕ, pos, inl, inr, sym, ◌∙◌}
+use Rattle.std.proofs.Common.{◌≡◌, ℕ, pos, inl, inr, Bool, true, false, refl, sym, ap, ◌∙◌}
+use Rattle.std.proofs.lemmas.Bool.{false≢true}
 use Rattle.rt_flow.specs.declared.def.Def.{Def}
 use Rattle.rt_flow.specs.declared.def.Def.TheVariants as def
 use Rattle.rt_flow.specs.Bodies.{Body, Defines, Reaches}
 use Rattle.rt_track.specs.declared.op.Op.{Op}
+use Rattle.rt_track.specs.declared.op.Op.TheVariants as op
 use Rattle.rt_track.specs.declared.value.Value.{Value}
+use Rattle.rt_track.specs.declared.value.Value.TheVariants as value
 use Rattle.rt_track.specs.Candidates.{Node, Use, Definition, IsCandidate, IsValue}
 use Rattle.rt_track.specs.Candidates.IsCandidate.{of_zero, of_reaching, of_entry, of_own, of_const, of_sym, of_add_i, of_add, of_several}
 
@@ -44,3 +47,20 @@ pub value_transferred : (body : Body) (ops others : ℕ → ℕ → Op) → ((s 
 value_transferred body ops others same n agrees v is =
     value_by (IsCandidate body ops n) (IsCandidate body others n) (λ w c. transferred body ops others same n w agrees c)
     (λ w c. transferred body others ops (λ s r defines. sym (same s r defines)) n w (reversed ops others n agrees) c) v is
+
+abbrev is_own : Op → Bool
+is_own op.Own = true
+is_own other = false
+
+-- a definition without an operation has a value of its own
+module _ (body : Body) (ops : ℕ → ℕ → Op) (s r : ℕ) (own : ops s r ≡ op.Own) where
+  own_only : {v : Value} → IsCandidate body ops (Definition (def.At s) r) v → v ≡ value.At s r (pos 0)
+  own_only (of_own e) = refl
+  own_only (of_const e) = absurd (false≢true (ap is_own (sym e ∙ own)))
+  own_only (of_sym e) = absurd (false≢true (ap is_own (sym e ∙ own)))
+  own_only (of_add_i e c) = absurd (false≢true (ap is_own (sym e ∙ own)))
+  own_only (of_add e c b) = absurd (false≢true (ap is_own (sym e ∙ own)))
+  own_only (of_several {v = v} {w = w} c b apart) = absurd (apart (own_only c ∙ sym (own_only b)))
+
+  pub own_value : (v : Value) → IsValue (IsCandidate body ops (Definition (def.At s) r)) v → v ≡ value.At s r (pos 0)
+  own_value v is = is.of_sole (value.At s r (pos 0)) (record { candidate = of_own own; only = λ w c. own_only c })

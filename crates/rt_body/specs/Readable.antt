@@ -1,5 +1,5 @@
 -- What is known of a procedure of an object.
-use Rattle.std.specs.Prelude.{◌<◌, All, List}
+use Rattle.std.specs.Prelude.{ℕ, ◌<◌, All, List}
 use Rattle.rt_elf.specs.Parts.{Parts as Object}
 use Rattle.rt_elf.specs.Object.{IsLinkable}
 use Rattle.rt_insn.specs.Range.{HasRange}
@@ -27,9 +27,10 @@ pub record IsReadable (proc : Proc) : Type 0 where
   pub closed : IsClosed proc
   pub in_range : All (λ (site : Site). IsKindInRange site.kind) proc.sites
 
--- so is each procedure of an object
+-- so is each procedure of an object, whatever undefined symbols end paths
 abbrev pub IsLawOfProcs : Type 0
-IsLawOfProcs = (object : Object) (procs : List Proc) → IsLinkable object → AreProcs object procs → All IsReadable procs
+IsLawOfProcs =
+    (object : Object) (ends : List ℕ) (procs : List Proc) → IsLinkable object → AreProcs object ends procs → All IsReadable procs
 
 -- the registers that an action computes with and those that it defines are x0 to x31
 pub record HasOpRegisters (action : Action) : Type 0 where

@@ -192,7 +192,8 @@ pub(crate) fn actions(
     symbols: &Symbols,
     sites: &[Site],
 ) -> Result<Sequence<Action>, Memory>
-    ensures { IfOk result (λ actions. (object : Object) → AreLinksOf object links.now → AreSymbolsOf object symbols.now → actions ≡ map (site_action object) sites.now) }
+    ensures { IfOk result (λ actions. (object : Object) → AreLinksOf object links.now → AreSymbolsOf object symbols.now
+        → actions ≡ map (site_action object) sites.now) }
 {
     let mut actions = Sequence::new(alloc);
     for site in sites {

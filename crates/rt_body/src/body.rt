@@ -31,7 +31,8 @@ pub struct Body {
     pub(crate) values: Values,
     ghost is_body: { IsBody (flow_body actions entry edges) },
     ghost reached: { reach_sites reach ≡ length actions },
-    ghost within: { (site register d : ℕ) → site < length actions → Contains (defs_in reach site (pos register)) (At d) → d < length actions },
+    ghost within: { (site register d : ℕ) → site < length actions
+        → Contains (defs_in reach site (pos register)) (At d) → d < length actions },
     ghost valued: { value_sites values ≡ length actions },
     ghost named: { All HasRegisters actions } by { HaveRegisters-prop actions },
 }

@@ -63,7 +63,8 @@ pub(crate) fn reach_of(
     requires edges { All (λ e. (e.0 < length actions.now) × (e.1 < length actions.now)) edges.now }
     ensures of { IfOk result (IsReachOf (flow_body actions.now entry edges.now)) }
     ensures sites { IfOk result (λ reach. sites_of reach ≡ length actions.now) }
-    ensures told { IfOk result (λ reach. (site register : ℕ) → site < length actions.now → AreReaching (flow_body actions.now entry edges.now) (pos register) site (defs_in reach site (pos register))) }
+    ensures told { IfOk result (λ reach. (site register : ℕ) → site < length actions.now
+        → AreReaching (flow_body actions.now entry edges.now) (pos register) site (defs_in reach site (pos register))) }
 {
     let mut graph = graph_of(alloc, actions.len() as u32, entry, edges)?;
     define(alloc, &mut graph, actions)?;

@@ -18,6 +18,7 @@ fn set_each(ops: &mut Ops, site: u32, registers: &[u8], op: Op) -> Result<(), Me
     requires named { NamesRegisters op }
     ensures sites { OnOk result (ops_sites ops.new ≡ ops_sites ops.old) }
     ensures given { OnOk result ((r : ℕ) → Contains registers.now r → op_in ops.new site r ≡ op) }
+    ensures rest { OnOk result ((r : ℕ) → (Contains registers.now r → ⊥) → op_in ops.new site r ≡ op_in ops.old site r) }
     ensures others { OnOk result ((s r : ℕ) → (s ≡ site → ⊥) → op_in ops.new s r ≡ op_in ops.old s r) }
 {
     for register in registers {
@@ -33,6 +34,7 @@ fn set_defined(alloc: Global, ops: &mut Ops, site: u32, action: Action) -> Resul
     requires own { (r : ℕ) → op_in ops.old site r ≡ Op.Own }
     ensures sites { OnOk result (ops_sites ops.new ≡ ops_sites ops.old) }
     ensures given { OnOk result ((r : ℕ) → Contains (defined_by action) r → op_in ops.new site r ≡ op_of action) }
+    ensures rest { OnOk result ((r : ℕ) → (Contains (defined_by action) r → ⊥) → op_in ops.new site r ≡ Op.Own) }
     ensures others { OnOk result ((s r : ℕ) → (s ≡ site → ⊥) → op_in ops.new s r ≡ op_in ops.old s r) }
 {
     match action.op() {
@@ -47,6 +49,7 @@ pub(crate) fn operations(alloc: Global, actions: &[Action]) -> Result<Ops, Memor
     requires registers { All HasOpRegisters actions.now }
     ensures sites { IfOk result (λ ops. ops_sites ops ≡ length actions.now) }
     ensures same { IfOk result (λ ops. (s r : ℕ) → Contains (defined_by (action_at actions.now s)) r → op_in ops s r ≡ op_at actions.now s r) }
+    ensures rest { IfOk result (λ ops. (s r : ℕ) → (Contains (defined_by (action_at actions.now s)) r → ⊥) → op_in ops s r ≡ Op.Own) }
 {
     let mut ops = Ops::new(alloc, actions.len() as u32)?;
     for (site, action) in actions.iter().enumerate() {

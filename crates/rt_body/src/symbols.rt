@@ -48,7 +48,8 @@ fn place_of(symbol: &Symbol) -> Place
 fn first_at(firsts: &mut BTreeMap<Place, u32>, place: Place, index: u32) -> Result<u32, Memory>
     ensures first { IfOk result (λ first. first ≡ unwrap_or (get place_cmp firsts.old place) index) }
     ensures noted { OnOk result ((other : Place)
-        → get place_cmp firsts.new other ≡ option_or (get place_cmp firsts.old other) (if is_place place other then Option.Some index else None)) }
+        → get place_cmp firsts.new other
+        ≡ option_or (get place_cmp firsts.old other) (if is_place place other then Option.Some index else None)) }
 {
     if let Some(first) = firsts.get(&place) {
         return Ok(*first);

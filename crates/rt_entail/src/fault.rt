@@ -9,7 +9,7 @@ use std::alloc::AllocError;
 pub enum EntailFault {
     /// A line of the text is bad. The number is that of the byte at which the first bad line begins, from 0.
     BadLine(u32),
-    /// The judgement is none that is read, which are those of the form `var X`.
+    /// The judgement's text is that of no judgement.
     BadJudgement,
     /// There is no memory.
     Memory,

@@ -1,6 +1,7 @@
 -- A frame is that of its body.
-use Rattle.std.proofs.Common.{◌≡◌, ◌<◌, ◌↔◌, ℕ, ℤ, List, length, sym, ap, subst, ◌∙◌, arith}
+use Rattle.std.proofs.Common.{◌≡◌, ◌<◌, ◌≤◌, ◌↔◌, ℕ, ℤ, List, [], cond, length, sym, ap, subst, ◌∙◌, arith}
 use Rattle.std.specs.Prelude.{Contains}
+use Rattle.std.proofs.lemmas.Bool.{le-ltb, lt-ltb}
 use Rattle.std.proofs.lemmas.List.Elements.{All-contains}
 use Rattle.rt_flow.specs.declared.def.Def.TheVariants.{At}
 use Rattle.rt_flow.specs.declared.reach.Reach.{Reach}
@@ -10,6 +11,16 @@ use Rattle.rt_flow.specs.Sources.{defs_in}
 use Rattle.rt_body.specs.Readings.{Reading}
 use Rattle.rt_liveness.specs.declared.call.Call.{Call}
 use Rattle.rt_frame.specs.Frames.{AreRising, Layout, IsFrameOf, IsSaved, IsTaken, frame_body}
+use Rattle.rt_frame.specs.Told.{reaching_site}
+
+module _ (reach : Reach) (site : ℕ) (loc : ℤ) where
+  pub reaching_at : site < sites_of reach → reaching_site reach site loc ≡ defs_in reach site loc
+  unfolding reaching_site
+  reaching_at less = ap (λ b. cond b (defs_in reach site loc) []) (lt-ltb site (sites_of reach) less)
+
+  reaching_past : sites_of reach ≤ site → reaching_site reach site loc ≡ []
+  unfolding reaching_site
+  reaching_past past = ap (λ b. cond b (defs_in reach site loc) []) (le-ltb site (sites_of reach) past)
 
 module _ (graph : Body) (reach : Reach) (is : IsReachOf graph reach) (told : (site : ℕ) (loc : ℤ) → site < sites_of reach → AreReaching graph loc site (defs_in reach site loc)) where
   pub within_sites : (site d : ℕ) (loc : ℤ) → site < sites_of reach → Contains (defs_in reach site loc) (At d) → d < sites_of reach
@@ -24,13 +35,16 @@ module _ (graph : Body) (reach : Reach) (is : IsReachOf graph reach) (told : (si
   pub framed : (reading : Reading) (calls : List (List Call)) (layout : Layout) (taken saved : List ℤ) → graph ≡ frame_body reading layout → reading.body.sites ≡ length reading.actions
       → layout.taken ≡ taken → AreRising layout.taken → ((k : ℤ) → Contains taken k ↔ IsTaken reading calls k)
       → layout.saved ≡ saved → AreRising layout.saved → ((k : ℤ) → Contains saved k ↔ IsSaved reading k)
-      → IsFrameOf reading calls (record { layout = layout; reaching = λ site loc. defs_in reach site loc })
+      → IsFrameOf reading calls (record { layout = layout; reaching = λ site loc. reaching_site reach site loc })
   framed reading calls layout taken saved graph_is sites taken_is taken_rising are_taken saved_is saved_rising are_saved = record {
     taken_rising = taken_rising;
     taken = λ k. subst (λ xs. Contains xs k ↔ IsTaken reading calls k) (sym taken_is) (are_taken k);
     saved_rising = saved_rising;
     saved = λ k. subst (λ xs. Contains xs k ↔ IsSaved reading k) (sym saved_is) (are_saved k);
-    reaching = λ site loc less. subst (λ g. AreReaching g loc site (defs_in reach site loc)) graph_is (told site loc (inside site less));
+    reaching = λ site loc less.
+        subst (λ g. AreReaching g loc site (reaching_site reach site loc)) graph_is
+        (subst (AreReaching graph loc site) (sym (reaching_at reach site loc (inside site less))) (told site loc (inside site less)));
+    reaching_else = λ site loc past. reaching_past reach site loc (omega (arith, past, sites_framed reading layout graph_is));
   }
     where
       inside : (site : ℕ) → site < length reading.actions → site < sites_of reach

@@ -8,3 +8,4 @@ mod Arguments
 mod Savings
 mod Storing
 mod Framed
+pub mod Uniqueness

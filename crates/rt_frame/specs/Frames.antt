@@ -1,5 +1,5 @@
 -- Frames: objects, saved registers, and the other bytes.
-use Rattle.std.specs.Prelude.{◌≡◌, ◌↔◌, ◌⊎◌, ℕ, zero, suc, ℤ, pos, ◌+ℤ◌, ◌-ℤ◌, ◌<ℤ◌, ◌+◌, ◌<◌, ◌&&◌, int_lt, not, Bool, false, Option, Some, None, List, [], ◌∷◌, ◌++◌, map, Contains, AllPairs, length, if◌then◌else◌}
+use Rattle.std.specs.Prelude.{◌≡◌, ◌↔◌, ◌⊎◌, ℕ, zero, suc, ℤ, pos, ◌+ℤ◌, ◌-ℤ◌, ◌<ℤ◌, ◌+◌, ◌<◌, ◌≤◌, ◌&&◌, int_lt, not, Bool, false, Option, Some, None, List, [], ◌∷◌, ◌++◌, map, Contains, AllPairs, length, if◌then◌else◌}
 use Rattle.std.specs.List.{list_any}
 use Rattle.std.specs.Ordering.{int_eq}
 use Rattle.std.specs.Int.{int_wrap, w32}
@@ -136,10 +136,11 @@ pub record Frame : Type 0 where
 abbrev pub AreRising : List ℤ → Type 0
 AreRising offsets = AllPairs (λ a b. a <ℤ b) offsets
 
--- the frame is that of a procedure of which this is known, with these calls at its sites
+-- the frame is that of a procedure of which this is known, with these calls at its sites; no definition reaches what is no site
 pub record IsFrameOf (reading : Reading) (calls : List (List Call)) (frame : Frame) : Type 0 where
   pub taken_rising : AreRising frame.layout.taken
   pub taken : (k : ℤ) → Contains frame.layout.taken k ↔ IsTaken reading calls k
   pub saved_rising : AreRising frame.layout.saved
   pub saved : (k : ℤ) → Contains frame.layout.saved k ↔ IsSaved reading k
   pub reaching : (site : ℕ) (loc : ℤ) → site < length reading.actions → AreReaching (frame_body reading frame.layout) loc site (frame.reaching site loc)
+  pub reaching_else : (site : ℕ) (loc : ℤ) → length reading.actions ≤ site → frame.reaching site loc ≡ []

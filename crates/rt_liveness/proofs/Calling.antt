@@ -61,7 +61,7 @@ module _ (object : Object) (procs : List Proc) (bodies : List Body) (signatures 
   pub in_order : (q s register : ℕ) (proc : Proc) (body : Body) → IsProcedure procs bodies q proc body → s < length proc.sites → register < 32 → AllPairs Precedes ((reading_of body).reaching s register)
   in_order q s register proc body is less few =
       let each = site_each q proc body is in
-      ((reading_is q proc body is).reaching s register (omega arith) few).in_order
+      ((reading_is q proc body is).reaching s register (omega arith)).in_order
 
   module _ (interface : Interface) (laws : KnownCallees object procs bodies signatures interface.named.items) (is_interface : IsInterface object procs bodies signatures interface) where
     abbrev here : Program
@@ -113,6 +113,8 @@ module _ (object : Object) (procs : List Proc) (bodies : List Body) (signatures 
         pub call_is : (IsTrue plain ↔ IsPlainJump object site.place) → IsCallOf here q s site.place one call
         call_is is_plain = record {
           called = found.called;
+          takes_each = found.takes_each;
+          gives_each = ap length found.gives;
           takes = λ register. (takes_to register, takes_from register);
           gives = λ r. subst (λ (gs : List Bool). (get_or gs r false ≡ true) ↔ Gives here one r) (sym found.gives) (gives_both r);
           is_plain = subst (λ (b : Bool). IsTrue b ↔ IsPlainJump object site.place) (sym found.plain) is_plain;

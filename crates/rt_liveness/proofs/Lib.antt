@@ -1,4 +1,5 @@
 pub mod Adding
+pub mod Ending
 pub mod Following
 pub mod Pairing
 pub mod Meeting
@@ -7,3 +8,4 @@ pub mod Taking
 pub mod Rules
 pub mod Plain
 pub mod Calling
+pub mod Uniqueness

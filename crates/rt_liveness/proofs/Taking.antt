@@ -1,13 +1,11 @@
 -- What follows from the rules of what procedures take is what they take.
-use Rattle.std.proofs.Common.{◌≡◌, ℕ, zero, suc, ◌+◌, ◌-◌, ◌<◌, ◌≤◌, ◌⊎◌, ◌↔◌, inl, inr, Bool, true, false, ◌==◌, ◌&&◌, ◌||◌, not, nat_le, Option, Some, None, List, [], ◌∷◌, Contains, All, AllPairs, length, map, get_or, slice_get, refl, sym, ap, subst, ◌∙◌, arith}
+use Rattle.std.proofs.Common.{◌≡◌, ℕ, zero, suc, ◌+◌, ◌-◌, ◌<◌, ◌≤◌, ◌⊎◌, inl, inr, Bool, true, false, ◌&&◌, ◌||◌, not, nat_le, Option, Some, None, List, [], ◌∷◌, Contains, AllPairs, length, get_or, slice_get, refl, sym, ap, subst, ◌∙◌, arith}
 use Rattle.std.specs.List.{list_any}
-use Rattle.std.proofs.lemmas.Bool.{true≢false}
+use Rattle.std.proofs.lemmas.Bool.{true≢false, lt-ltb, ltb-true}
 use Rattle.std.proofs.lemmas.Bool.Decides.{leb_tells}
 use Rattle.std.proofs.lemmas.List.Elements.{All-contains, Contains-append_cases}
 use Rattle.std.proofs.lemmas.Option.{slice_get-get_or, slice_get_within}
 use Rattle.rt_rules.proofs.Lists.{Contains-none, Contains-here, Contains-cons_cases}
-use Rattle.rt_lines.specs.declared.label.Loc.TheVariants.{Arg}
-use Rattle.rt_lines.specs.declared.label.Label.TheVariants.{In}
 use Rattle.rt_elf.specs.Parts.{Parts as Object}
 use Rattle.rt_flow.specs.declared.def.Def.{Def}
 use Rattle.rt_flow.specs.declared.def.Def.TheVariants.{Entry, At}
@@ -30,15 +28,15 @@ use Rattle.rt_liveness.specs.declared.rule.Rule.{Rule}
 use Rattle.rt_liveness.specs.declared.rule.When.{When}
 use Rattle.rt_liveness.specs.declared.rule.When.TheVariants.{Never, Always, If}
 use Rattle.rt_liveness.specs.Closures.{Follows, is_met}
-use Rattle.rt_liveness.specs.Conditions.{port_of, begins_with_entry, is_among, is_own, is_own_at, is_real, is_real_at, is_return, returns_real, takes_named, takes_of, when_given, when_taken, when_written, when_true}
+use Rattle.rt_liveness.specs.Conditions.{port_of, begins_with_entry, is_among, is_own, is_own_at, is_real, is_real_at, is_return, returns_real, takes_named, takes_of, when_taken, when_written, when_true}
 use Rattle.rt_liveness.specs.Gives.{Gives, HasReal, result_register}
 use Rattle.rt_liveness.specs.GivesRules.{IsProcedure, AreAllRules as AreGivesRules}
 use Rattle.rt_liveness.specs.Interfaces.{IsClosure}
-use Rattle.rt_liveness.specs.Programs.{Program, IsSiteOf, callees_of, called_by, is_call, signature_at, IsSigned}
+use Rattle.rt_liveness.specs.Programs.{Program, callees_of, called_by, is_call, signature_at, args_at}
 use Rattle.rt_liveness.specs.Reads.{reads_of}
-use Rattle.rt_liveness.specs.Signed.{AreNamed, names_argument}
+use Rattle.rt_liveness.specs.Signed.{AreNamed, names_argument, counts_argument}
 use Rattle.rt_liveness.specs.Takes.{Taker, Takes, ReachesSite, IsPassed, is_argument}
-use Rattle.rt_liveness.specs.TakesRules.{IsReadRule, AreTakenRules, AreRegisterRules, AreRegistersRules, AreAllRules}
+use Rattle.rt_liveness.specs.TakesRules.{IsReadRule, AreTakenRules, AreRegisterRules, AreAllRules}
 use Rattle.rt_liveness.specs.Told.{program_of}
 use Rattle.rt_liveness.proofs.Giving.{KnownCallees, HasBody, site_of, body_of, same_proc, known_site, known_callee, written_own, found_given, given_found}
 use Rattle.rt_liveness.proofs.Meeting.{Holds, holds_of, met, holds_true, true_holds, any_some, some_any, among, cases_or, cases_and, both_true, first_true, second_true, return_kind}
@@ -104,14 +102,18 @@ module _ (object : Object) (procs : List Proc) (bodies : List Body) (signatures 
   abbrev here : Program
   here = program_of object procs bodies signatures
 
-  -- the function of a symbol takes what its signature names
-  named_takes : (symbol n : ℕ) → symbol < length object.symbols → n < 8 → takes_named named symbol n ≡ names_argument (signature_at here symbol) n
+  -- whether the signature of a symbol names or counts an argument
+  abbrev is_said : ℕ → ℕ → Bool
+  is_said symbol n = names_argument (signature_at here symbol) n || counts_argument (args_at here symbol) n
+
+  -- the function of a symbol takes what its signature names or counts
+  named_takes : (symbol n : ℕ) → symbol < length object.symbols → n < 8 → takes_named named symbol n ≡ is_said symbol n
   named_takes symbol n known few = by (slice_get named symbol) refl
     where
       nobody : Named
       nobody = record { takes = []; gives = [] }
 
-      by : (o : Option Named) → slice_get named symbol ≡ o → takes_of (slice_get named symbol) n ≡ names_argument (signature_at here symbol) n
+      by : (o : Option Named) → slice_get named symbol ≡ o → takes_of (slice_get named symbol) n ≡ is_said symbol n
       by None e =
           let long : length named ≡ length object.symbols = are_named.one_each in
           let there = slice_get-get_or named symbol nobody (omega arith) in
@@ -122,9 +124,24 @@ module _ (object : Object) (procs : List Proc) (bodies : List Body) (signatures 
   abbrev Taken : Port → Type 0
   Taken port = Takes here (Taker.Procedure port.procedure) port.register
 
-  signed_sound : (q s symbol n : ℕ) (o : Option Scheme) → n < 8 → signature_at here symbol ≡ o → names_argument o n ≡ true → Takes here (Taker.CalleeAt q s (callee.Extern symbol)) (10 + n)
-  signed_sound q s symbol n None few is e = absurd (true≢false (sym e))
-  signed_sound q s symbol n (Some scheme) few is e = Takes.by_signature (omega arith) (scheme, is, e)
+  names_sound : (q s symbol n : ℕ) (o : Option Scheme) → n < 8 → signature_at here symbol ≡ o → names_argument o n ≡ true → Takes here (Taker.CalleeAt q s (callee.Extern symbol)) (10 + n)
+  names_sound q s symbol n None few is e = absurd (true≢false (sym e))
+  names_sound q s symbol n (Some scheme) few is e = Takes.by_signature (omega arith) (scheme, is, e)
+
+  counts_sound : (q s symbol n : ℕ) (o : Option ℕ) → n < 8 → args_at here symbol ≡ o → counts_argument o n ≡ true → Takes here (Taker.CalleeAt q s (callee.Extern symbol)) (10 + n)
+  counts_sound q s symbol n None few is e = absurd (true≢false (sym e))
+  counts_sound q s symbol n (Some count) few is e = Takes.by_count (omega arith) (count, is, ltb-true n count e)
+
+  signed_sound : (q s symbol n : ℕ) → n < 8 → is_said symbol n ≡ true → Takes here (Taker.CalleeAt q s (callee.Extern symbol)) (10 + n)
+  signed_sound q s symbol n few e = elim (cases_or (names_argument (signature_at here symbol) n) (counts_argument (args_at here symbol) n) e) [
+    | inl names ↦ names_sound q s symbol n (signature_at here symbol) few refl names
+    | inr counts ↦ counts_sound q s symbol n (args_at here symbol) few refl counts
+  ]
+
+  said_taken : (symbol n : ℕ) → symbol < length object.symbols → n < 8 → is_said symbol n ≡ true → takes_named named symbol (10 + n - 10) ≡ true
+  said_taken symbol n known less is =
+      let number : n ≡ 10 + n - 10 = omega arith in
+      subst (λ (k : ℕ). takes_named named symbol k ≡ true) number (named_takes symbol n known less ∙ is)
 
   -- a callee takes what its condition says
   taken_sound : (q s : ℕ) (proc : Proc) (body : Body) (site : Site) → IsProcedure procs bodies q proc body → slice_get proc.sites s ≡ Some site → (one : Callee) → IsCallee object (length procs) one
@@ -133,7 +150,7 @@ module _ (object : Object) (procs : List Proc) (bodies : List Body) (signatures 
   taken_sound q s proc body site is at (callee.Extern symbol) known register argument h =
       let number = argument_number register argument in
       subst (Takes here (Taker.CalleeAt q s (callee.Extern symbol))) number.0
-      (signed_sound q s symbol (register - 10) (signature_at here symbol) number.1 refl
+      (signed_sound q s symbol (register - 10) number.1
       (sym (named_takes symbol (register - 10) known.is_symbol number.1) ∙ holds_true Taken (takes_named named symbol (register - 10)) h))
   taken_sound q s proc body site is at (callee.Unknown through) known register argument h =
       let defs = (reading_of body).reaching s register in
@@ -335,10 +352,13 @@ module _ (object : Object) (procs : List Proc) (bodies : List Body) (signatures 
     taken_found (Taker.Procedure q) register (Takes.by_return {s = s} {r = r} {site = site} reach returns result real) = return_met q s r site reach returns result real
     taken_found (Taker.CalleeAt q s one) register (Takes.of_procedure {p = p} t) = λ proc body is known. taken_found (Taker.Procedure p) register t
     taken_found (Taker.CalleeAt q s one) register (Takes.by_signature {symbol = symbol} {n = n} few (scheme, is_signed, names)) = λ proc body is known.
-        let number : n ≡ 10 + n - 10 = omega arith in
-        let less : n < 8 = omega arith in
         true_holds (Contains taken) (takes_named named symbol (10 + n - 10))
-        (subst (λ (k : ℕ). takes_named named symbol k ≡ true) number (named_takes symbol n known.is_symbol less ∙ (ap (λ (o : Option Scheme). names_argument o n) is_signed ∙ names)))
+        (said_taken symbol n known.is_symbol (omega arith)
+        (first_true (names_argument (signature_at here symbol) n) (counts_argument (args_at here symbol) n) (ap (λ (o : Option Scheme). names_argument o n) is_signed ∙ names)))
+    taken_found (Taker.CalleeAt q s one) register (Takes.by_count {symbol = symbol} {n = n} few (count, is_counted, less)) = λ proc body is known.
+        true_holds (Contains taken) (takes_named named symbol (10 + n - 10))
+        (said_taken symbol n known.is_symbol (omega arith)
+        (second_true (names_argument (signature_at here symbol) n) (counts_argument (args_at here symbol) n) (ap (λ (o : Option ℕ). counts_argument o n) is_counted ∙ lt-ltb n count less)))
     taken_found (Taker.CalleeAt q s one) register (Takes.by_pointer argument passed) = λ proc body is known.
         let at = body_of object procs bodies signatures named q s passed.reading passed.site passed.is_site in
         let there = body_of object procs bodies signatures named q passed.d passed.reading passed.writer passed.is_writer in
@@ -357,4 +377,5 @@ takes_argument program taker register (Takes.by_callee reach there t) = reach.is
 takes_argument program taker register (Takes.by_return reach returns result real) = reach.is_argument
 takes_argument program taker register (Takes.of_procedure {p = p} t) = takes_argument program (Taker.Procedure p) register t
 takes_argument program taker register (Takes.by_signature {n = n} few signed) = number_argument n (omega arith)
+takes_argument program taker register (Takes.by_count {n = n} few counted) = number_argument n (omega arith)
 takes_argument program taker register (Takes.by_pointer argument passed) = argument

@@ -35,6 +35,8 @@ IsPlainJump object place = (link register : ℕ) × IsCode (word_of object place
 -- what is told of a call of a callee by a site of a procedure is true
 pub record IsCallOf (program : Program) (q s : ℕ) (place : Place) (callee : Callee) (call : Call) : Type 0 where
   pub called : call.callee ≡ callee
+  pub takes_each : length call.takes ≡ 8
+  pub gives_each : length call.gives ≡ 2
   pub takes : (register : ℕ) → IsTrue (takes_register call register) ↔ Takes program (CalleeAt q s callee) register
   pub gives : (r : ℕ) → IsTrue (gives_result call r) ↔ Gives program callee r
   pub is_plain : IsTrue call.is_plain ↔ IsPlainJump program.object place

@@ -1,5 +1,6 @@
 -- When procedures take and give, by what callees do.
-use Rattle.std.specs.Prelude.{ℕ, ◌+◌, ◌-◌, ◌==◌, ◌&&◌, not, nat_le, Bool, true, false, Option, Some, None, if◌then◌else◌, List, [], ◌∷◌, get_or, slice_get}
+use Rattle.std.specs.Prelude.{ℕ, ◌+◌, ◌-◌, ◌==◌, ◌&&◌, not, nat_le, Bool, true, false, Option, Some, None, if◌then◌else◌, List, [], ◌∷◌}
+use Rattle.std.specs.Prelude.{get_or, slice_get}
 use Rattle.std.specs.List.{list_any}
 use Rattle.rt_flow.specs.declared.def.Def.{Def}
 use Rattle.rt_flow.specs.declared.def.Def.TheVariants.{Entry, At}
@@ -86,7 +87,8 @@ is_return other = false
 
 -- a return reads the register of a result, of which these definitions reach it
 abbrev pub returns_real : List Port → List Named → List Site → Kind → ℕ → List Def → Bool
-returns_real given named sites kind register defs = is_return kind && (nat_le register 11 && list_any (is_real given named sites (register - 10)) defs)
+returns_real given named sites kind register defs =
+    is_return kind && (nat_le register 11 && list_any (is_real given named sites (register - 10)) defs)
 
 -- when a callee takes a register, of which these definitions reach the site that calls it
 abbrev pub when_taken : List Named → List Site → List Def → Callee → ℕ → When

@@ -31,6 +31,7 @@ pub record ArePaired {X Y : Type 0} (P : ℕ → X → Y → Type 0) (firsts : L
 -- what was found of a call of a callee by a site
 pub record IsCallFound (interface : Interface) (sites : List Site) (reaching : ℕ → ℕ → List Def) (s : ℕ) (is_plain : Bool) (callee : Callee) (call : Call) : Type 0 where
   pub called : call.callee ≡ callee
+  pub takes_each : length call.takes ≡ 8
   pub takes : (n : ℕ) → n < 8 → get_or call.takes n false ≡ is_met interface.taken.keys (when_taken interface.named.items sites (reaching s (10 + n)) callee (10 + n))
   pub gives : call.gives ≡ is_met interface.given.keys (when_given interface.named.items callee 0) ∷ is_met interface.given.keys (when_given interface.named.items callee 1) ∷ []
   pub plain : call.is_plain ≡ is_plain

@@ -25,8 +25,9 @@ pub record ReachesReturn (program : Program) (q d r : ℕ) (writer : Site) : Typ
   pub reaches : Contains (reading.reaching s (result_register r)) (At d)
   pub is_writer : IsSiteOf program q d reading writer
 
--- A callee gives a result: an instruction that is no call wrote what reaches a return, or a call did whose callee gives it, or a procedure gives
--- it in which this one goes on for good; a function outside gives what its signature names, and where it has none, or is not known, a0.
+-- A callee gives a result: an instruction that is no call wrote what reaches a return, or a call did whose callee gives it,
+-- or a procedure gives it in which this one goes on for good. An external function gives what its signature names, and where
+-- it has none, or is not known, a0.
 pub data Gives (program : Program) : Callee → ℕ → Type 0 where
   by_instruction : {q d r : ℕ} {writer : Site} → ReachesReturn program q d r writer → is_call writer.kind ≡ false → Gives program (Proc q) r
   by_call : {q d r link : ℕ} {writer : Site} {callee : Callee} → ReachesReturn program q d r writer → writer.kind ≡ kind.Call callee link
@@ -37,10 +38,12 @@ pub data Gives (program : Program) : Callee → ℕ → Type 0 where
   by_default : {symbol : ℕ} → signature_at program symbol ≡ None → Gives program (Extern symbol) 0
   by_pointer : {register : ℕ} → Gives program (Unknown register) 0
 
--- a real definition of the register of a result reaches a site: one that an instruction wrote that is no call, or a call whose callee gives it
+-- a real definition of the register of a result reaches a site: one that an instruction wrote that is no call, or a call
+-- whose callee gives it
 pub record HasReal (program : Program) (reading : Reading) (q s r : ℕ) : Type 0 where
   pub d : ℕ
   pub reaches : Contains (reading.reaching s (result_register r)) (At d)
   pub writer : Site
   pub is_writer : IsSiteOf program q d reading writer
-  pub real : (is_call writer.kind ≡ false) ⊎ ((callee : Callee) × (link : ℕ) × (writer.kind ≡ kind.Call callee link) × Gives program callee r)
+  pub real : (is_call writer.kind ≡ false)
+      ⊎ ((callee : Callee) × (link : ℕ) × (writer.kind ≡ kind.Call callee link) × Gives program callee r)

@@ -42,11 +42,13 @@ AreTailRules named q tails rule = (callee : Callee) × Contains tails callee × 
 
 -- those of a site
 abbrev pub AreSiteRules : List Named → List Site → (ℕ → ℕ → List Def) → ℕ → ℕ → Site → Rule → Type 0
-AreSiteRules named sites reaching q s site rule = AreReturnedRules named sites reaching q s site.kind rule ⊎ AreTailRules named q site.tails rule
+AreSiteRules named sites reaching q s site rule =
+    AreReturnedRules named sites reaching q s site.kind rule ⊎ AreTailRules named q site.tails rule
 
 -- those of a procedure
 abbrev pub AreGivesRules : List Named → List Site → (ℕ → ℕ → List Def) → ℕ → Rule → Type 0
-AreGivesRules named sites reaching q rule = (s : ℕ) × (s < length sites) × ((site : Site) × (slice_get sites s ≡ Some site) × AreSiteRules named sites reaching q s site rule)
+AreGivesRules named sites reaching q rule =
+    (s : ℕ) × (s < length sites) × ((site : Site) × (slice_get sites s ≡ Some site) × AreSiteRules named sites reaching q s site rule)
 
 -- a procedure and what is known of it, by its number
 pub record IsProcedure (procs : List Proc) (bodies : List Body) (q : ℕ) (proc : Proc) (body : Body) : Type 0 where
@@ -56,4 +58,6 @@ pub record IsProcedure (procs : List Proc) (bodies : List Body) (q : ℕ) (proc 
 -- those of all procedures
 abbrev pub AreAllRules : List Named → List Proc → List Body → Rule → Type 0
 AreAllRules named procs bodies rule =
-    (q : ℕ) × (q < length procs) × ((proc : Proc) × (body : Body) × IsProcedure procs bodies q proc body × AreGivesRules named proc.sites (reading_of body).reaching q rule)
+    (q : ℕ) × (q < length procs)
+    × ((proc : Proc) × (body : Body) × IsProcedure procs bodies q proc body
+    × AreGivesRules named proc.sites (reading_of body).reaching q rule)

@@ -19,7 +19,8 @@ pub record IsClosure (IsRule : Rule → Type 0) (found : List Port) : Type 0 whe
   pub follows : (port : Port) → Contains found port ↔ Follows by_rules port
 
 -- what follows from the rules of procedures, and what signatures name
-pub record IsInterface (object : Object) (procs : List Proc) (bodies : List Body) (signatures : List Signature) (interface : Interface) : Type 0 where
+pub record IsInterface (object : Object) (procs : List Proc) (bodies : List Body) (signatures : List Signature) (interface : Interface)
+    : Type 0 where
   pub are_named : AreNamed object signatures interface.named.items
   pub are_given : IsClosure (AreGivesRules interface.named.items procs bodies) interface.given.keys
   pub are_taken : IsClosure (AreTakesRules interface.given.keys interface.named.items procs bodies) interface.taken.keys

@@ -11,4 +11,5 @@ pub mod Signed
 pub mod GivesRules
 pub mod TakesRules
 pub mod Interfaces
+pub mod Ends
 pub mod Found

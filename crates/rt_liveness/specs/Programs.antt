@@ -1,5 +1,5 @@
 -- An object's procedures, what is known of their registers, and the signatures of functions outside.
-use Rattle.std.specs.Prelude.{◌≡◌, ℕ, Some, List, [], ◌∷◌, ◌++◌, Option, IsSome, Bool, true, false, Contains, slice_get, length, get_or, ◌<◌}
+use Rattle.std.specs.Prelude.{◌≡◌, ℕ, Some, List, [], ◌∷◌, ◌++◌, Option, Bool, true, false, slice_get, length, get_or, ◌<◌}
 use Rattle.rt_lines.specs.declared.label.Label.{Label}
 use Rattle.rt_elf.specs.Parts.{Parts as Object}
 use Rattle.rt_proc.specs.declared.proc.Proc.{Proc}
@@ -12,7 +12,7 @@ use Rattle.rt_body.specs.Right.{IsReading}
 use Rattle.rt_body.specs.Symbols.{symbol_of}
 use Rattle.rt_scheme.specs.declared.scheme.Scheme.{Scheme}
 use Rattle.rt_scheme.specs.Ports.{names_label}
-use Rattle.rt_sigs.specs.Signatures.{Signature, signature_of}
+use Rattle.rt_sigs.specs.Signatures.{Signature, signature_of, args_of}
 
 -- an object with its procedures, what is known of the registers of each, and signatures
 pub record Program : Type 0 where
@@ -51,6 +51,15 @@ is_call other = false
 abbrev pub signature_at : Program → ℕ → Option Scheme
 signature_at program symbol = signature_of program.signatures (symbol_of program.object symbol).name
 
+-- how many argument registers it takes, where its signature says so
+abbrev pub args_at : Program → ℕ → Option ℕ
+args_at program symbol = args_of program.signatures (symbol_of program.object symbol).name
+
 -- there is one, and it names an argument or a result
 abbrev pub IsSigned : Program → ℕ → Label → Type 0
-IsSigned program symbol label = (scheme : Scheme) × (signature_at program symbol ≡ Some scheme) × (names_label scheme.base scheme.lines label ≡ true)
+IsSigned program symbol label =
+    (scheme : Scheme) × (signature_at program symbol ≡ Some scheme) × (names_label scheme.base scheme.lines label ≡ true)
+
+-- there is one, and it says of how many argument registers from a0 on the function takes each, of which one has the number n
+abbrev pub IsCounted : Program → ℕ → ℕ → Type 0
+IsCounted program symbol n = (count : ℕ) × (args_at program symbol ≡ Some count) × (n < count)

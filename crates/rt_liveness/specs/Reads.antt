@@ -1,13 +1,17 @@
 -- The registers that instructions read.
 use Rattle.std.specs.Prelude.{ℕ, List, [], ◌∷◌}
 use Rattle.rt_insn.specs.declared.insn.Insn.{Insn}
-use Rattle.rt_insn.specs.declared.insn.Insn.TheVariants.{Lui, Auipc, Jal, Jalr, Beq, Bne, Blt, Bge, Bltu, Bgeu, Lb, Lh, Lw, Lbu, Lhu, Sb, Sh, Sw, Addi, Slti, Sltiu, Xori, Ori, Andi, Slli, Srli, Srai, Add, Sub, Sll, Slt, Sltu, Xor, Srl, Sra, Or, And, Mul, Mulh, Mulhsu, Mulhu, Div, Divu, Rem, Remu, Fence, Ecall, Ebreak}
+use Rattle.rt_insn.specs.declared.insn.Insn.TheVariants.{Lui, Auipc, Jal, Jalr, Beq, Bne, Blt, Bge, Bltu, Bgeu, Lb, Lh, Lw, Lbu, Lhu}
+use Rattle.rt_insn.specs.declared.insn.Insn.TheVariants.{Sb, Sh, Sw, Addi, Slti, Sltiu, Xori, Ori, Andi, Slli, Srli, Srai, Add, Sub}
+use Rattle.rt_insn.specs.declared.insn.Insn.TheVariants.{Sll, Slt, Sltu, Xor, Srl, Sra, Or, And, Mul, Mulh, Mulhsu, Mulhu, Div, Divu}
+use Rattle.rt_insn.specs.declared.insn.Insn.TheVariants.{Rem, Remu, Fence, Ecall, Ebreak}
 use Rattle.rt_proc.specs.declared.site.Callee.{Callee}
 use Rattle.rt_proc.specs.declared.site.Callee.TheVariants as callee
 use Rattle.rt_proc.specs.declared.site.Kind.{Kind}
 use Rattle.rt_proc.specs.declared.site.Kind.TheVariants as kind
 
--- the operands rs1 and rs2 of an instruction, where its format has them (RISC-V unprivileged ISA, "Base Instruction Formats"); those of FENCE
+-- the operands rs1 and rs2 of an instruction, where its format has them (RISC-V unprivileged ISA, "Base Instruction
+-- Formats"); those of FENCE
 -- are reserved; an instruction that writes x0 reads its operands as any other
 abbrev pub operands_of : Insn → List ℕ
 operands_of (Lui rd imm) = []
@@ -59,7 +63,8 @@ operands_of (Fence kept) = []
 operands_of Ecall = []
 operands_of Ebreak = []
 
--- the registers that a site itself reads: a call through a register reads it, a return the return address; a call of a symbol or of a place reads none
+-- the registers that a site itself reads: a call through a register reads it, a return the return address; a call of a symbol
+-- or of a place reads none
 abbrev pub reads_of : Kind → List ℕ
 reads_of (kind.Plain insn) = operands_of insn
 reads_of (kind.Call (callee.Unknown register) link) = register ∷ []

@@ -8,7 +8,7 @@ use Rattle.rt_proc.specs.declared.site.Callee.TheVariants.{Proc, Extern, Unknown
 use Rattle.rt_proc.specs.declared.site.Kind.TheVariants as kind
 use Rattle.rt_proc.specs.declared.site.Site.{Site}
 use Rattle.rt_body.specs.Readings.{Reading}
-use Rattle.rt_liveness.specs.Programs.{Program, IsSiteOf, callees_of, is_call, IsSigned}
+use Rattle.rt_liveness.specs.Programs.{Program, IsSiteOf, callees_of, is_call, IsSigned, IsCounted}
 use Rattle.rt_liveness.specs.Reads.{reads_of}
 use Rattle.rt_liveness.specs.Gives.{result_register, HasReal}
 
@@ -39,9 +39,10 @@ pub record IsPassed (program : Program) (q s register : ℕ) : Type 0 where
   pub is_writer : IsSiteOf program q d reading writer
   pub no_call : is_call writer.kind ≡ false
 
--- A procedure takes an argument register if its value at the entry reaches a site that reads it: the site itself does, or a callee takes it
--- there, or it is a return, which reads a result's register where a real definition of it reaches. A function outside takes what its signature
--- names; one that is not known takes what instructions that are no calls wrote for it.
+-- A procedure takes an argument register if its value at the entry reaches a site that reads it: the site itself does, or a
+-- callee takes it there, or it is a return, which reads a result's register where a real definition of it reaches. An external
+-- function takes what its signature names, and the registers that its signature counts; without a signature it takes nothing.
+-- One that is not known takes what instructions that are no calls wrote for it.
 pub data Takes (program : Program) : Taker → ℕ → Type 0 where
   by_instruction : {q s register : ℕ} {site : Site} → ReachesSite program q s register site → Contains (reads_of site.kind) register
       → Takes program (Procedure q) register
@@ -51,4 +52,6 @@ pub data Takes (program : Program) : Taker → ℕ → Type 0 where
       → HasReal program reaches.reading q s r → Takes program (Procedure q) (result_register r)
   of_procedure : {q s p register : ℕ} → Takes program (Procedure p) register → Takes program (CalleeAt q s (Proc p)) register
   by_signature : {q s symbol n : ℕ} → n ≤ 7 → IsSigned program symbol (In (Arg n)) → Takes program (CalleeAt q s (Extern symbol)) (10 + n)
-  by_pointer : {q s register through : ℕ} → is_argument register ≡ true → IsPassed program q s register → Takes program (CalleeAt q s (Unknown through)) register
+  by_count : {q s symbol n : ℕ} → n ≤ 7 → IsCounted program symbol n → Takes program (CalleeAt q s (Extern symbol)) (10 + n)
+  by_pointer : {q s register through : ℕ} → is_argument register ≡ true → IsPassed program q s register
+      → Takes program (CalleeAt q s (Unknown through)) register

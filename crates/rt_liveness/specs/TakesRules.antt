@@ -18,17 +18,22 @@ use Rattle.rt_liveness.specs.Reads.{reads_of}
 -- the rule of a site of a kind that reads a register itself, of which these definitions reach it
 abbrev pub IsReadRule : List Port → List Named → List Site → ℕ → Kind → ℕ → List Def → Rule → Type 0
 IsReadRule given named sites q kind register defs rule =
-    rule ≡ record { when = when_true (is_among (reads_of kind) register || returns_real given named sites kind register defs); port = port_of q register }
+    rule ≡ record {
+      when = when_true (is_among (reads_of kind) register || returns_real given named sites kind register defs);
+      port = port_of q register;
+    }
 
 -- those of callees that take it
 abbrev pub AreTakenRules : List Named → List Site → ℕ → List Callee → ℕ → List Def → Rule → Type 0
 AreTakenRules named sites q callees register defs rule =
-    (callee : Callee) × Contains callees callee × (rule ≡ record { when = when_taken named sites defs callee register; port = port_of q register })
+    (callee : Callee) × Contains callees callee
+    × (rule ≡ record { when = when_taken named sites defs callee register; port = port_of q register })
 
 -- those of both, where Entry reaches the site
 abbrev pub AreRegisterRules : List Port → List Named → List Site → ℕ → Kind → List Callee → ℕ → List Def → Rule → Type 0
 AreRegisterRules given named sites q kind callees register defs rule =
-    (begins_with_entry defs ≡ true) × (IsReadRule given named sites q kind register defs rule ⊎ AreTakenRules named sites q callees register defs rule)
+    (begins_with_entry defs ≡ true)
+    × (IsReadRule given named sites q kind register defs rule ⊎ AreTakenRules named sites q callees register defs rule)
 
 -- those of a site for all argument registers
 abbrev pub AreRegistersRules : List Port → List Named → List Site → (ℕ → ℕ → List Def) → ℕ → ℕ → Site → Rule → Type 0
@@ -38,9 +43,12 @@ AreRegistersRules given named sites reaching q s site rule =
 -- those of a procedure
 abbrev pub AreTakesRules : List Port → List Named → List Site → (ℕ → ℕ → List Def) → ℕ → Rule → Type 0
 AreTakesRules given named sites reaching q rule =
-    (s : ℕ) × (s < length sites) × ((site : Site) × (slice_get sites s ≡ Some site) × AreRegistersRules given named sites reaching q s site rule)
+    (s : ℕ) × (s < length sites)
+    × ((site : Site) × (slice_get sites s ≡ Some site) × AreRegistersRules given named sites reaching q s site rule)
 
 -- those of all procedures
 abbrev pub AreAllRules : List Port → List Named → List Proc → List Body → Rule → Type 0
 AreAllRules given named procs bodies rule =
-    (q : ℕ) × (q < length procs) × ((proc : Proc) × (body : Body) × IsProcedure procs bodies q proc body × AreTakesRules given named proc.sites (reading_of body).reaching q rule)
+    (q : ℕ) × (q < length procs)
+    × ((proc : Proc) × (body : Body) × IsProcedure procs bodies q proc body
+    × AreTakesRules given named proc.sites (reading_of body).reaching q rule)

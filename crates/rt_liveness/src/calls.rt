@@ -11,6 +11,7 @@ ghost use Rattle.rt_body.specs.Told.{reading_of, sites_in};
 ghost use Rattle.rt_liveness.specs.Programs.{IsProgram};
 ghost use Rattle.rt_liveness.specs.Calls.{AreCallsOf, HasCallRegister, IsPlainJump};
 ghost use Rattle.rt_liveness.specs.Closures.{is_met};
+ghost use Rattle.rt_liveness.specs.Ends.{ends_of};
 ghost use Rattle.rt_liveness.specs.Conditions.{when_taken};
 ghost use Rattle.rt_liveness.specs.Found.{is_plain_insn, IsCallFound, AreCallsFoundAt, AreCallsFoundIn, AreCallsFound};
 ghost use Rattle.rt_liveness.specs.Told.{program_of};
@@ -65,7 +66,8 @@ fn takes_at(
     callee: Callee,
 ) -> [bool; 8]
     requires { site < sites_in procedure.now.body.now }
-    ensures { (n : ℕ) → n < 8 → get_or result n false ≡ is_met interface.now.taken.keys (when_taken interface.now.named.items procedure.now.sites.now ((reading_of procedure.now.body.now).reaching site (10 + n)) callee (10 + n)) }
+    ensures each { length result ≡ 8 }
+    ensures takes { (n : ℕ) → n < 8 → get_or result n false ≡ is_met interface.now.taken.keys (when_taken interface.now.named.items procedure.now.sites.now ((reading_of procedure.now.body.now).reaching site (10 + n)) callee (10 + n)) }
 {
     let mut takes = [false; 8];
     for n in 0..8 {
@@ -109,7 +111,8 @@ fn calls_at(
     is_plain: bool,
 ) -> Result<Sequence<Call>, Memory>
     requires { number < sites_in procedure.now.body.now }
-    ensures { IfOk result (AreCallsFoundAt interface.now procedure.now.sites.now (reading_of procedure.now.body.now).reaching number is_plain site.now) }
+    ensures { IfOk result (AreCallsFoundAt interface.now procedure.now.sites.now
+        (reading_of procedure.now.body.now).reaching number is_plain site.now) }
 {
     let callees = callees_of(alloc, site)?;
     let mut calls = Sequence::new(alloc);
@@ -148,10 +151,12 @@ fn all_calls(
     bodies: &[Body],
     count: u32,
 ) -> Result<Sequence<Calls>, Memory>
-    requires good { (q s : ℕ) (proc : TheProc) (site : TheSite) → slice_get procs.now q ≡ Some proc → slice_get proc.sites s ≡ Some site → IsGood object.now site.place }
+    requires good { (q s : ℕ) (proc : TheProc) (site : TheSite) → slice_get procs.now q ≡ Some proc
+        → slice_get proc.sites s ≡ Some site → IsGood object.now site.place }
     requires procs { count ≡ length procs.now }
     requires bodies { count ≡ length bodies.now }
-    requires each { (q : ℕ) (proc : TheProc) (body : TheBody) → q < count → length (get_or procs.now q proc).sites ≡ sites_in (get_or bodies.now q body) }
+    requires each { (q : ℕ) (proc : TheProc) (body : TheBody) → q < count
+        → length (get_or procs.now q proc).sites ≡ sites_in (get_or bodies.now q body) }
     ensures { IfOk result (AreCallsFound object.now interface.now procs.now bodies.now) }
 {
     let mut calls = Sequence::new(alloc);
@@ -166,8 +171,10 @@ fn all_calls(
     Ok(calls)
 }
 
-/// What is known of the calls of each of an object's procedures, of which the bodies are known, where these functions outside have signatures. The
-/// error is want of memory; 2^32 procedures or more are more than there is memory for.
+/// What is known of the calls of each of an object's procedures, of which the bodies are known, where these external
+/// functions have signatures. The error is out of memory; 2^32 procedures or more are more than there is memory for.
+///
+/// Condition: the procedures were found with the list that [`ends`](crate::ends) gives for the object and these signatures.
 ///
 /// Time and memory are linear in sites and calls, but for the definitions that reach returns and calls through registers.
 pub fn calls_of(
@@ -177,7 +184,7 @@ pub fn calls_of(
     bodies: &[Body],
     sigs: &Sigs,
 ) -> Result<Sequence<Calls>, Memory>
-    requires procs { AreProcs object.now procs.now }
+    requires procs { AreProcs object.now (ends_of object.now sigs.now) procs.now }
     requires program { IsProgram (program_of object.now procs.now bodies.now sigs.now) }
     ensures calls { IfOk result (AreCallsOf (program_of object.now procs.now bodies.now sigs.now)) }
     ensures registers { IfOk result (All (All (All HasCallRegister))) }

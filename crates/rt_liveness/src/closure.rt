@@ -43,7 +43,8 @@ fn grow(alloc: Global, table: &mut Vec<Sequence<Rule>>, count: usize) -> Result<
 
 // Adds a rule to those of its premise's procedure, if it has a premise.
 fn add_rule(alloc: Global, table: &mut Vec<Sequence<Rule>>, rule: Rule) -> Result<(), Memory>
-    ensures { OnOk result ((p : ℕ) → Adds (rules_at table.old.items p) (rules_at table.new.items p) (λ other. (other ≡ rule) × IsPremise p rule)) }
+    ensures { OnOk result ((p : ℕ) → Adds (rules_at table.old.items p) (rules_at table.new.items p)
+        (λ other. (other ≡ rule) × IsPremise p rule)) }
 {
     match rule.when {
         When::If(premise) => {
@@ -57,7 +58,8 @@ fn add_rule(alloc: Global, table: &mut Vec<Sequence<Rule>>, rule: Rule) -> Resul
 
 // For each procedure the rules that have it as their premise.
 fn by_premise(alloc: Global, rules: &[Rule]) -> Result<Vec<Sequence<Rule>>, Memory>
-    ensures { IfOk result (λ table. (p : ℕ) (rule : Rule) → Contains (rules_at table.items p) rule ↔ (Contains rules.now rule × IsPremise p rule)) }
+    ensures { IfOk result (λ table. (p : ℕ) (rule : Rule)
+        → Contains (rules_at table.items p) rule ↔ (Contains rules.now rule × IsPremise p rule)) }
 {
     let mut table = Vec::new(alloc);
     for rule in rules {

@@ -6,7 +6,8 @@ ghost use Rattle.rt_body.specs.Told.{reading_of, sites_in};
 ghost use Rattle.rt_liveness.specs.declared.rule.Rule.{Rule};
 ghost use Rattle.rt_liveness.specs.Additions.{Adds};
 ghost use Rattle.rt_liveness.specs.Conditions.{when_true, when_given, when_written};
-ghost use Rattle.rt_liveness.specs.GivesRules.{IsWriterRule, AreWriterRules, AreReturnRules, AreReturnedRules, AreCalleeRules, AreTailRules, AreSiteRules, AreGivesRules, AreAllRules};
+ghost use Rattle.rt_liveness.specs.GivesRules.{IsWriterRule, AreWriterRules, AreReturnRules, AreReturnedRules, AreCalleeRules};
+ghost use Rattle.rt_liveness.specs.GivesRules.{AreTailRules, AreSiteRules, AreGivesRules, AreAllRules};
 
 use crate::named::{Named, is_given};
 use crate::procedure::Procedure;
@@ -103,7 +104,9 @@ fn add_return(
     site: u32,
 ) -> Result<(), Memory>
     requires { site < sites_in procedure.now.body.now }
-    ensures { OnOk result (Adds rules.old rules.new (AreReturnRules named.now procedure.now.sites.now (reading_of procedure.now.body.now).reaching procedure.now.number site)) }
+    ensures { OnOk result (Adds rules.old rules.new
+        (AreReturnRules named.now procedure.now.sites.now
+        (reading_of procedure.now.body.now).reaching procedure.now.number site)) }
 {
     for r in 0..2 {
         let defs = procedure.body.reaching(site, 10 + r);
@@ -121,7 +124,9 @@ fn add_returned(
     kind: Kind,
 ) -> Result<(), Memory>
     requires { site < sites_in procedure.now.body.now }
-    ensures { OnOk result (Adds rules.old rules.new (AreReturnedRules named.now procedure.now.sites.now (reading_of procedure.now.body.now).reaching procedure.now.number site kind)) }
+    ensures { OnOk result (Adds rules.old rules.new
+        (AreReturnedRules named.now procedure.now.sites.now
+        (reading_of procedure.now.body.now).reaching procedure.now.number site kind)) }
 {
     if is_return(kind) {
         add_return(rules, named, procedure, site)
@@ -175,7 +180,9 @@ fn add_site(
     site: &Site,
 ) -> Result<(), Memory>
     requires { number < sites_in procedure.now.body.now }
-    ensures { OnOk result (Adds rules.old rules.new (AreSiteRules named.now procedure.now.sites.now (reading_of procedure.now.body.now).reaching procedure.now.number number site.now)) }
+    ensures { OnOk result (Adds rules.old rules.new
+        (AreSiteRules named.now procedure.now.sites.now
+        (reading_of procedure.now.body.now).reaching procedure.now.number number site.now)) }
 {
     add_returned(rules, named, procedure, number, site.kind)?;
     add_tails(rules, named, procedure.number, site.tails.items())
@@ -187,7 +194,9 @@ fn add_procedure(
     named: &[Named],
     procedure: &Procedure<'_>,
 ) -> Result<(), Memory>
-    ensures { OnOk result (Adds rules.old rules.new (AreGivesRules named.now procedure.now.sites.now (reading_of procedure.now.body.now).reaching procedure.now.number)) }
+    ensures { OnOk result (Adds rules.old rules.new
+        (AreGivesRules named.now procedure.now.sites.now
+        (reading_of procedure.now.body.now).reaching procedure.now.number)) }
 {
     let count = procedure.body.actions().len() as u32;
     for site in 0..count {
@@ -212,7 +221,8 @@ pub(crate) fn gives_rules(
 ) -> Result<Sequence<Rule>, Memory>
     requires procs { count ≡ length procs.now }
     requires bodies { count ≡ length bodies.now }
-    requires each { (q : ℕ) (proc : TheProc) (body : TheBody) → q < count → length (get_or procs.now q proc).sites ≡ sites_in (get_or bodies.now q body) }
+    requires each { (q : ℕ) (proc : TheProc) (body : TheBody) → q < count
+        → length (get_or procs.now q proc).sites ≡ sites_in (get_or bodies.now q body) }
     ensures { IfOk result (λ rules. (rule : Rule) → Contains rules rule ↔ AreAllRules named.now procs.now bodies.now rule) }
 {
     let mut rules = Sequence::new(alloc);

@@ -40,7 +40,8 @@ pub(crate) fn interface_of(
 ) -> Result<Interface, Memory>
     requires procs { count ≡ length procs.now }
     requires bodies { count ≡ length bodies.now }
-    requires each { (q : ℕ) (proc : TheProc) (body : TheBody) → q < count → length (get_or procs.now q proc).sites ≡ sites_in (get_or bodies.now q body) }
+    requires each { (q : ℕ) (proc : TheProc) (body : TheBody) → q < count
+        → length (get_or procs.now q proc).sites ≡ sites_in (get_or bodies.now q body) }
     ensures { IfOk result (IsInterface object.now procs.now bodies.now sigs.now) }
 {
     let named = named_symbols(alloc, object, sigs)?;

@@ -6,6 +6,7 @@
 mod call;
 mod calls;
 mod closure;
+mod endings;
 mod gives;
 mod interface;
 mod named;
@@ -16,3 +17,4 @@ mod takes;
 
 pub use call::{Call, Calls};
 pub use calls::calls_of;
+pub use endings::{Numbers, ends};

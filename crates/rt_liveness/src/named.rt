@@ -1,18 +1,18 @@
-// What the signatures of functions outside name.
-ghost use Rattle.std.specs.Prelude.{◌≡◌, ◌<◌, ℕ, Some, false, IfOk, get_or};
+// What the signatures of external functions name and count.
+ghost use Rattle.std.specs.Prelude.{◌≡◌, ◌<◌, ◌||◌, ℕ, false, IfOk, get_or};
 ghost use Rattle.rt_lines.specs.declared.label.Loc.TheVariants.{Arg};
 ghost use Rattle.rt_lines.specs.declared.label.Label.TheVariants.{In, Out};
-ghost use Rattle.rt_scheme.specs.Ports.{has_port};
-ghost use Rattle.rt_sigs.specs.Signatures.{signature_of};
+ghost use Rattle.rt_scheme.specs.Ports.{names_label};
+ghost use Rattle.rt_sigs.specs.Signatures.{signature_of, args_of};
 ghost use Rattle.rt_liveness.specs.Conditions.{takes_named, gives_named};
-ghost use Rattle.rt_liveness.specs.Signed.{IsNamedBy, AreNamed};
+ghost use Rattle.rt_liveness.specs.Signed.{counts_argument, IsNamedBy, AreNamed};
 
 use rt_base::Memory;
 use rt_elf::Object;
 use rt_lines::{Label, Loc};
-use rt_scheme::{Scheme, instantiate, laws};
+use rt_scheme::Scheme;
 use rt_sigs::Sigs;
-use std::alloc::{AllocError, Global};
+use std::alloc::Global;
 
 // What the function that a symbol names takes and gives, by its signature.
 #[derive(Clone, Copy)]
@@ -23,57 +23,46 @@ pub(crate) struct Named {
     pub(crate) gives: [bool; 2],
 }
 
-// Whether a label has a port.
-fn has_port(ports: &[(Label, u32)], label: Label) -> bool
-    ensures { result ≡ has_port ports.now label }
+// Whether so many arguments have the one of a number.
+fn counts(args: Option<u8>, n: u8) -> bool
+    ensures { result ≡ counts_argument args n }
 {
-    ports.iter().any(|port| port.0 == label)
+    match args {
+        Some(count) => n < count,
+        None => false,
+    }
 }
 
-// Which argument registers have ports.
-fn arguments(ports: &[(Label, u32)]) -> [bool; 8]
-    ensures { (n : ℕ) → n < 8 → get_or result n false ≡ has_port ports.now (In (Arg n)) }
+// Which argument registers a signature names or counts.
+fn arguments(scheme: &Scheme, args: Option<u8>) -> [bool; 8]
+    ensures { (n : ℕ) → n < 8
+        → get_or result n false ≡ (names_label scheme.now.base scheme.now.lines (In (Arg n)) || counts_argument args n) }
 {
     let mut takes = [false; 8];
     for n in 0..8 {
-        takes[n] = has_port(ports, Label::In(Loc::Arg(n as u8)));
+        takes[n] = scheme.names(Label::In(Loc::Arg(n as u8))) || counts(args, n as u8);
     }
     takes
 }
 
-// What a scheme names. More than 2^31 lines are more than there is memory for.
-fn named_in(alloc: Global, scheme: &Scheme) -> Result<Named, Memory>
-    ensures { IfOk result (IsNamedBy (Some scheme.now)) }
-{
-    laws::few_are_new();
-    if scheme.lines.items().len() >= 0x8000_0000 {
-        return Err(AllocError);
-    }
-    let instance = instantiate(alloc, scheme, 0)?;
-    let ports = instance.ports.items();
-    Ok(Named {
-        takes: arguments(ports),
-        gives: [
-            has_port(ports, Label::Out(0)),
-            has_port(ports, Label::Out(1)),
-        ],
-    })
-}
-
 // What a function of a name takes and gives.
-fn named_of(alloc: Global, sigs: &Sigs, name: &[u8]) -> Result<Named, Memory>
-    ensures { IfOk result (IsNamedBy (signature_of sigs.now name.now)) }
+fn named_of(sigs: &Sigs, name: &[u8]) -> Named
+    ensures { IsNamedBy (signature_of sigs.now name.now) (args_of sigs.now name.now) result }
 {
     match sigs.find(name) {
-        Some(scheme) => named_in(alloc, scheme),
-        None => Ok(Named {
+        Some(scheme) => Named {
+            takes: arguments(scheme, sigs.args(name)),
+            gives: [scheme.names(Label::Out(0)), scheme.names(Label::Out(1))],
+        },
+        None => Named {
             takes: [false; 8],
             gives: [true, false],
-        }),
+        },
     }
 }
 
-/// What the functions that an object's symbols name take and give, by their signatures; one without a signature gives a0.
+/// What the functions that an object's symbols name take and give, by their signatures; one without a signature takes
+/// nothing and gives a0.
 pub(crate) fn named_symbols(
     alloc: Global,
     object: &Object,
@@ -84,7 +73,7 @@ pub(crate) fn named_symbols(
     let symbols = object.symbols();
     let mut named = Vec::with_capacity(alloc, symbols.len())?;
     for symbol in symbols {
-        named.push(named_of(alloc, sigs, symbol.name.items())?)?;
+        named.push(named_of(sigs, symbol.name.items()))?;
     }
     Ok(named)
 }

@@ -150,7 +150,8 @@ fn add_read(
     defs: &[Def],
 ) -> Result<(), Memory>
     requires { 10 ≤ register }
-    ensures { OnOk result (Adds rules.old rules.new (IsReadRule given.now.keys named.now procedure.now.sites.now procedure.now.number kind register defs.now)) }
+    ensures { OnOk result (Adds rules.old rules.new
+        (IsReadRule given.now.keys named.now procedure.now.sites.now procedure.now.number kind register defs.now)) }
 {
     let is_read = is_read(given, named, procedure.sites, kind, register, defs);
     rules.push(Rule {
@@ -173,7 +174,8 @@ fn add_taken(
 ) -> Result<(), Memory>
     requires low { 10 ≤ register }
     requires high { register < 18 }
-    ensures { OnOk result (Adds rules.old rules.new (AreTakenRules named.now procedure.now.sites.now procedure.now.number callees.now register defs.now)) }
+    ensures { OnOk result (Adds rules.old rules.new
+        (AreTakenRules named.now procedure.now.sites.now procedure.now.number callees.now register defs.now)) }
 {
     for callee in callees {
         rules.push(Rule {
@@ -200,7 +202,8 @@ fn add_register(
 ) -> Result<(), Memory>
     requires low { 10 ≤ register }
     requires high { register < 18 }
-    ensures { OnOk result (Adds rules.old rules.new (AreRegisterRules given.now.keys named.now procedure.now.sites.now procedure.now.number kind callees.now register defs.now)) }
+    ensures { OnOk result (Adds rules.old rules.new
+        (AreRegisterRules given.now.keys named.now procedure.now.sites.now procedure.now.number kind callees.now register defs.now)) }
 {
     if !begins_with_entry(defs) {
         return Ok(());
@@ -220,7 +223,9 @@ fn add_site(
     site: &Site,
 ) -> Result<(), Memory>
     requires { number < sites_in procedure.now.body.now }
-    ensures { OnOk result (Adds rules.old rules.new (AreRegistersRules given.now.keys named.now procedure.now.sites.now (reading_of procedure.now.body.now).reaching procedure.now.number number site.now)) }
+    ensures { OnOk result (Adds rules.old rules.new
+        (AreRegistersRules given.now.keys named.now procedure.now.sites.now
+        (reading_of procedure.now.body.now).reaching procedure.now.number number site.now)) }
 {
     let callees = callees_of(alloc, site)?;
     for n in 0..8 {
@@ -247,7 +252,9 @@ fn add_procedure(
     named: &[Named],
     procedure: &Procedure<'_>,
 ) -> Result<(), Memory>
-    ensures { OnOk result (Adds rules.old rules.new (AreTakesRules given.now.keys named.now procedure.now.sites.now (reading_of procedure.now.body.now).reaching procedure.now.number)) }
+    ensures { OnOk result (Adds rules.old rules.new
+        (AreTakesRules given.now.keys named.now procedure.now.sites.now
+        (reading_of procedure.now.body.now).reaching procedure.now.number)) }
 {
     let count = procedure.body.actions().len() as u32;
     for site in 0..count {
@@ -268,7 +275,8 @@ pub(crate) fn takes_rules(
 ) -> Result<Sequence<Rule>, Memory>
     requires procs { count ≡ length procs.now }
     requires bodies { count ≡ length bodies.now }
-    requires each { (q : ℕ) (proc : TheProc) (body : TheBody) → q < count → length (get_or procs.now q proc).sites ≡ sites_in (get_or bodies.now q body) }
+    requires each { (q : ℕ) (proc : TheProc) (body : TheBody) → q < count
+        → length (get_or procs.now q proc).sites ≡ sites_in (get_or bodies.now q body) }
     ensures { IfOk result (λ rules. (rule : Rule) → Contains rules rule ↔ AreAllRules given.now.keys named.now procs.now bodies.now rule) }
 {
     let mut rules = Sequence::new(alloc);

@@ -65,7 +65,7 @@ Agrees-settled pending old slot k new lt empty all (moves j less h is) =
 Agrees-settled pending old slot k new lt empty all (fills none is) = subst (Agrees pending old) (sym is) (Agrees-filled pending old slot k lt empty all)
 
 -- a sole use in the second slots is one in the first, where its existential is shut
-sole_before : (pending : ℕ → Bool) (first second : List (Option Line)) (at : Line → Option ℕ) → IsFound first at → Agrees pending first second → (sign : Variance) (n : ℕ) (z : Dtv) (slot : ℕ) → pending n ≡ false → IsSoleAt sign n z second slot → (i : ℕ) × IsSoleAt sign n z first i
+sole_before : (pending : ℕ → Bool) (first second : List (Option Line)) (at : ℕ → ℕ → Bool) → IsFound first at → Agrees pending first second → (sign : Variance) (n : ℕ) (z : Dtv) (slot : ℕ) → pending n ≡ false → IsSoleAt sign n z second slot → (i : ℕ) × IsSoleAt sign n z first i
 sole_before pending first second at found agrees sign n z slot shut sole = by ((agrees n (use_of sign n z) shut (use_names sign n (use_of sign n z) (use_has sign n z))).1 (slot, sole.holds))
   where
     is_use : (l : Line) → HasUse sign n l → Stands second l → l ≡ use_of sign n z
@@ -82,7 +82,7 @@ sole_before pending first second at found agrees sign n z slot shut sole = by ((
     )
 
 -- so each existential with a sole use is open, where each was, but for one that is
-pub ArePending-after : (old new : ℕ → Bool) (first second : List (Option Line)) (at : Line → Option ℕ) (v : ℕ) → IsFound first at → ((n : ℕ) → old n ≡ true → new n ≡ true) → new v ≡ true →
+pub ArePending-after : (old new : ℕ → Bool) (first second : List (Option Line)) (at : ℕ → ℕ → Bool) (v : ℕ) → IsFound first at → ((n : ℕ) → old n ≡ true → new n ≡ true) → new v ≡ true →
     ((sign : Variance) (n : ℕ) (z : Dtv) (slot : ℕ) → IsSoleAt sign n z first slot → (n ≡ v) ⊎ (old n ≡ true)) → Agrees new first second → ArePending new second
 ArePending-after old new first second at v found more own opened agrees sign n z slot sole = by (new n) refl
   where

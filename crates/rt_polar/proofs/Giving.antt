@@ -43,7 +43,7 @@ step_same n z now slot l next other h settles =
     ∙ ap deduplicated (map-replaced (moved n z) now slot l (moved n z l) h (moved-again n z other l))
 
 -- when no line names the existential any more, the lines are those moved and tidied
-pub moved_all : (n : ℕ) (z : Dtv) (first last : List (Option Line)) (at : Line → Option ℕ) → IsFound last at → ((i : ℕ) (l : Line) → Holds last i l → without_self l ≡ l) → ((i : ℕ) (l : Line) → Holds last i l → Names n l → ⊥) →
+pub moved_all : (n : ℕ) (z : Dtv) (first last : List (Option Line)) (at : ℕ → ℕ → Bool) → IsFound last at → ((i : ℕ) (l : Line) → Holds last i l → without_self l ≡ l) → ((i : ℕ) (l : Line) → Holds last i l → Names n l → ⊥) →
     deduplicated (map (moved n z) (lines_of last)) ≡ deduplicated (map (moved n z) (lines_of first)) → lines_of last ≡ tidied (put_lines n z (lines_of first))
 moved_all n z first last at found plain unnamed same =
     sym (changed_same (moved n z) last at found (λ i l h. moved-apart n z l (unnamed i l h) (plain i l h))) ∙ same ∙ sym (tidied-moved n z (lines_of first))
@@ -56,7 +56,7 @@ gives_named n z slots slot i l lines lt h names is =
     inl (subst (λ ls. NamesBase ls (Exist n)) cut (names_out (set slots slot None) n i l h names), is ∙ ap (λ ls. tidied (put_lines n z ls)) cut)
 
 -- where none does
-pub gives_unnamed : (n : ℕ) (z : Dtv) (slots : List (Option Line)) (slot : ℕ) (new : List (Option Line)) (at : Line → Option ℕ) → slot < length slots → ((i : ℕ) (l : Line) → Holds (set slots slot None) i l → Names n l → ⊥) →
+pub gives_unnamed : (n : ℕ) (z : Dtv) (slots : List (Option Line)) (slot : ℕ) (new : List (Option Line)) (at : ℕ → ℕ → Bool) → slot < length slots → ((i : ℕ) (l : Line) → Holds (set slots slot None) i l → Names n l → ⊥) →
     Settles (set slots slot None) slot (Var z) new → IsFound new at → ((i : ℕ) (l : Line) → Holds new i l → without_self l ≡ l) → GivesAway n z slots slot (lines_of new)
 gives_unnamed n z slots slot new at lt unnamed settles found plain =
     let cut : lines_of (set slots slot None) ≡ other_lines slots slot = lines_cleared slots slot lt in
@@ -74,7 +74,7 @@ gives_unnamed n z slots slot new at lt unnamed settles found plain =
     none (i, l, h, names) = unnamed i l h names
 
 -- a turn is a step of putting
-pub turn_step : (n : ℕ) (z : Dtv) (slot : ℕ) (slots : List (Option Line)) (at : Line → Option ℕ) (pending : ℕ → Bool) (between left : List Line) → IsFound slots at → IsNextTurn n z slot slots pending →
+pub turn_step : (n : ℕ) (z : Dtv) (slot : ℕ) (slots : List (Option Line)) (at : ℕ → ℕ → Bool) (pending : ℕ → Bool) (between left : List Line) → IsFound slots at → IsNextTurn n z slot slots pending →
     GivesAway n z slots slot between → Puts left between → Puts left (lines_of slots)
 turn_step n z slot slots at pending between left found next gives rest = puts n (lines_of slots) between least (by gives) rest
   where
@@ -98,7 +98,7 @@ turn_step n z slot slots at pending between left found next gives rest = puts n 
     by (inr (none, is)) = subst (Exchanges n (lines_of slots)) (sym is) (exists_still next.sign (place_of slots slot) candidate.left z (lines_of (take slot slots)) (lines_of (drop (suc slot) slots)) candidate.is cut none)
 
 -- where no existential has a sole use, none has a candidate
-pub turns_end : (slots : List (Option Line)) (at : Line → Option ℕ) → IsFound slots at → ((n : ℕ) (sign : Variance) (z : Dtv) (slot : ℕ) → IsSoleAt sign n z slots slot → ⊥) → Puts (lines_of slots) (lines_of slots)
+pub turns_end : (slots : List (Option Line)) (at : ℕ → ℕ → Bool) → IsFound slots at → ((n : ℕ) (sign : Variance) (z : Dtv) (slot : ℕ) → IsSoleAt sign n z slots slot → ⊥) → Puts (lines_of slots) (lines_of slots)
 turns_end slots at found none = none_left (λ n has. by n (candidate_sole n slots at found has))
   where
     by : (n : ℕ) → HasSoleAt n slots → ⊥
@@ -112,7 +112,7 @@ use_named Contra n z m (x, inl e, f) = let g : Exist n ≡ Exist m = ap (λ y. y
 use_named Contra n z m (x, inr e, f) = inr (ap (λ y. y.base) e ∙ f)
 
 -- each existential with a sole use is pending afterwards
-pub pending_after : (v : ℕ) (z : Dtv) (slot : ℕ) (first cleared second : List (Option Line)) (at : Line → Option ℕ) (old added new : ℕ → Bool) → IsFound first at → IsNextTurn v z slot first old → cleared ≡ set first slot None →
+pub pending_after : (v : ℕ) (z : Dtv) (slot : ℕ) (first cleared second : List (Option Line)) (at : ℕ → ℕ → Bool) (old added new : ℕ → Bool) → IsFound first at → IsNextTurn v z slot first old → cleared ≡ set first slot None →
     ((n : ℕ) → old n ≡ true → added n ≡ true) → added v ≡ true → ((n : ℕ) → z.base ≡ Exist n → added n ≡ true) → ((n : ℕ) → added n ≡ true → new n ≡ true) → Agrees new cleared second → ArePending new second
 pending_after v z slot first cleared second at old added new found next is more own side kept agrees =
     ArePending-after old new first second at v found (λ n e. kept n (more n e)) (kept v own) next.others
@@ -143,7 +143,7 @@ gives_in_some n z slots cleared slot i naming lines lt is indexed e same =
     gives_named n z slots slot i s.0 lines lt (subst (λ c. Holds c i s.0) is s.1) s.2 (same ∙ ap (λ c. tidied (put_lines n z (lines_of c))) is)
 
 -- where none does
-pub gives_in_none : (n : ℕ) (z : Dtv) (slots cleared new : List (Option Line)) (slot : ℕ) (naming : ℕ → ℕ → Bool) (at : Line → Option ℕ) → slot < length slots → cleared ≡ set slots slot None → IsIndexed Naming cleared naming →
+pub gives_in_none : (n : ℕ) (z : Dtv) (slots cleared new : List (Option Line)) (slot : ℕ) (naming : ℕ → ℕ → Bool) (at : ℕ → ℕ → Bool) → slot < length slots → cleared ≡ set slots slot None → IsIndexed Naming cleared naming →
     ((i : ℕ) → 0 ≤ i → naming n i ≡ true → ⊥) → Settles cleared slot (Var z) new → IsFound new at → ((i : ℕ) (l : Line) → Holds new i l → without_self l ≡ l) → GivesAway n z slots slot (lines_of new)
 gives_in_none n z slots cleared new slot naming at lt is indexed none settles found plain =
     gives_unnamed n z slots slot new at lt (λ i l h names. none i (omega arith) (indexed.here n i l (subst (λ c. Holds c i l) (sym is) h) names)) (subst (λ c. Settles c slot (Var z) new) is settles) found plain
@@ -152,3 +152,7 @@ gives_in_none n z slots cleared new slot naming at lt is indexed none settles fo
 pub on_ok_both : {X E : Type 0} (r : Result X E) (P Q R : Type 0) → (P → Q → R) → OnOk r P → OnOk r Q → OnOk r R
 on_ok_both (Ok x) P Q R f p q = f p q
 on_ok_both (Err e) P Q R f p q = tt
+
+-- the side that was taken out is the one that comes in the place
+pub next_side : (n : ℕ) (side z : Dtv) (slot : ℕ) (slots : List (Option Line)) (pending : ℕ → Bool) → Some side ≡ Some z → IsNextTurn n z slot slots pending → IsNextTurn n side slot slots pending
+next_side n side z slot slots pending e next = let f : z ≡ side = cc in subst (λ y. IsNextTurn n y slot slots pending) f next

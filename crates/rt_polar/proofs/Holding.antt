@@ -1,19 +1,17 @@
 -- What is kept beside the slots, after a slot is cleared or filled.
-use Rattle.std.proofs.Common.{◌≡◌, ◌≢◌, ℕ, zero, suc, ◌<◌, ◌⊎◌, inl, inr, List, [], ◌∷◌, length, get_or, Bool, true, false, cond, Option, Some, None, refl, sym, ap, subst, ◌∙◌, arith}
+use Rattle.std.proofs.Common.{◌≡◌, ◌≢◌, ℕ, zero, suc, ◌<◌, ◌⊎◌, inl, inr, List, [], ◌∷◌, length, get_or, Bool, true, Option, Some, None, refl, sym, ap, subst, ◌∙◌, arith}
 use Rattle.std.proofs.Math.ListN.{set}
 use Rattle.rt_lines.specs.declared.label.Variance.{Variance}
 use Rattle.rt_lines.specs.declared.label.Variance.TheVariants.{Co, Contra}
 use Rattle.rt_lines.specs.declared.line.Line.{Line}
 use Rattle.rt_lines.specs.declared.line.Line.TheVariants.{Var, Same, Sub, Low, Up}
-use Rattle.rt_lines.specs.Equality.{line_eq}
-use Rattle.rt_lines.proofs.Equal.{line_equal}
 use Rattle.rt_rules.specs.Put.{HasUse}
 use Rattle.rt_polar.specs.declared.index.Kind.{Kind}
 use Rattle.rt_polar.specs.declared.index.Kind.TheVariants.{Naming, Defining, Consuming}
-use Rattle.rt_polar.specs.Index.{IsForgotten, IsNoted, IsOfKind, Names}
+use Rattle.rt_polar.specs.Digests.{digest_of}
+use Rattle.rt_polar.specs.Index.{IsBareForgotten, IsBareNoted, IsForgotten, IsNoted, IsOfKind, Names}
 use Rattle.rt_polar.specs.Places.{AreHeld, Holds, IsFound, IsIndexed}
 use Rattle.rt_polar.specs.Tidied.{without_self}
-use Rattle.rt_polar.proofs.Settling.{line_self}
 use Rattle.rt_polar.proofs.Slots.{cleared_here, cleared_source, filled_here, filled_self, filled_source, one_line}
 
 -- a line with a use names the existential
@@ -69,53 +67,46 @@ IsIndexed-filled kind slots slot l old new lt empty noted indexed = record {
     back n i (inl e) = stays n i (indexed.source n i e)
     back n i (inr (e, of)) = (l, subst (λ m. Holds (set slots slot (Some l)) m l) (sym e) (filled_self slots slot l lt), of)
 
-IsFound-cleared : (slots : List (Option Line)) (slot : ℕ) (l : Line) (old new : Line → Option ℕ) → Holds slots slot l → ((k : Line) → new k ≡ cond (line_eq l k) None (old k)) → IsFound slots old → IsFound (set slots slot None) new
-IsFound-cleared slots slot l old new held updates found = record {
-  here = λ i k h. let s = cleared_source slots slot i k h in updates k ∙ there i k s.0 (found.here i k s.1) (line_eq l k) refl;
-  source = λ i k e. back i k (line_eq l k) refl (sym (updates k) ∙ e);
+IsFound-cleared : (slots : List (Option Line)) (slot : ℕ) (l : Line) (old new : ℕ → ℕ → Bool) → Holds slots slot l → IsBareForgotten (digest_of l) slot old new → IsFound slots old → IsFound (set slots slot None) new
+IsFound-cleared slots slot l old new held gone found = record {
+  once = λ i j k a b. found.once i j k (cleared_source slots slot i k a).1 (cleared_source slots slot j k b).1;
+  digested = λ i k h. let s = cleared_source slots slot i k h in gone.kept (digest_of k) i (found.digested i k s.1) (λ e f. s.0 e);
+  source = λ d i e. by d i e (found.source d i (gone.source d i e)) (same_or_apart i slot);
 }
   where
-    there : (i : ℕ) (k : Line) → i ≢ slot → old k ≡ Some i → (b : Bool) → line_eq l k ≡ b → cond b None (old k) ≡ Some i
-    there i k apart e true f =
-        let same : l ≡ k = line_equal l k f in
-        let at : old k ≡ Some slot = subst (λ m. old m ≡ Some slot) same (found.here slot l held) in
-        let both : Some i ≡ Some slot = sym e ∙ at in
-        let equal : i ≡ slot = cc in
-        absurd (apart equal)
-    there i k apart e false f = e
+    by : (d i : ℕ) → new d i ≡ true → (k : Line) × Holds slots i k × (digest_of k ≡ d) → (i ≡ slot) ⊎ (i ≢ slot) → (k : Line) × Holds (set slots slot None) i k × (digest_of k ≡ d)
+    by d i e (k, h, f) (inl g) =
+        let same : k ≡ l = one_line slots slot k l (subst (λ m. Holds slots m k) g h) held in
+        absurd (gone.gone (subst (λ m. new m slot ≡ true) (sym f ∙ ap digest_of same) (subst (λ m. new d m ≡ true) g e)))
+    by d i e (k, h, f) (inr apart) = (k, cleared_here slots slot i k h apart, f)
 
-    back : (i : ℕ) (k : Line) (b : Bool) → line_eq l k ≡ b → cond b None (old k) ≡ Some i → Holds (set slots slot None) i k
-    back i k true f e = cc
-    back i k false f e = cleared_here slots slot i k (found.source i k e) apart
-      where
-        apart : i ≢ slot
-        apart g =
-            let same : k ≡ l = one_line slots slot k l (subst (λ m. Holds slots m k) g (found.source i k e)) held in
-            let t : line_eq l k ≡ true = subst (λ m. line_eq l m ≡ true) (sym same) (line_self l) in
-            cc
-
-IsFound-filled : (slots : List (Option Line)) (slot : ℕ) (l : Line) (old new : Line → Option ℕ) → slot < length slots → get_or slots slot None ≡ None → ((i : ℕ) → Holds slots i l → ⊥) →
-    ((k : Line) → new k ≡ cond (line_eq l k) (Some slot) (old k)) → IsFound slots old → IsFound (set slots slot (Some l)) new
-IsFound-filled slots slot l old new lt empty absent updates found = record {
-  here = λ i k h. updates k ∙ there i k (filled_source slots slot i l k lt h) (line_eq l k) refl;
-  source = λ i k e. back i k (line_eq l k) refl (sym (updates k) ∙ e);
+IsFound-filled : (slots : List (Option Line)) (slot : ℕ) (l : Line) (old new : ℕ → ℕ → Bool) → slot < length slots → get_or slots slot None ≡ None → ((i : ℕ) → Holds slots i l → ⊥) → IsBareNoted (digest_of l) slot old new → IsFound slots old →
+    IsFound (set slots slot (Some l)) new
+IsFound-filled slots slot l old new lt empty absent noted found = record {
+  once = λ i j k a b. one i j k (filled_source slots slot i l k lt a) (filled_source slots slot j l k lt b);
+  digested = λ i k h. there i k (filled_source slots slot i l k lt h);
+  source = λ d i e. back d i (noted.source d i e);
 }
   where
-    there : (i : ℕ) (k : Line) → ((i ≡ slot) × (l ≡ k)) ⊎ ((i ≢ slot) × Holds slots i k) → (b : Bool) → line_eq l k ≡ b → cond b (Some slot) (old k) ≡ Some i
-    there i k (inl (e, f)) true g = ap Some (sym e)
-    there i k (inl (e, f)) false g = let t : line_eq l k ≡ true = subst (λ m. line_eq l m ≡ true) f (line_self l) in cc
-    there i k (inr (apart, h)) true g = absurd (absent i (subst (Holds slots i) (sym (line_equal l k g)) h))
-    there i k (inr (apart, h)) false g = found.here i k h
+    one : (i j : ℕ) (k : Line) → ((i ≡ slot) × (l ≡ k)) ⊎ ((i ≢ slot) × Holds slots i k) → ((j ≡ slot) × (l ≡ k)) ⊎ ((j ≢ slot) × Holds slots j k) → i ≡ j
+    one i j k (inl (a, e)) (inl (b, f)) = a ∙ sym b
+    one i j k (inl (a, e)) (inr (b, f)) = absurd (absent j (subst (Holds slots j) (sym e) f))
+    one i j k (inr (a, e)) (inl (b, f)) = absurd (absent i (subst (Holds slots i) (sym f) e))
+    one i j k (inr (a, e)) (inr (b, f)) = found.once i j k e f
 
-    back : (i : ℕ) (k : Line) (b : Bool) → line_eq l k ≡ b → cond b (Some slot) (old k) ≡ Some i → Holds (set slots slot (Some l)) i k
-    back i k true g e =
-        let same : l ≡ k = line_equal l k g in
-        let at : slot ≡ i = cc in
-        subst (λ m. Holds (set slots slot (Some l)) m k) at (subst (Holds (set slots slot (Some l)) slot) same (filled_self slots slot l lt))
-    back i k false g e = let h : Holds slots i k = found.source i k e in filled_here slots slot i l k h (empty_none slots slot i k empty h)
+    there : (i : ℕ) (k : Line) → ((i ≡ slot) × (l ≡ k)) ⊎ ((i ≢ slot) × Holds slots i k) → new (digest_of k) i ≡ true
+    there i k (inl (e, f)) = rw e (subst (λ m. new (digest_of m) slot ≡ true) f noted.added)
+    there i k (inr (apart, h)) = noted.kept (digest_of k) i (found.digested i k h)
 
-pub held_cleared : (slots : List (Option Line)) (slot : ℕ) (l : Line) (at at' : Line → Option ℕ) (n d c n' d' c' : ℕ → ℕ → Bool) → Holds slots slot l → AreHeld slots at n d c →
-    ((k : Line) → at' k ≡ cond (line_eq l k) None (at k)) → IsForgotten l slot n n' → IsForgotten l slot d d' → IsForgotten l slot c c' → AreHeld (set slots slot None) at' n' d' c'
+    stays : (d i : ℕ) → (k : Line) × Holds slots i k × (digest_of k ≡ d) → (k : Line) × Holds (set slots slot (Some l)) i k × (digest_of k ≡ d)
+    stays d i (k, h, f) = (k, filled_here slots slot i l k h (empty_none slots slot i k empty h), f)
+
+    back : (d i : ℕ) → (old d i ≡ true) ⊎ ((d ≡ digest_of l) × (i ≡ slot)) → (k : Line) × Holds (set slots slot (Some l)) i k × (digest_of k ≡ d)
+    back d i (inl e) = stays d i (found.source d i e)
+    back d i (inr (e, f)) = (l, subst (λ m. Holds (set slots slot (Some l)) m l) (sym f) (filled_self slots slot l lt), sym e)
+
+pub held_cleared : (slots : List (Option Line)) (slot : ℕ) (l : Line) (at at' : ℕ → ℕ → Bool) (n d c n' d' c' : ℕ → ℕ → Bool) → Holds slots slot l → AreHeld slots at n d c →
+    IsBareForgotten (digest_of l) slot at at' → IsForgotten l slot n n' → IsForgotten l slot d d' → IsForgotten l slot c c' → AreHeld (set slots slot None) at' n' d' c'
 held_cleared slots slot l at at' n d c n' d' c' h held updates named defined consumed = record {
   found = IsFound-cleared slots slot l at at' h updates held.found;
   named = IsIndexed-cleared Naming slots slot l n n' h named held.named;
@@ -124,8 +115,8 @@ held_cleared slots slot l at at' n d c n' d' c' h held updates named defined con
   plain = λ i k g. held.plain i k (cleared_source slots slot i k g).1;
 }
 
-pub held_filled : (slots : List (Option Line)) (slot : ℕ) (l : Line) (at at' : Line → Option ℕ) (n d c n' d' c' : ℕ → ℕ → Bool) → slot < length slots → get_or slots slot None ≡ None → ((i : ℕ) → Holds slots i l → ⊥) →
-    without_self l ≡ l → AreHeld slots at n d c → ((k : Line) → at' k ≡ cond (line_eq l k) (Some slot) (at k)) → IsNoted Naming l slot n n' → IsNoted Defining l slot d d' → IsNoted Consuming l slot c c' → AreHeld (set slots slot (Some l)) at' n' d' c'
+pub held_filled : (slots : List (Option Line)) (slot : ℕ) (l : Line) (at at' : ℕ → ℕ → Bool) (n d c n' d' c' : ℕ → ℕ → Bool) → slot < length slots → get_or slots slot None ≡ None → ((i : ℕ) → Holds slots i l → ⊥) →
+    without_self l ≡ l → AreHeld slots at n d c → IsBareNoted (digest_of l) slot at at' → IsNoted Naming l slot n n' → IsNoted Defining l slot d d' → IsNoted Consuming l slot c c' → AreHeld (set slots slot (Some l)) at' n' d' c'
 held_filled slots slot l at at' n d c n' d' c' lt empty absent plain held updates named defined consumed = record {
   found = IsFound-filled slots slot l at at' lt empty absent updates held.found;
   named = IsIndexed-filled Naming slots slot l n n' lt empty named held.named;

@@ -10,6 +10,7 @@ pub mod Agreeing
 pub mod Moved
 pub mod Giving
 pub mod Pairs
+pub mod Summaries
 pub mod Turning
 pub mod Moving
 pub mod Placing

@@ -147,7 +147,7 @@ lines_distinct (Some k ∷ slots) one =
     (lines_distinct slots (λ i j l a b. let e : suc i ≡ suc j = one (suc i) (suc j) l a b in omega (arith, e)))
 
 -- lines of slots that stay by a change are tidied after it
-pub changed_same : (f : Line → Line) (slots : List (Option Line)) (at : Line → Option ℕ) → IsFound slots at → ((i : ℕ) (l : Line) → Holds slots i l → f l ≡ l) → deduplicated (map f (lines_of slots)) ≡ lines_of slots
+pub changed_same : (f : Line → Line) (slots : List (Option Line)) (at : ℕ → ℕ → Bool) → IsFound slots at → ((i : ℕ) (l : Line) → Holds slots i l → f l ≡ l) → deduplicated (map f (lines_of slots)) ≡ lines_of slots
 changed_same f slots at found stays =
     ap deduplicated (map-same f (lines_of slots) (λ l c. let s = lines_source slots l c in stays s.0 l s.1))
     ∙ deduplicated-same [] (lines_of slots) (lines_distinct slots (one_slot slots at found))

@@ -1,5 +1,5 @@
 -- A step of moving lines.
-use Rattle.std.proofs.Common.{◌≡◌, ◌≢◌, ℕ, ◌+◌, ◌<◌, ◌≤◌, ◌⊎◌, inl, inr, List, length, get_or, map, Bool, true, Option, Some, None, sym, ap, subst, ◌∙◌, arith}
+use Rattle.std.proofs.Common.{◌≡◌, ◌≢◌, ℕ, ◌+◌, ◌<◌, ◌≤◌, ◌⊎◌, inl, inr, List, length, get_or, map, Bool, true, Option, Some, None, refl, sym, ap, subst, ◌∙◌, arith}
 use Rattle.std.proofs.Math.ListN.{set}
 use Rattle.std.proofs.lemmas.List.{get_or-set_same, length-set}
 use Rattle.rt_lines.specs.declared.variable.Base.TheVariants.{Exist}
@@ -12,7 +12,7 @@ use Rattle.rt_polar.specs.Index.{Names}
 use Rattle.rt_polar.specs.Places.{Agrees, Holds, IsFound, IsIndexed, Settles, lines_of, moved}
 use Rattle.rt_polar.specs.Places.Settles.{stands_before, moves, fills}
 use Rattle.rt_polar.specs.Tidied.{tidied, without_self}
-use Rattle.rt_polar.proofs.Agreeing.{Agrees-cleared, Agrees-opened, Agrees-settled, Agrees-trans}
+use Rattle.rt_polar.proofs.Agreeing.{Agrees-cleared, Agrees-opened, Agrees-refl, Agrees-settled, Agrees-trans}
 use Rattle.rt_polar.proofs.Giving.{moved_all, step_same}
 use Rattle.rt_polar.proofs.Moved.{moved-names, moved-unnamed}
 use Rattle.rt_polar.proofs.Slots.{cleared_source, filled_source, within}
@@ -95,8 +95,26 @@ module _ (v : ℕ) (z : Dtv) (first now next : List (Option Line)) (from slot : 
         (Agrees-trans pending' now (set now slot None) next (Agrees-cleared pending' now slot line held added) (Agrees-settled pending' (set now slot None) slot (moved v z line) next lt' empty names_pending settles));
   }
 
+  -- where no slot behind names it, none does afterwards
+  pub none_after : ((i : ℕ) → slot + 1 ≤ i → naming v i ≡ true → ⊥) → (i : ℕ) → slot + 1 ≤ i → naming' v i ≡ true → ⊥
+  none_after none i le e = let s = indexed'.source v i e in by s.0 s.2 (settles_source (set now slot None) slot (moved v z line) next lt' settles i s.0 s.1)
+    where
+      by : (l : Line) → Names v l → (moved v z line ≡ l) ⊎ Holds (set now slot None) i l → ⊥
+      by l names (inl f) = moved-unnamed v z other line (subst (Names v) (sym f) names)
+      by l names (inr h) = none i le (indexed.here v i l (cleared_source now slot i l h).1 names)
+
+-- before the first is moved
+pub AreMoved-none : (v : ℕ) (z : Dtv) (first : List (Option Line)) (naming : ℕ → ℕ → Bool) (pending : ℕ → Bool) → AreMoved v z 0 first first naming pending pending
+AreMoved-none v z first naming pending = record {
+  long = refl;
+  before = λ i less e. omega (arith, less);
+  same = refl;
+  kept = λ n e. e;
+  agree = Agrees-refl pending first;
+}
+
 -- when no slot names the existential, all are moved
-pub moved_end : (v : ℕ) (z : Dtv) (from : ℕ) (first last : List (Option Line)) (at : Line → Option ℕ) (naming : ℕ → ℕ → Bool) (old pending : ℕ → Bool) → AreMoved v z from first last naming old pending →
+pub moved_end : (v : ℕ) (z : Dtv) (from : ℕ) (first last : List (Option Line)) (at : ℕ → ℕ → Bool) (naming : ℕ → ℕ → Bool) (old pending : ℕ → Bool) → AreMoved v z from first last naming old pending →
     IsFound last at → IsIndexed Naming last naming → ((i : ℕ) (l : Line) → Holds last i l → without_self l ≡ l) → ((i : ℕ) → from ≤ i → naming v i ≡ true → ⊥) → lines_of last ≡ tidied (put_lines v z (lines_of first))
 moved_end v z from first last at naming old pending until found indexed plain none = moved_all v z first last at found plain (λ i l h names. by i (indexed.here v i l h names) (or_from i from)) until.same
   where

@@ -1,5 +1,5 @@
 -- Pairs of numbers in order.
-use Rattle.std.proofs.Common.{◌≡◌, ◌≢◌, ℕ, ◌<◌, ◌≤◌, ◌⊎◌, inl, inr, List, [], ◌∷◌, true, false, refl, sym, subst, arith}
+use Rattle.std.proofs.Common.{◌≡◌, ◌≢◌, ℕ, ◌<◌, ◌≤◌, ◌⊎◌, inl, inr, List, [], ◌∷◌, Bool, true, false, cond, refl, sym, ap, subst, ◌∙◌, arith}
 use Rattle.std.specs.BTreeSet.{BTreeSet, IsKeyRangeOf}
 use Rattle.std.specs.declared.ops.Bound.TheVariants.{Included, Unbounded}
 use Rattle.std.specs.declared.cmp.Ordering.{Ordering}
@@ -8,7 +8,7 @@ use Rattle.std.specs.Ordering.{is_eq, is_gt, nat_cmp, ordering_then}
 use Rattle.std.proofs.lemmas.Bool.Decides.{nat_tests}
 use Rattle.std.proofs.lemmas.Map.Keys.{le_from_not_gt}
 use Rattle.std.proofs.lemmas.Map.Lookups.{exact_unsigned}
-use Rattle.rt_polar.specs.Index.{has}
+use Rattle.rt_polar.specs.Index.{has, IsBareForgotten, IsBareNoted}
 
 pub nat_cmp_self : (x : ℕ) → nat_cmp x x ≡ Equal
 nat_cmp_self x = grind (arith, nat_tests)
@@ -74,3 +74,34 @@ from_other index v from k rest range apart i h f = by (pair_le v from k.0 k.1 ra
     by (inl a) (inl b) = omega (arith, a, b)
     by (inl a) (inr (b, le)) = apart b
     by (inr (a, le)) b = apart (sym a)
+
+-- a slot that is added for a number, or taken away from it
+pub bare_noted : (d slot : ℕ) (old new : ℕ → ℕ → Bool) → ((n i : ℕ) → new n i ≡ cond (is_eq (ordering_then (nat_cmp d n) (nat_cmp slot i))) true (old n i)) → IsBareNoted d slot old new
+bare_noted d slot old new updates = record {
+  added = updates d slot ∙ ap (λ t. cond t true (old d slot)) (pair_self d slot);
+  kept = λ n i h. updates n i ∙ stays (is_eq (ordering_then (nat_cmp d n) (nat_cmp slot i))) (old n i) h;
+  source = λ n i h. by n i (is_eq (ordering_then (nat_cmp d n) (nat_cmp slot i))) refl (sym (updates n i) ∙ h);
+}
+  where
+    stays : (t b : Bool) → b ≡ true → cond t true b ≡ true
+    stays true b h = refl
+    stays false b h = h
+
+    by : (n i : ℕ) (t : Bool) → is_eq (ordering_then (nat_cmp d n) (nat_cmp slot i)) ≡ t → cond t true (old n i) ≡ true → (old n i ≡ true) ⊎ ((n ≡ d) × (i ≡ slot))
+    by n i true e h = let p = pair_equal d slot n i e in inr (sym p.0, sym p.1)
+    by n i false e h = inl h
+
+pub bare_forgotten : (d slot : ℕ) (old new : ℕ → ℕ → Bool) → ((n i : ℕ) → new n i ≡ cond (is_eq (ordering_then (nat_cmp d n) (nat_cmp slot i))) false (old n i)) → IsBareForgotten d slot old new
+bare_forgotten d slot old new updates = record {
+  gone = λ h. let no : new d slot ≡ false = updates d slot ∙ ap (λ t. cond t false (old d slot)) (pair_self d slot) in cc;
+  kept = λ n i h apart. updates n i ∙ by n i (is_eq (ordering_then (nat_cmp d n) (nat_cmp slot i))) refl h apart;
+  source = λ n i h. was (is_eq (ordering_then (nat_cmp d n) (nat_cmp slot i))) (old n i) (sym (updates n i) ∙ h);
+}
+  where
+    was : (t b : Bool) → cond t false b ≡ true → b ≡ true
+    was true b h = cc
+    was false b h = h
+
+    by : (n i : ℕ) (t : Bool) → is_eq (ordering_then (nat_cmp d n) (nat_cmp slot i)) ≡ t → old n i ≡ true → (i ≡ slot → n ≡ d → ⊥) → cond t false (old n i) ≡ true
+    by n i true e h apart = let p = pair_equal d slot n i e in absurd (apart (sym p.1) (sym p.0))
+    by n i false e h apart = h

@@ -33,9 +33,13 @@ IsIndexed-pushed kind slots index indexed = record {
   source = λ n i e. let s = indexed.source n i e in (s.0, pushed_here slots i s.0 s.1, s.2);
 }
 
-pub held_pushed : (slots : List (Option Line)) (at : Line → Option ℕ) (n d c : ℕ → ℕ → Bool) → AreHeld slots at n d c → AreHeld (slots ++ None ∷ []) at n d c
+pub held_pushed : (slots : List (Option Line)) (at : ℕ → ℕ → Bool) (n d c : ℕ → ℕ → Bool) → AreHeld slots at n d c → AreHeld (slots ++ None ∷ []) at n d c
 held_pushed slots at n d c held = record {
-  found = record { here = λ i l h. held.found.here i l (pushed_source slots i l h); source = λ i l e. pushed_here slots i l (held.found.source i l e) };
+  found = record {
+    once = λ i j l a b. held.found.once i j l (pushed_source slots i l a) (pushed_source slots j l b);
+    digested = λ i l h. held.found.digested i l (pushed_source slots i l h);
+    source = λ d i e. let s = held.found.source d i e in (s.0, pushed_here slots i s.0 s.1, s.2);
+  };
   named = IsIndexed-pushed Naming slots n held.named;
   defined = IsIndexed-pushed Defining slots d held.defined;
   consumed = IsIndexed-pushed Consuming slots c held.consumed;
@@ -52,7 +56,7 @@ lines_pushed (None ∷ slots) l = lines_pushed slots l
 lines_pushed (Some k ∷ slots) l = ap (λ ls. k ∷ ls) (lines_pushed slots l)
 
 -- a line that settles behind the others is inserted
-pub inserted_step : (slots : List (Option Line)) (l : Line) (new : List (Option Line)) (at at' : Line → Option ℕ) → IsFound slots at → IsFound new at' → Settles (slots ++ None ∷ []) (length slots) l new → lines_of new ≡ insert_key line_eq (lines_of slots) l
+pub inserted_step : (slots : List (Option Line)) (l : Line) (new : List (Option Line)) (at at' : ℕ → ℕ → Bool) → IsFound slots at → IsFound new at' → Settles (slots ++ None ∷ []) (length slots) l new → lines_of new ≡ insert_key line_eq (lines_of slots) l
 inserted_step slots l new at at' found found' settles =
     sym (changed_same (λ k. k) new at' found' (λ i k h. refl))
     ∙ settled (λ k. k) (slots ++ None ∷ []) (length slots) l new (omega (arith, length-append slots (None ∷ []))) (pushed_empty slots) settles
@@ -69,7 +73,7 @@ lines_of-append (None ∷ first) second = lines_of-append first second
 lines_of-append (Some l ∷ first) second = ap (λ ls. l ∷ ls) (lines_of-append first second)
 
 -- a tidied line more
-pub placed_step : (slots pushed new : List (Option Line)) (slot : ℕ) (lines : List Line) (l r : Line) (at at' : Line → Option ℕ) → IsFound slots at → IsFound new at' → pushed ≡ slots ++ None ∷ [] → slot ≡ length slots → r ≡ without_self l →
+pub placed_step : (slots pushed new : List (Option Line)) (slot : ℕ) (lines : List Line) (l r : Line) (at at' : ℕ → ℕ → Bool) → IsFound slots at → IsFound new at' → pushed ≡ slots ++ None ∷ [] → slot ≡ length slots → r ≡ without_self l →
     Settles pushed slot r new → lines_of slots ≡ tidied lines → lines_of new ≡ tidied (lines ++ l ∷ [])
 placed_step slots pushed new slot lines l r at at' found found' a b e settles tidy =
     let first : Settles (slots ++ None ∷ []) slot r new = subst (λ p. Settles p slot r new) a settles in

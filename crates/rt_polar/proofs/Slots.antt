@@ -118,3 +118,8 @@ pub held_by : (slots : List (Option Line)) (i : ℕ) (d : Option Line) (l : Line
 held_by [] i d l lt h = absurd (omega arith)
 held_by (s ∷ slots) zero d l lt h = h
 held_by (s ∷ slots) (suc i) d l lt h = held_by slots i d l (omega arith) h
+
+pub read_held : (slots : List (Option Line)) (i : ℕ) (d : Option Line) (l : Line) → Holds slots i l → get_or slots i d ≡ Some l
+read_held [] i d l h = cc
+read_held (s ∷ slots) zero d l h = h
+read_held (s ∷ slots) (suc i) d l h = read_held slots i d l h

@@ -1,5 +1,5 @@
 -- Sole uses in slots and in lists.
-use Rattle.std.proofs.Common.{◌≡◌, ◌≢◌, ℕ, suc, ◌+◌, ◌<◌, ◌≤◌, ◌⊎◌, inl, inr, List, ◌++◌, length, get_or, take, drop, Contains, Bool, true, false, Option, Some, refl, sym, ap, subst, ◌∙◌, arith}
+use Rattle.std.proofs.Common.{◌≡◌, ◌≢◌, ℕ, suc, ◌+◌, ◌<◌, ◌≤◌, ◌⊎◌, inl, inr, List, ◌++◌, length, get_or, take, drop, Contains, Bool, true, false, Option, refl, sym, ap, subst, ◌∙◌, arith}
 use Rattle.std.proofs.lemmas.List.Elements.{Contains-append_cases}
 use Rattle.rt_lines.specs.declared.label.Variance.{Variance}
 use Rattle.rt_lines.specs.declared.label.Variance.TheVariants.{Co, Contra}
@@ -40,10 +40,10 @@ sole_of sign n z slots slot sole = record {
     by l u (inl c) = before l u (before_source slots slot l c)
     by l u (inr c) = behind l u (after_source slots (suc slot) l c)
 
-pub one_slot : (slots : List (Option Line)) (at : Line → Option ℕ) → IsFound slots at → (i j : ℕ) (l : Line) → Holds slots i l → Holds slots j l → i ≡ j
-one_slot slots at found i j l a b = let e : Some i ≡ Some j = sym (found.here i l a) ∙ found.here j l b in cc
+pub one_slot : (slots : List (Option Line)) (at : ℕ → ℕ → Bool) → IsFound slots at → (i j : ℕ) (l : Line) → Holds slots i l → Holds slots j l → i ≡ j
+one_slot slots at found i j l a b = found.once i j l a b
 
-pub slot_of : (sign : Variance) (n : ℕ) (z : Dtv) (slots : List (Option Line)) (at : Line → Option ℕ) (place : ℕ) → IsFound slots at → IsSole sign n z (lines_of slots) place → (slot : ℕ) × IsSoleAt sign n z slots slot
+pub slot_of : (sign : Variance) (n : ℕ) (z : Dtv) (slots : List (Option Line)) (at : ℕ → ℕ → Bool) (place : ℕ) → IsFound slots at → IsSole sign n z (lines_of slots) place → (slot : ℕ) × IsSoleAt sign n z slots slot
 slot_of sign n z slots at place found sole = by (lines_source slots (use_of sign n z) there)
   where
     there : Contains (lines_of slots) (use_of sign n z)
@@ -76,7 +76,7 @@ pub record IsAnyCandidate (n : ℕ) (lines : List Line) (sign : Variance) (place
   pub left : Bool
   pub is : IsCandidate n lines sign place left z
 
-pub candidate_of : (sign : Variance) (n : ℕ) (z : Dtv) (slots : List (Option Line)) (at : Line → Option ℕ) (slot : ℕ) → IsFound slots at → IsTurn sign n z slots slot → IsAnyCandidate n (lines_of slots) sign (place_of slots slot) z
+pub candidate_of : (sign : Variance) (n : ℕ) (z : Dtv) (slots : List (Option Line)) (at : ℕ → ℕ → Bool) (slot : ℕ) → IsFound slots at → IsTurn sign n z slots slot → IsAnyCandidate n (lines_of slots) sign (place_of slots slot) z
 candidate_of Co n z slots at slot found turn = record { left = true; is = defines z (place_of slots slot) (sole_of Co n z slots slot turn.sole) }
 candidate_of Contra n z slots at slot found turn = record {
   left = false;
@@ -93,11 +93,11 @@ pub record HasSoleAt (n : ℕ) (slots : List (Option Line)) : Type 0 where
 sole_by : (sign : Variance) (n : ℕ) (z : Dtv) (slots : List (Option Line)) → (slot : ℕ) × IsSoleAt sign n z slots slot → HasSoleAt n slots
 sole_by sign n z slots (slot, sole) = record { sign = sign; z = z; slot = slot; sole = sole }
 
-sole_candidate : (n : ℕ) (slots : List (Option Line)) (at : Line → Option ℕ) → IsFound slots at → {sign : Variance} {place : ℕ} {left : Bool} {z : Dtv} → IsCandidate n (lines_of slots) sign place left z → HasSoleAt n slots
+sole_candidate : (n : ℕ) (slots : List (Option Line)) (at : ℕ → ℕ → Bool) → IsFound slots at → {sign : Variance} {place : ℕ} {left : Bool} {z : Dtv} → IsCandidate n (lines_of slots) sign place left z → HasSoleAt n slots
 sole_candidate n slots at found (defines z place s) = sole_by Co n z slots (slot_of Co n z slots at place found s)
 sole_candidate n slots at found (consumes z place e s) = sole_by Contra n z slots (slot_of Contra n z slots at place found s)
 
-pub candidate_sole : (n : ℕ) (slots : List (Option Line)) (at : Line → Option ℕ) → IsFound slots at → HasCandidate n (lines_of slots) → HasSoleAt n slots
+pub candidate_sole : (n : ℕ) (slots : List (Option Line)) (at : ℕ → ℕ → Bool) → IsFound slots at → HasCandidate n (lines_of slots) → HasSoleAt n slots
 candidate_sole n slots at found has = sole_candidate n slots at found has.is
 
 -- the only slot with a use

@@ -69,6 +69,6 @@ none_in test [] empty e = cc
 none_in test (k ∷ keys) empty e = empty (omega arith)
 
 -- the one that was taken out has its turn
-pub next_turn_of : (v w : ℕ) (old new : ℕ → Bool) (slots : List (Option Line)) (z : Dtv) (slot : ℕ) → ((q : ℕ) → new q ≡ cond (is_eq (nat_cmp v q)) false (old q)) → ((q : ℕ) → old q ≡ true → is_gt (nat_cmp v q) ≡ false) → ArePending old slots →
-    (w ≡ v) × (sign : Variance) × IsTurn sign v z slots slot → IsNextTurn w z slot slots new
-next_turn_of v w old new slots z slot updates least pending (e, sign, turn) = rw e (next_of v old new slots sign z slot updates (λ q h. le_from_not_gt v q (least q h)) pending turn)
+pub next_turn_of : (v w : ℕ) (old new : ℕ → Bool) (slots : List (Option Line)) (slot : ℕ) → ((q : ℕ) → new q ≡ cond (is_eq (nat_cmp v q)) false (old q)) → ((q : ℕ) → old q ≡ true → is_gt (nat_cmp v q) ≡ false) → ArePending old slots →
+    (w ≡ v) × (sign : Variance) × (z : Dtv) × IsTurn sign v z slots slot → (z : Dtv) × IsNextTurn w z slot slots new
+next_turn_of v w old new slots slot updates least pending (e, sign, z, turn) = (z, rw e (next_of v old new slots sign z slot updates (λ q h. le_from_not_gt v q (least q h)) pending turn))

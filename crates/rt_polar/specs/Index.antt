@@ -26,6 +26,18 @@ IsOfKind Consuming n l = HasUse Contra n l
 abbrev pub has : BTreeSet (ℕ × ℕ) → ℕ → ℕ → Bool
 has index n i = contains (λ x y. ordering_then (nat_cmp x.0 y.0) (nat_cmp x.1 y.1)) index (n, i)
 
+-- the slot is added for the number, and nothing else
+pub record IsBareNoted (d slot : ℕ) (old new : ℕ → ℕ → Bool) : Type 0 where
+  pub added : new d slot ≡ true
+  pub kept : (n i : ℕ) → old n i ≡ true → new n i ≡ true
+  pub source : (n i : ℕ) → new n i ≡ true → (old n i ≡ true) ⊎ ((n ≡ d) × (i ≡ slot))
+
+-- the slot is taken away from the number, and nothing else
+pub record IsBareForgotten (d slot : ℕ) (old new : ℕ → ℕ → Bool) : Type 0 where
+  pub gone : new d slot ≡ true → ⊥
+  pub kept : (n i : ℕ) → old n i ≡ true → (i ≡ slot → n ≡ d → ⊥) → new n i ≡ true
+  pub source : (n i : ℕ) → new n i ≡ true → old n i ≡ true
+
 -- the slot is added for the existential, where the base is one for which the line is of the kind
 pub record IsBaseNoted (kind : Kind) (l : Line) (base : Base) (slot : ℕ) (old new : ℕ → ℕ → Bool) : Type 0 where
   pub added : (n : ℕ) → base ≡ Exist n → IsOfKind kind n l → new n slot ≡ true

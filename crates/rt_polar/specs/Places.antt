@@ -1,17 +1,16 @@
 -- Lines in slots, some of which are empty.
 use Rattle.std.specs.Prelude.{◌≡◌, ◌≢◌, ℕ, ◌<◌, List, [], ◌∷◌, Bool, true, false, Option, Some, None, slice_index_or, slice_set}
-use Rattle.std.specs.HashMap.{get}
 use Rattle.rt_lines.specs.declared.label.Variance.{Variance}
 use Rattle.rt_lines.specs.declared.label.Variance.TheVariants.{Co, Contra}
 use Rattle.rt_lines.specs.declared.variable.Base.TheVariants.{Exist}
 use Rattle.rt_lines.specs.declared.variable.Dtv.{Dtv}
 use Rattle.rt_lines.specs.declared.line.Line.{Line}
-use Rattle.rt_lines.specs.Equality.{line_eq}
 use Rattle.rt_rules.specs.Alike.{map_line}
 use Rattle.rt_rules.specs.Put.{put, HasUse, use_of}
 use Rattle.rt_polar.specs.declared.index.Kind.{Kind}
 use Rattle.rt_polar.specs.declared.index.Kind.TheVariants.{Naming, Defining, Consuming}
 use Rattle.rt_polar.specs.declared.places.Places.{Places}
+use Rattle.rt_polar.specs.Digests.{digest_of}
 use Rattle.rt_polar.specs.Index.{has, IsOfKind, Names}
 use Rattle.rt_polar.specs.Tidied.{without_self}
 
@@ -29,10 +28,11 @@ lines_of [] = []
 lines_of (None ∷ slots) = lines_of slots
 lines_of (Some l ∷ slots) = l ∷ lines_of slots
 
--- the slot of each line is found
-pub record IsFound (slots : List (Option Line)) (at : Line → Option ℕ) : Type 0 where
-  pub here : (i : ℕ) (l : Line) → Holds slots i l → at l ≡ Some i
-  pub source : (i : ℕ) (l : Line) → at l ≡ Some i → Holds slots i l
+-- each line stands once, and its slot is found by its digest
+pub record IsFound (slots : List (Option Line)) (at : ℕ → ℕ → Bool) : Type 0 where
+  pub once : (i j : ℕ) (l : Line) → Holds slots i l → Holds slots j l → i ≡ j
+  pub digested : (i : ℕ) (l : Line) → Holds slots i l → at (digest_of l) i ≡ true
+  pub source : (d i : ℕ) → at d i ≡ true → (l : Line) × Holds slots i l × (digest_of l ≡ d)
 
 -- for each existential the slots are known that hold lines of the kind
 pub record IsIndexed (kind : Kind) (slots : List (Option Line)) (index : ℕ → ℕ → Bool) : Type 0 where
@@ -45,7 +45,7 @@ pub record AreUses (sign : Variance) (slots : List (Option Line)) (index : ℕ �
   pub source : (n i : ℕ) → index n i ≡ true → (l : Line) × Holds slots i l × HasUse sign n l
 
 -- what is kept beside the slots fits them, and no line puts a variable beside itself
-pub record AreHeld (slots : List (Option Line)) (at : Line → Option ℕ) (naming defining consuming : ℕ → ℕ → Bool) : Type 0 where
+pub record AreHeld (slots : List (Option Line)) (at : ℕ → ℕ → Bool) (naming defining consuming : ℕ → ℕ → Bool) : Type 0 where
   pub found : IsFound slots at
   pub named : IsIndexed Naming slots naming
   pub defined : IsIndexed Defining slots defining
@@ -53,7 +53,7 @@ pub record AreHeld (slots : List (Option Line)) (at : Line → Option ℕ) (nami
   pub plain : (i : ℕ) (l : Line) → Holds slots i l → without_self l ≡ l
 
 abbrev pub ArePlaces : Places → Type 0
-ArePlaces places = AreHeld places.slots.items (get line_eq places.at) (has places.naming) (has places.defining) (has places.consuming)
+ArePlaces places = AreHeld places.slots.items (has places.at) (has places.naming) (has places.defining) (has places.consuming)
 
 -- a line was put into an empty slot, but that of two equal lines the first alone stays
 pub data Settles (old : List (Option Line)) (slot : ℕ) (l : Line) (new : List (Option Line)) : Type 0 where

@@ -25,9 +25,8 @@ fn is_of(x: &Dtv, v: u32, sign: Variance) -> bool
     x.base == Base::Exist(v) && variance_of(&x.word) == sign
 }
 
-/// Whether the line has a use of the existential of the sign: a defining one at `Co`, a consuming one at `Contra`. It takes
-/// no memory.
-pub fn has_use(line: &Line, v: u32, sign: Variance) -> bool
+// Whether the line has a use of the existential of the sign: a defining one at `Co`, a consuming one at `Contra`.
+fn has_use(line: &Line, v: u32, sign: Variance) -> bool
     ensures { IsTrue result ↔ HasUse sign v line.now }
 {
     match line {

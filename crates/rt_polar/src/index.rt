@@ -2,7 +2,7 @@
 ghost use Rattle.std.specs.Prelude.{◌≡◌, ◌↔◌, ℕ, ◌≤◌, Some, true, IsTrue, MatchOption, OnOk};
 ghost use Rattle.rt_polar.specs.Index.{has, IsBaseForgotten, IsBaseNoted, IsForgotten, IsNoted, IsOfKind, Names};
 
-use crate::choosing::has_use;
+use crate::row::Row;
 use rt_base::Memory;
 use rt_lines::{Base, Line, Variance};
 use std::collections::BTreeSet;
@@ -18,7 +18,7 @@ pub enum Kind {
     Consuming,
 }
 
-/// Existentials with slots that hold lines of a kind.
+/// Numbers with slots: existentials with slots that hold lines of a kind, or digests with slots of their lines.
 pub type Index = BTreeSet<(u32, usize)>;
 
 // Whether a side of the line has the existential as its base.
@@ -33,13 +33,13 @@ fn names(line: &Line, v: u32) -> bool
 }
 
 // Whether the line is of the kind for the existential.
-fn is_of_kind(line: &Line, kind: Kind, v: u32) -> bool
-    ensures { IsTrue result ↔ IsOfKind kind v line.now }
+fn is_of_kind(row: &Row, kind: Kind, v: u32) -> bool
+    ensures { IsTrue result ↔ IsOfKind kind v row.now }
 {
     match kind {
-        Kind::Naming => names(line, v),
-        Kind::Defining => has_use(line, v, Variance::Co),
-        Kind::Consuming => has_use(line, v, Variance::Contra),
+        Kind::Naming => names(row.line(), v),
+        Kind::Defining => row.has_use(v, Variance::Co),
+        Kind::Consuming => row.has_use(v, Variance::Contra),
     }
 }
 
@@ -47,14 +47,14 @@ fn is_of_kind(line: &Line, kind: Kind, v: u32) -> bool
 fn note_base(
     index: &mut Index,
     kind: Kind,
-    line: &Line,
+    row: &Row,
     base: Base,
     slot: usize,
 ) -> Result<(), Memory>
-    ensures { OnOk result (IsBaseNoted kind line.now base slot (has index.old) (has index.new)) }
+    ensures { OnOk result (IsBaseNoted kind row.now base slot (has index.old) (has index.new)) }
 {
     if let Base::Exist(v) = base {
-        if is_of_kind(line, kind, v) {
+        if is_of_kind(row, kind, v) {
             index.insert((v, slot))?;
         }
     }
@@ -62,16 +62,16 @@ fn note_base(
 }
 
 /// Adds the line's slot to each existential for which the line is of the kind. The error is out of memory.
-pub fn note(index: &mut Index, kind: Kind, line: &Line, slot: usize) -> Result<(), Memory>
-    ensures { OnOk result (IsNoted kind line.now slot (has index.old) (has index.new)) }
+pub fn note(index: &mut Index, kind: Kind, row: &Row, slot: usize) -> Result<(), Memory>
+    ensures { OnOk result (IsNoted kind row.now slot (has index.old) (has index.new)) }
 {
-    match line {
+    match row.line() {
         Line::Var(x) | Line::Low(_, x) | Line::Up(x, _) => {
-            note_base(index, kind, line, x.base, slot)
+            note_base(index, kind, row, x.base, slot)
         }
         Line::Same(x, y) | Line::Sub(x, y) => {
-            note_base(index, kind, line, x.base, slot)?;
-            note_base(index, kind, line, y.base, slot)
+            note_base(index, kind, row, x.base, slot)?;
+            note_base(index, kind, row, y.base, slot)
         }
     }
 }
@@ -98,7 +98,7 @@ pub fn forget(index: &mut Index, line: &Line, slot: usize)
     }
 }
 
-/// The least slot of the existential, from one on. It takes no memory.
+/// The least slot of the existential, or of the digest, from one on. It takes no memory.
 pub fn next_at(index: &Index, v: u32, from: usize) -> Option<usize>
     ensures { MatchOption result ((i : ℕ) → from ≤ i → has index.now v i ≡ true → ⊥)
         (λ slot. (from ≤ slot) × (has index.now v slot ≡ true) × ((i : ℕ) → from ≤ i → has index.now v i ≡ true → slot ≤ i)) }

@@ -3,11 +3,13 @@
 #![tactic(auto)]
 
 mod choosing;
+mod digest;
 mod index;
 pub mod laws;
 mod places;
 mod putting;
 mod putting_away;
+mod row;
 mod tidying;
 
 pub use choosing::{Side, candidate};

@@ -1,5 +1,5 @@
 // Lines in slots, where each is found.
-ghost use Rattle.std.specs.Prelude.{◌≡◌, ℕ, ◌<◌, [], ◌∷◌, ◌++◌, None, Some, length, slice_index_or, slice_set, IfOk, MatchOption, OnOk};
+ghost use Rattle.std.specs.Prelude.{◌≡◌, ℕ, ◌<◌, [], ◌∷◌, ◌++◌, None, Some, length, slice_index_or, slice_set, IfOk, IsTrue, MatchOption, OnOk, ◌↔◌};
 ghost use Rattle.rt_lines.specs.declared.variable.Dtv.{Dtv as Variable};
 ghost use Rattle.rt_polar.specs.Index.{has};
 ghost use Rattle.rt_polar.specs.Places.{ArePlaces, AreUses, Holds, IsSoleAt, Settles};
@@ -7,20 +7,31 @@ ghost use Rattle.rt_polar.specs.Tidied.{without_self};
 
 use crate::choosing::beside;
 use crate::index::{Index, Kind, forget, next_at, note};
+use crate::row::Row;
 use rt_base::Memory;
-use rt_lines::{Dtv, Line, Variance};
+use rt_lines::Variance;
 use std::alloc::Global;
-use std::collections::{BTreeSet, HashMap};
+use std::collections::BTreeSet;
 
-/// Lines in slots, in the order of the slots, each once. What stands beside the slots finds the slot of a line, and the
-/// slots of the lines that name, define or consume an existential.
+/// Lines in slots, in the order of the slots, each once. What stands beside the slots finds the slots of the lines that
+/// have a digest, and of those that name, define or consume an existential.
 #[derive(Drop)]
 pub struct Places {
-    pub slots: Vec<Option<Line>>,
-    pub at: HashMap<Line, usize>,
+    pub slots: Vec<Option<Row>>,
+    pub at: Index,
     pub naming: Index,
     pub defining: Index,
     pub consuming: Index,
+}
+
+// Whether the slot holds the line.
+fn is_held(slot: &Option<Row>, row: &Row) -> bool
+    ensures { IsTrue result ↔ (slot.now ≡ Some row.now) }
+{
+    match slot {
+        Some(held) => held.line() == row.line(),
+        None => false,
+    }
 }
 
 impl Places {
@@ -31,7 +42,7 @@ impl Places {
     {
         Places {
             slots: Vec::new(alloc),
-            at: HashMap::new(alloc),
+            at: BTreeSet::new(alloc),
             naming: BTreeSet::new(alloc),
             defining: BTreeSet::new(alloc),
             consuming: BTreeSet::new(alloc),
@@ -51,70 +62,87 @@ impl Places {
     }
 
     /// Takes the line out of a slot, if it holds one. It takes no memory.
-    pub fn clear(&mut self, slot: usize) -> Option<Line>
+    pub fn clear(&mut self, slot: usize) -> Option<Row>
         requires places { ArePlaces self.old }
         requires within { slot < length self.old.slots.items }
         ensures places { ArePlaces self.new }
         ensures slots { self.new.slots.items ≡ slice_set self.old.slots.items slot None }
         ensures line { result ≡ slice_index_or self.old.slots.items slot None }
     {
-        let line = self.slots[slot].take();
-        if let Some(held) = &line {
-            self.at.remove(held);
-            forget(&mut self.naming, held, slot);
-            forget(&mut self.defining, held, slot);
-            forget(&mut self.consuming, held, slot);
+        let row = self.slots[slot].take();
+        if let Some(held) = &row {
+            let line = held.line();
+            self.at.remove(&(held.digest(), slot));
+            forget(&mut self.naming, line, slot);
+            forget(&mut self.defining, line, slot);
+            forget(&mut self.consuming, line, slot);
         }
-        line
+        row
     }
 
     // Puts a line that no slot holds into an empty slot.
-    fn fill(&mut self, slot: usize, line: Line) -> Result<(), Memory>
+    fn fill(&mut self, slot: usize, row: Row) -> Result<(), Memory>
         requires places { ArePlaces self.old }
         requires within { slot < length self.old.slots.items }
         requires empty { slice_index_or self.old.slots.items slot None ≡ None }
-        requires absent { (i : ℕ) → Holds self.old.slots.items i line → ⊥ }
-        requires plain { without_self line ≡ line }
+        requires absent { (i : ℕ) → Holds self.old.slots.items i row → ⊥ }
+        requires plain { without_self row ≡ row }
         ensures places { OnOk result (ArePlaces self.new) }
-        ensures slots { OnOk result (self.new.slots.items ≡ slice_set self.old.slots.items slot (Some line)) }
+        ensures slots { OnOk result (self.new.slots.items ≡ slice_set self.old.slots.items slot (Some row)) }
     {
-        note(&mut self.naming, Kind::Naming, &line, slot)?;
-        note(&mut self.defining, Kind::Defining, &line, slot)?;
-        note(&mut self.consuming, Kind::Consuming, &line, slot)?;
-        self.at.insert(line.copy()?, slot)?;
-        self.slots[slot] = Some(line);
+        note(&mut self.naming, Kind::Naming, &row, slot)?;
+        note(&mut self.defining, Kind::Defining, &row, slot)?;
+        note(&mut self.consuming, Kind::Consuming, &row, slot)?;
+        self.at.insert((row.digest(), slot))?;
+        self.slots[slot] = Some(row);
         Ok(())
     }
 
     // Puts a line into an empty slot, which another slot holds already, but that the first alone stays.
-    fn settle_beside(&mut self, other: usize, slot: usize, line: Line) -> Result<(), Memory>
+    fn settle_beside(&mut self, other: usize, slot: usize, row: Row) -> Result<(), Memory>
         requires places { ArePlaces self.old }
         requires within { slot < length self.old.slots.items }
         requires empty { slice_index_or self.old.slots.items slot None ≡ None }
-        requires held { Holds self.old.slots.items other line }
-        requires plain { without_self line ≡ line }
+        requires held { Holds self.old.slots.items other row }
+        requires plain { without_self row ≡ row }
         ensures places { OnOk result (ArePlaces self.new) }
-        ensures settles { OnOk result (Settles self.old.slots.items slot line self.new.slots.items) }
+        ensures settles { OnOk result (Settles self.old.slots.items slot row self.new.slots.items) }
     {
         if other < slot {
             return Ok(());
         }
         self.clear(other);
-        self.fill(slot, line)
+        self.fill(slot, row)
+    }
+
+    // The slot of the line, if one holds it.
+    fn find(&self, row: &Row) -> Option<usize>
+        requires { ArePlaces self.now }
+        ensures { MatchOption result ((i : ℕ) → Holds self.now.slots.items i row.now → ⊥) (λ i. Holds self.now.slots.items i row.now) }
+    {
+        let digest = row.digest();
+        let mut from = 0;
+        while let Some(slot) = next_at(&self.at, digest, from) {
+            if is_held(&self.slots[slot], row) {
+                return Some(slot);
+            }
+            from = slot + 1;
+        }
+        None
     }
 
     /// Puts a line into an empty slot, but that of two equal lines the first alone stays. The error is out of memory.
-    pub fn settle(&mut self, slot: usize, line: Line) -> Result<(), Memory>
+    pub fn settle(&mut self, slot: usize, row: Row) -> Result<(), Memory>
         requires places { ArePlaces self.old }
         requires within { slot < length self.old.slots.items }
         requires empty { slice_index_or self.old.slots.items slot None ≡ None }
-        requires plain { without_self line ≡ line }
+        requires plain { without_self row ≡ row }
         ensures places { OnOk result (ArePlaces self.new) }
-        ensures settles { OnOk result (Settles self.old.slots.items slot line self.new.slots.items) }
+        ensures settles { OnOk result (Settles self.old.slots.items slot row self.new.slots.items) }
     {
-        match self.at.get(&line).copied() {
-            Some(other) => self.settle_beside(other, slot, line),
-            None => self.fill(slot, line),
+        match self.find(&row) {
+            Some(other) => self.settle_beside(other, slot, row),
+            None => self.fill(slot, row),
         }
     }
 
@@ -129,12 +157,12 @@ impl Places {
         }
     }
 
-    /// The slot of the only use of the existential of the sign, and the variable on its other side, where that may take the
+    /// The slot of the only use of the existential of the sign, where the variable on its other side may take the
     /// existential's place. It takes no memory.
-    pub fn sole(&self, v: u32, sign: Variance) -> Option<(usize, &Dtv)>
+    pub fn sole(&self, v: u32, sign: Variance) -> Option<usize>
         requires { ArePlaces self.now }
         ensures { MatchOption result ((z : Variable) (slot : ℕ) → IsSoleAt sign v z self.now.slots.items slot → ⊥)
-            (λ r. IsSoleAt sign v r.1.now self.now.slots.items r.0) }
+            (λ slot. (z : Variable) × IsSoleAt sign v z self.now.slots.items slot) }
     {
         let index = self.uses(sign);
         let Some(slot) = next_at(index, v, 0) else {
@@ -143,11 +171,11 @@ impl Places {
         let None = next_at(index, v, slot + 1) else {
             return None;
         };
-        let Some(line) = &self.slots[slot] else {
+        let Some(row) = &self.slots[slot] else {
             return None;
         };
-        match beside(line, v, sign) {
-            Some(side) => Some((slot, side)),
+        match beside(row.line(), v, sign) {
+            Some(_) => Some(slot),
             None => None,
         }
     }

@@ -19,8 +19,8 @@ fn put_in(x: &Dtv, v: u32, side: &Dtv) -> Result<Dtv, Memory>
     Ok(longer)
 }
 
-/// The line with the side in the existential's place. The error is out of memory.
-pub fn put_in_line(line: &Line, v: u32, side: &Dtv) -> Result<Line, Memory>
+// The line with the side in the existential's place.
+fn put_in_line(line: &Line, v: u32, side: &Dtv) -> Result<Line, Memory>
     ensures { IfOk result (λ r. r ≡ map_line (put_there v side.now) line.now) }
 {
     match line {

@@ -1,5 +1,5 @@
 // Existentials that give their places away, the least with a candidate first, until none has one.
-ghost use Rattle.std.specs.Prelude.{◌≡◌, ◌≢◌, ℕ, ◌<◌, [], ◌∷◌, ◌++◌, Option, Some, None, true, length, slice_set, IfOk, MatchOption, OnOk};
+ghost use Rattle.std.specs.Prelude.{◌≡◌, ◌≢◌, ℕ, ◌<◌, ◌≤◌, [], ◌∷◌, ◌++◌, Option, Some, None, true, length, slice_set, IfOk, MatchOption, OnOk};
 ghost use Rattle.std.specs.BTreeSet.{contains};
 ghost use Rattle.std.specs.Ordering.{nat_cmp};
 ghost use Rattle.rt_lines.specs.declared.label.Variance.{Variance as Sign};
@@ -7,7 +7,7 @@ ghost use Rattle.rt_lines.specs.declared.variable.Dtv.{Dtv as Variable};
 ghost use Rattle.rt_lines.specs.declared.variable.Base.TheVariants.{Exist as Existential};
 ghost use Rattle.rt_lines.specs.declared.line.Line.{Line as TheLine};
 ghost use Rattle.rt_rules.specs.Put.{put_lines};
-ghost use Rattle.rt_polar.specs.Index.{Names};
+ghost use Rattle.rt_polar.specs.Index.{has, Names};
 ghost use Rattle.rt_polar.specs.Places.{Agrees, ArePending, ArePlaces, Holds, IsSoleAt, IsTurn, Settles, lines_of, moved};
 ghost use Rattle.rt_polar.specs.Turns.{GivesAway, IsNextTurn};
 ghost use Rattle.rt_polar.specs.Puts.{Puts};
@@ -15,22 +15,21 @@ ghost use Rattle.rt_polar.specs.Tidied.{tidied};
 
 use crate::index::next_at;
 use crate::places::Places;
-use crate::putting::put_in_line;
+use crate::row::{KnownSide, Row};
 use crate::tidying::self_to_var;
 use rt_base::{Memory, Sequence};
-use rt_lines::{Base, Dtv, Line, Lines, Variance};
+use rt_lines::{Base, Line, Lines, Variance};
 use std::alloc::Global;
 use std::collections::BTreeSet;
 
 // Numbers of existentials that may have a candidate.
 type Pending = BTreeSet<u32>;
 
-// An existential that gives its place away: the slot of the use that goes, and what comes in the place.
+// An existential that gives its place away, and the slot of the use that goes.
 #[derive(Drop)]
 struct Turn {
     existential: u32,
     slot: usize,
-    side: Dtv,
 }
 
 // Adds the base to the pending ones, where it is an existential.
@@ -59,43 +58,41 @@ fn add_line(pending: &mut Pending, line: &Line) -> Result<(), Memory>
 }
 
 // The turn of the existential, if it has a candidate.
-fn turn_of(places: &Places, v: u32) -> Result<Option<Turn>, Memory>
+fn turn_of(places: &Places, v: u32) -> Option<Turn>
     requires { ArePlaces places.now }
-    ensures { IfOk result (λ turn. MatchOption turn
+    ensures { MatchOption result
         ((sign : Sign) (z : Variable) (slot : ℕ) → IsSoleAt sign v z places.now.slots.items slot → ⊥)
-        (λ t. (t.existential ≡ v) × (sign : Sign) × IsTurn sign v t.side places.now.slots.items t.slot)) }
+        (λ t. (t.existential ≡ v) × (sign : Sign) × (z : Variable) × IsTurn sign v z places.now.slots.items t.slot) }
 {
-    if let Some((slot, side)) = places.sole(v, Variance::Co) {
-        return Ok(Some(Turn {
+    if let Some(slot) = places.sole(v, Variance::Co) {
+        return Some(Turn {
             existential: v,
             slot,
-            side: side.copy()?,
-        }));
+        });
     }
-    if let Some((slot, side)) = places.sole(v, Variance::Contra) {
-        return Ok(Some(Turn {
+    if let Some(slot) = places.sole(v, Variance::Contra) {
+        return Some(Turn {
             existential: v,
             slot,
-            side: side.copy()?,
-        }));
+        });
     }
-    Ok(None)
+    None
 }
 
 // The turn of the least existential with a candidate. It and those before it are no longer pending.
-fn next_turn(places: &Places, pending: &mut Pending) -> Result<Option<Turn>, Memory>
+fn next_turn(places: &Places, pending: &mut Pending) -> Option<Turn>
     requires places { ArePlaces places.now }
     requires pending { ArePending (contains nat_cmp pending.old) places.now.slots.items }
-    ensures { IfOk result (λ turn. MatchOption turn
+    ensures { MatchOption result
         ((n : ℕ) (sign : Sign) (z : Variable) (slot : ℕ) → IsSoleAt sign n z places.now.slots.items slot → ⊥)
-        (λ t. IsNextTurn t.existential t.side t.slot places.now.slots.items (contains nat_cmp pending.new))) }
+        (λ t. (z : Variable) × IsNextTurn t.existential z t.slot places.now.slots.items (contains nat_cmp pending.new)) }
 {
     while let Some(v) = pending.pop_first() {
-        if let Some(turn) = turn_of(places, v)? {
-            return Ok(Some(turn));
+        if let Some(turn) = turn_of(places, v) {
+            return Some(turn);
         }
     }
-    Ok(None)
+    None
 }
 
 // Puts the side in the place of the existential in the line that a slot holds.
@@ -104,25 +101,29 @@ fn move_line(
     pending: &mut Pending,
     slot: usize,
     v: u32,
-    side: &Dtv,
+    side: KnownSide,
 ) -> Result<(), Memory>
     requires places { ArePlaces places.old }
     requires within { slot < length places.old.slots.items }
     ensures places { OnOk result (ArePlaces places.new) }
-    ensures moved { OnOk result ((l : TheLine) → Holds places.old.slots.items slot l → Settles (slice_set places.old.slots.items slot None) slot (moved v side.now l) places.new.slots.items) }
+    ensures moved { OnOk result ((l : TheLine) → Holds places.old.slots.items slot l → Settles (slice_set places.old.slots.items slot None) slot (moved v side l) places.new.slots.items) }
     ensures kept { OnOk result ((n : ℕ) → contains nat_cmp pending.old n ≡ true → contains nat_cmp pending.new n ≡ true) }
     ensures added { OnOk result ((n : ℕ) (l : TheLine) → Holds places.old.slots.items slot l → Names n l → contains nat_cmp pending.new n ≡ true) }
 {
-    let Some(line) = places.clear(slot) else {
+    let Some(row) = places.clear(slot) else {
         return Ok(());
     };
-    add_line(pending, &line)?;
-    let moved = self_to_var(put_in_line(&line, v, side)?);
-    places.settle(slot, moved)
+    add_line(pending, row.line())?;
+    places.settle(slot, row.with(v, side)?)
 }
 
-// Puts the side in the place of the existential in all lines that name it.
-fn move_lines(places: &mut Places, pending: &mut Pending, v: u32, side: &Dtv) -> Result<(), Memory>
+// Puts copies of the side in the place of the existential in all lines that name it.
+fn move_each(
+    places: &mut Places,
+    pending: &mut Pending,
+    v: u32,
+    side: &KnownSide,
+) -> Result<(), Memory>
     requires places { ArePlaces places.old }
     requires other_base { side.now.base ≢ Existential v }
     requires own { (n : ℕ) → side.now.base ≡ Existential n → contains nat_cmp pending.old n ≡ true }
@@ -133,31 +134,72 @@ fn move_lines(places: &mut Places, pending: &mut Pending, v: u32, side: &Dtv) ->
 {
     let mut from = 0;
     while let Some(slot) = next_at(&places.naming, v, from) {
-        move_line(places, pending, slot, v, side)?;
+        move_line(places, pending, slot, v, side.copy()?)?;
         from = slot + 1;
     }
     Ok(())
 }
 
+// Puts the side in the place of the existential in all lines that name it, the first of which is known. Where it is the
+// only one, the side's word becomes its word, and is not copied.
+fn move_lines(
+    places: &mut Places,
+    pending: &mut Pending,
+    first: usize,
+    v: u32,
+    side: KnownSide,
+) -> Result<(), Memory>
+    requires places { ArePlaces places.old }
+    requires names { has places.old.naming v first ≡ true }
+    requires first { (i : ℕ) → has places.old.naming v i ≡ true → first ≤ i }
+    requires other_base { side.base ≢ Existential v }
+    requires own { (n : ℕ) → side.base ≡ Existential n → contains nat_cmp pending.old n ≡ true }
+    ensures places { OnOk result (ArePlaces places.new) }
+    ensures moved { OnOk result (lines_of places.new.slots.items ≡ tidied (put_lines v side (lines_of places.old.slots.items))) }
+    ensures kept { OnOk result ((n : ℕ) → contains nat_cmp pending.old n ≡ true → contains nat_cmp pending.new n ≡ true) }
+    ensures agree { OnOk result (Agrees (contains nat_cmp pending.new) places.old.slots.items places.new.slots.items) }
+{
+    match next_at(&places.naming, v, first + 1) {
+        Some(_) => move_each(places, pending, v, &side),
+        None => {
+            move_line(places, pending, first, v, side)?;
+            Ok(())
+        }
+    }
+}
+
+// Clears the slot of a use of the existential, and gives the other side.
+fn take_side(places: &mut Places, v: u32, slot: usize) -> Option<KnownSide>
+    requires places { ArePlaces places.old }
+    requires within { slot < length places.old.slots.items }
+    ensures places { ArePlaces places.new }
+    ensures slots { places.new.slots.items ≡ slice_set places.old.slots.items slot None }
+    ensures side { (sign : Sign) (z : Variable) → IsSoleAt sign v z places.old.slots.items slot → result ≡ Some z }
+{
+    let Some(row) = places.clear(slot) else {
+        return None;
+    };
+    row.into_other_side(v)
+}
+
 // The existential gives its place away.
 fn give_away(places: &mut Places, pending: &mut Pending, turn: Turn) -> Result<(), Memory>
     requires places { ArePlaces places.old }
-    requires turn { IsNextTurn turn.existential turn.side turn.slot places.old.slots.items (contains nat_cmp pending.old) }
+    requires turn { (z : Variable) × IsNextTurn turn.existential z turn.slot places.old.slots.items (contains nat_cmp pending.old) }
     ensures places { OnOk result (ArePlaces places.new) }
     ensures pending { OnOk result (ArePending (contains nat_cmp pending.new) places.new.slots.items) }
-    ensures gives { OnOk result (GivesAway turn.existential turn.side places.old.slots.items turn.slot (lines_of places.new.slots.items)) }
+    ensures gives { OnOk result ((z : Variable) × IsNextTurn turn.existential z turn.slot places.old.slots.items (contains nat_cmp pending.old)
+        × GivesAway turn.existential z places.old.slots.items turn.slot (lines_of places.new.slots.items)) }
 {
-    let Turn {
-        existential,
-        slot,
-        side,
-    } = turn;
+    let Turn { existential, slot } = turn;
+    let Some(side) = take_side(places, existential, slot) else {
+        unreachable!()
+    };
     add_base(pending, Base::Exist(existential))?;
-    add_base(pending, side.base)?;
-    places.clear(slot);
+    add_base(pending, side.base())?;
     match next_at(&places.naming, existential, 0) {
-        Some(_) => move_lines(places, pending, existential, &side),
-        None => places.settle(slot, Line::Var(side)),
+        Some(first) => move_lines(places, pending, first, existential, side),
+        None => places.settle(slot, Row::existing(side)),
     }
 }
 
@@ -169,36 +211,36 @@ fn placed(alloc: Global, lines: Lines) -> Result<Places, Memory>
     let mut places = Places::new(alloc);
     for line in lines.into_vec() {
         let slot = places.add_slot()?;
-        places.settle(slot, self_to_var(line))?;
+        places.settle(slot, Row::of(self_to_var(line)))?;
     }
     Ok(places)
 }
 
 // The existentials that lines in slots name.
-fn named(alloc: Global, slots: &[Option<Line>]) -> Result<Pending, Memory>
+fn named(alloc: Global, slots: &[Option<Row>]) -> Result<Pending, Memory>
     ensures { IfOk result (λ pending. (i n : ℕ) (l : TheLine) → Holds slots.now i l → Names n l → contains nat_cmp pending n ≡ true) }
 {
     let mut pending = BTreeSet::new(alloc);
     for slot in slots {
-        if let Some(line) = slot {
-            add_line(&mut pending, line)?;
+        if let Some(row) = slot {
+            add_line(&mut pending, row.line())?;
         }
     }
     Ok(pending)
 }
 
 // Adds the line of a slot, if it holds one.
-fn push_line(lines: &mut Vec<Line>, slot: Option<Line>) -> Result<(), Memory>
+fn push_line(lines: &mut Vec<Line>, slot: Option<Row>) -> Result<(), Memory>
     ensures { OnOk result (lines.new.items ≡ lines.old.items ++ lines_of (slot ∷ [])) }
 {
-    if let Some(line) = slot {
-        lines.push(line)?;
+    if let Some(row) = slot {
+        lines.push(row.into_line())?;
     }
     Ok(())
 }
 
 // The lines in slots, in their order.
-fn gathered(alloc: Global, slots: Vec<Option<Line>>) -> Result<Lines, Memory>
+fn gathered(alloc: Global, slots: Vec<Option<Row>>) -> Result<Lines, Memory>
     ensures { IfOk result (λ lines. lines ≡ lines_of slots.items) }
 {
     let mut lines = Vec::new(alloc);
@@ -215,7 +257,7 @@ pub fn put_away(alloc: Global, lines: Lines) -> Result<Lines, Memory>
 {
     let mut places = placed(alloc, lines)?;
     let mut pending = named(alloc, &places.slots)?;
-    while let Some(turn) = next_turn(&places, &mut pending)? {
+    while let Some(turn) = next_turn(&places, &mut pending) {
         give_away(&mut places, &mut pending, turn)?;
     }
     gathered(alloc, places.slots)

@@ -9,16 +9,17 @@ use Rattle.rt_proc.specs.Bodies.{AreEntries}
 use Rattle.rt_proc.specs.Entries.{IsFunction, IsReached, Calls, IsCalledFrom, IsEntry}
 use Rattle.rt_proc.specs.Order.{AreRising}
 use Rattle.rt_proc.specs.Steps.{callees}
+use Rattle.rt_proc.proofs.Ended.{good-look}
 use Rattle.rt_proc.proofs.Forms.{good-callees}
 use Rattle.rt_proc.proofs.Inserted.{Contains-none}
 
-module _ (object : Object) where
-  pub calls_of-none : (to : Place) → Contains [] to ↔ IsCalledFrom object [] to
+module _ (object : Object) (ends : List ℕ) where
+  pub calls_of-none : (to : Place) → Contains [] to ↔ IsCalledFrom object ends [] to
   calls_of-none to = ((λ h. absurd (Contains-none to h)), λ h. absurd (Contains-none h.from h.is_among))
 
   pub calls_of-more : (places called more all : List Place) (i : ℕ) (d : Place) → i < length places → all ≡ called ++ more
-      → ((to : Place) → Contains called to ↔ IsCalledFrom object (take i places) to) → ((to : Place) → Contains more to ↔ Calls object (get_or places i d) to)
-      → (to : Place) → Contains all to ↔ IsCalledFrom object (take (i + 1) places) to
+      → ((to : Place) → Contains called to ↔ IsCalledFrom object ends (take i places) to) → ((to : Place) → Contains more to ↔ Calls object ends (get_or places i d) to)
+      → (to : Place) → Contains all to ↔ IsCalledFrom object ends (take (i + 1) places) to
   calls_of-more places called more all i d within is old new to =
       let place : Place = get_or places i d in
       let first : take (i + 1) places ≡ take i places ++ place ∷ [] = take_more places i d within in
@@ -31,13 +32,13 @@ module _ (object : Object) where
         ]),
         λ h. subst (λ (ps : List Place). Contains ps to) (sym is) (elim (Contains-push_cases (take i places) place h.from (subst (λ (ps : List Place). Contains ps h.from) first h.is_among)) [
           | inl before ↦ Contains-append_left called more to ((old to).1 (record { from = h.from; is_among = before; calls = h.calls }))
-          | inr e ↦ Contains-append_right called more to ((new to).1 (subst (λ (from : Place). Calls object from to) (sym e) h.calls))
+          | inr e ↦ Contains-append_right called more to ((new to).1 (subst (λ (from : Place). Calls object ends from to) (sym e) h.calls))
         ]),
       )
 
-  pub calls_of-all : (places called : List Place) (i : ℕ) → length places ≤ i → ((to : Place) → Contains called to ↔ IsCalledFrom object (take i places) to)
-      → (to : Place) → Contains called to ↔ IsCalledFrom object places to
-  calls_of-all places called i whole h to = subst (λ (ps : List Place). Contains called to ↔ IsCalledFrom object ps to) (take_all i places whole) (h to)
+  pub calls_of-all : (places called : List Place) (i : ℕ) → length places ≤ i → ((to : Place) → Contains called to ↔ IsCalledFrom object ends (take i places) to)
+      → (to : Place) → Contains called to ↔ IsCalledFrom object ends places to
+  calls_of-all places called i whole h to = subst (λ (ps : List Place). Contains called to ↔ IsCalledFrom object ends ps to) (take_all i places whole) (h to)
 
   -- functions, and what is called
   pub either : (entries functions called sorted : List Place) (P : Place → Type 0) → entries ≡ functions ++ called → ((to : Place) → Contains called to ↔ P to)
@@ -54,26 +55,26 @@ module _ (object : Object) where
   )
 
 -- an entry is at a good place
-pub good_entry : (object : Object) → IsLawOfPlaces → (p : Place) → IsEntry object p → IsGood object p
-good_entry object law p (IsEntry.of_function f) = f.is_good
-good_entry object law p (IsEntry.of_call from reaches calls) = All-contains (IsGood object) (callees calls.form) p (good-callees object calls.form (law object from calls.form calls.is_at)) calls.calls
+pub good_entry : (object : Object) (ends : List ℕ) → IsLawOfPlaces → (p : Place) → IsEntry object ends p → IsGood object p
+good_entry object ends law p (IsEntry.of_function f) = f.is_good
+good_entry object ends law p (IsEntry.of_call from reaches calls) = All-contains (IsGood object) (callees calls.form) p (good-callees object calls.form (good-look law object ends from calls.form calls.is_at)) calls.calls
 
 -- functions and what reached sites call are the entries
-module _ (object : Object) (functions reached entries : List Place) (rising : AreRising entries) (are_functions : (p : Place) → Contains functions p ↔ IsFunction object p)
-    (are_reached : (p : Place) → Contains reached p ↔ IsReached object p) (same : (p : Place) → Contains entries p ↔ (Contains functions p ⊎ IsCalledFrom object reached p)) where
-  is_entry : (p : Place) → Contains functions p ⊎ IsCalledFrom object reached p → IsEntry object p
+module _ (object : Object) (ends : List ℕ) (functions reached entries : List Place) (rising : AreRising entries) (are_functions : (p : Place) → Contains functions p ↔ IsFunction object p)
+    (are_reached : (p : Place) → Contains reached p ↔ IsReached object ends p) (same : (p : Place) → Contains entries p ↔ (Contains functions p ⊎ IsCalledFrom object ends reached p)) where
+  is_entry : (p : Place) → Contains functions p ⊎ IsCalledFrom object ends reached p → IsEntry object ends p
   is_entry p (inl f) = IsEntry.of_function ((are_functions p).0 f)
   is_entry p (inr c) = IsEntry.of_call c.from ((are_reached c.from).0 c.is_among) c.calls
 
-  entry_is : (p : Place) → IsEntry object p → Contains functions p ⊎ IsCalledFrom object reached p
+  entry_is : (p : Place) → IsEntry object ends p → Contains functions p ⊎ IsCalledFrom object ends reached p
   entry_is p (IsEntry.of_function f) = inl ((are_functions p).1 f)
   entry_is p (IsEntry.of_call from reaches calls) = inr (record { from = from; is_among = (are_reached from).1 reaches; calls = calls })
 
-  pub are_entries : IsLawOfPlaces → AreEntries object entries
+  pub are_entries : IsLawOfPlaces → AreEntries object ends entries
   are_entries law = record {
     rising = rising;
     same = λ p. ((λ h. is_entry p ((same p).0 h)), λ e. (same p).1 (entry_is p e));
-    good = λ k d within. let p = get_or entries k d in good_entry object law p (is_entry p ((same p).0 (Contains-get_or entries k d within)));
+    good = λ k d within. let p = get_or entries k d in good_entry object ends law p (is_entry p ((same p).0 (Contains-get_or entries k d within)));
   }
 
 -- two facts of one answer

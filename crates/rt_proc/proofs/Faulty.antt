@@ -8,7 +8,7 @@ use Rattle.rt_link.specs.declared.place.Place.{Place}
 use Rattle.rt_control.specs.declared.fault.SiteFault.{SiteFault}
 use Rattle.rt_control.specs.declared.form.Form.{Form}
 use Rattle.rt_control.specs.Control.{number_of}
-use Rattle.rt_control.specs.Sites.{IsAt}
+use Rattle.rt_proc.specs.Ends.{IsLookAt}
 use Rattle.rt_proc.specs.declared.site.Site.{Site}
 use Rattle.rt_proc.specs.Bodies.{IsInBody}
 use Rattle.rt_proc.specs.Faults.{IsSound, IsFirstIn}
@@ -47,57 +47,57 @@ earlier ps i d q rising within h below = elim (cases_lt h.0 i) [
         IsBelow-asymmetric q (get_or ps i d) below after
 
 -- the site at a place has no fault
-abbrev pub IsSoundAt : Object → Place → Type 0
-IsSoundAt object place = (fault : SiteFault) → IsAt object place (Err fault) → ⊥
+abbrev pub IsSoundAt : Object → List ℕ → Place → Type 0
+IsSoundAt object ends place = (fault : SiteFault) → IsLookAt object ends place (Err fault) → ⊥
 
-pub sound-at : (object : Object) (place : Place) (form : Form) → IsAt object place (Ok form) → IsSoundAt object place
-sound-at object place form is_at fault h = no_form object place fault form h is_at
+pub sound-at : (object : Object) (ends : List ℕ) (place : Place) (form : Form) → IsLookAt object ends place (Ok form) → IsSoundAt object ends place
+sound-at object ends place form is_at fault h = no_form object ends place fault form h is_at
 
 -- the first i places have no fault
-abbrev pub AreSoundAt : Object → List Place → Type 0
-AreSoundAt object places = (p : Place) → Contains places p → IsSoundAt object p
+abbrev pub AreSoundAt : Object → List ℕ → List Place → Type 0
+AreSoundAt object ends places = (p : Place) → Contains places p → IsSoundAt object ends p
 
-pub sound-more : (object : Object) (places : List Place) (i : ℕ) (d : Place) → i < length places → AreSoundAt object (take i places) → IsSoundAt object (get_or places i d) → AreSoundAt object (take (i + 1) places)
-sound-more object places i d within old new = λ p h. elim (Contains-push_cases (take i places) (get_or places i d) p (subst (λ (ps : List Place). Contains ps p) (take_more places i d within) h)) [
+pub sound-more : (object : Object) (ends : List ℕ) (places : List Place) (i : ℕ) (d : Place) → i < length places → AreSoundAt object ends (take i places) → IsSoundAt object ends (get_or places i d) → AreSoundAt object ends (take (i + 1) places)
+sound-more object ends places i d within old new = λ p h. elim (Contains-push_cases (take i places) (get_or places i d) p (subst (λ (ps : List Place). Contains ps p) (take_more places i d within) h)) [
   | inl before ↦ old p before
-  | inr e ↦ subst (IsSoundAt object) e new
+  | inr e ↦ subst (IsSoundAt object ends) e new
 ]
 
-module _ (object : Object) (own : Place) (body : List Place) (rising : AreRising body) (is_body : (p : Place) → Contains body p ↔ IsInBody object own p) where
-  pub first-fault : (i : ℕ) (d : Place) (fault : SiteFault) (number : ℕ) → number ≡ number_of fault → i < length body → AreSoundAt object (take i body) → IsAt object (get_or body i d) (Err fault) → IsFirstIn object own number (get_or body i d)
+module _ (object : Object) (ends : List ℕ) (own : Place) (body : List Place) (rising : AreRising body) (is_body : (p : Place) → Contains body p ↔ IsInBody object ends own p) where
+  pub first-fault : (i : ℕ) (d : Place) (fault : SiteFault) (number : ℕ) → number ≡ number_of fault → i < length body → AreSoundAt object ends (take i body) → IsLookAt object ends (get_or body i d) (Err fault) → IsFirstIn object ends own number (get_or body i d)
   first-fault i d fault number is within sound is_at = record {
     has_fault = record { in_body = (is_body (get_or body i d)).0 (Contains-get_or body i d within); fault = fault; is_at = is_at; is_number = is };
     is_first = λ other n below h. sound other (earlier body i d other rising within ((is_body other).1 h.in_body) below) h.fault h.is_at;
   }
 
-  pub no-fault : (i : ℕ) → length body ≤ i → AreSoundAt object (take i body) → IsSound object own
+  pub no-fault : (i : ℕ) → length body ≤ i → AreSoundAt object ends (take i body) → IsSound object ends own
   no-fault i whole sound = λ number place h.
       sound place (subst (λ (ps : List Place). Contains ps place) (sym (take_all i body whole)) ((is_body place).1 h.in_body)) h.fault h.is_at
 
 -- the sites of the first places of a body
-pub record AreSites (object : Object) (entries : List Place) (own : Place) (body : List Place) (i : ℕ) (sites : List Site) : Type 0 where
+pub record AreSites (object : Object) (ends : List ℕ) (entries : List Place) (own : Place) (body : List Place) (i : ℕ) (sites : List Site) : Type 0 where
   pub places : places_of sites ≡ take i body
-  pub each : All (IsSite object entries own) sites
-  pub sound : AreSoundAt object (take i body)
+  pub each : All (IsSite object ends entries own) sites
+  pub sound : AreSoundAt object ends (take i body)
 
-module _ (object : Object) (entries : List Place) (own : Place) (body : List Place) where
-  pub sites-none : AreSites object entries own body 0 []
+module _ (object : Object) (ends : List ℕ) (entries : List Place) (own : Place) (body : List Place) where
+  pub sites-none : AreSites object ends entries own body 0 []
   sites-none = record {
     places = refl;
-    each = All-nil (IsSite object entries own);
+    each = All-nil (IsSite object ends entries own);
     sound = λ p h. absurd (Contains-none p h);
   }
 
   pub sites-more : (i : ℕ) (d : Place) (sites new : List Site) (site : Site) (form : Form) → i < length body → new ≡ sites ++ site ∷ []
-      → site ≡ site_of entries own (get_or body i d) form → IsAt object (get_or body i d) (Ok form)
-      → AreSites object entries own body i sites → AreSites object entries own body (i + 1) new
+      → site ≡ site_of entries own (get_or body i d) form → IsLookAt object ends (get_or body i d) (Ok form)
+      → AreSites object ends entries own body i sites → AreSites object ends entries own body (i + 1) new
   sites-more i d sites new site form within push made is_at old =
       let place : Place = get_or body i d in
-      let one : IsSite object entries own (site_of entries own place form) = record { form = form; is_at = is_at; is_site = refl } in
+      let one : IsSite object ends entries own (site_of entries own place form) = record { form = form; is_at = is_at; is_site = refl } in
       record {
         places =
             ap places_of push ∙ map-append (λ (s : Site). s.place) sites (site ∷ [])
             ∙ (λ j. old.places j ++ (made j).place ∷ []) ∙ sym (take_more body i d within);
-        each = subst (All (IsSite object entries own)) (sym push) (All-push (IsSite object entries own) sites site old.each (subst (IsSite object entries own) (sym made) one));
-        sound = sound-more object body i d within old.sound (sound-at object place form is_at);
+        each = subst (All (IsSite object ends entries own)) (sym push) (All-push (IsSite object ends entries own) sites site old.each (subst (IsSite object ends entries own) (sym made) one));
+        sound = sound-more object ends body i d within old.sound (sound-at object ends place form is_at);
       }

@@ -1,5 +1,5 @@
 -- What the form of a site says of its steps and calls.
-use Rattle.std.proofs.Common.{◌≡◌, ◌↔◌, inl, inr, Some, None, Ok, Err, [], ◌∷◌, ◌++◌, All, Contains, subst}
+use Rattle.std.proofs.Common.{◌≡◌, ◌↔◌, ℕ, List, inl, inr, Some, None, Ok, Err, [], ◌∷◌, ◌++◌, All, Contains, subst}
 use Rattle.std.proofs.lemmas.List.Elements.{All-nil, All-cons, All-append}
 use Rattle.rt_elf.specs.Parts.{Parts as Object}
 use Rattle.rt_elf.proofs.Booleans.{cases_bool}
@@ -15,12 +15,11 @@ use Rattle.rt_control.specs.declared.form.Target.TheVariants as target
 use Rattle.rt_control.specs.declared.form.Way.{Way}
 use Rattle.rt_control.specs.declared.form.Way.TheVariants.{On, Jump, Branch, Leave, Table}
 use Rattle.rt_control.specs.Laws.{IsGood, IsGoodWay, IsGoodCalled, IsGoodTarget, IsGoodForm}
-use Rattle.rt_control.specs.Sites.{IsAt}
-use Rattle.rt_control.proofs.GoodForms.{at-good}
-use Rattle.rt_control.proofs.OneForm.{one_at}
+use Rattle.rt_proc.specs.Ends.{Look, IsLookAt}
 use Rattle.rt_proc.specs.Entries.{LeadsTo, Calls}
-use Rattle.rt_proc.specs.Looks.{Look, led_by, called_by}
+use Rattle.rt_proc.specs.Looks.{led_by, called_by}
 use Rattle.rt_proc.specs.Steps.{way_steps, steps, called_code, target_code, callees}
+use Rattle.rt_proc.proofs.Ended.{same_look, look-good}
 use Rattle.rt_proc.proofs.Inserted.{Contains-none}
 
 -- the places of a form are good
@@ -64,28 +63,28 @@ good-callees object Stop h = All-nil (IsGood object)
 
 -- what the look at a place says
 
-pub one_form : (object : Object) (place : Place) (form other : Form) → IsAt object place (Ok form) → IsAt object place (Ok other) → other ≡ form
-one_form object place form other is_at h = let e : ◌≡◌ {A = Look} (Ok other) (Ok form) = one_at object place (Ok other) (Ok form) h is_at in cc
+pub one_form : (object : Object) (ends : List ℕ) (place : Place) (form other : Form) → IsLookAt object ends place (Ok form) → IsLookAt object ends place (Ok other) → other ≡ form
+one_form object ends place form other is_at h = let e : ◌≡◌ {A = Look} (Ok other) (Ok form) = same_look object ends place (Ok other) (Ok form) h is_at in cc
 
-pub no_form : (object : Object) (place : Place) (fault : SiteFault) (form : Form) → IsAt object place (Err fault) → IsAt object place (Ok form) → ⊥
-no_form object place fault form is_at h = let e : ◌≡◌ {A = Look} (Ok form) (Err fault) = one_at object place (Ok form) (Err fault) h is_at in cc
+pub no_form : (object : Object) (ends : List ℕ) (place : Place) (fault : SiteFault) (form : Form) → IsLookAt object ends place (Err fault) → IsLookAt object ends place (Ok form) → ⊥
+no_form object ends place fault form is_at h = let e : ◌≡◌ {A = Look} (Ok form) (Err fault) = same_look object ends place (Ok form) (Err fault) h is_at in cc
 
-pub leads : (object : Object) (place : Place) (look : Look) → IsAt object place look → (to : Place) → Contains (led_by look) to ↔ LeadsTo object place to
-leads object place (Ok form) is_at to = (
+pub leads : (object : Object) (ends : List ℕ) (place : Place) (look : Look) → IsLookAt object ends place look → (to : Place) → Contains (led_by look) to ↔ LeadsTo object ends place to
+leads object ends place (Ok form) is_at to = (
   (λ h. record { form = form; is_at = is_at; leads = h }),
-  λ h. subst (λ (f : Form). Contains (steps f ++ callees f) to) (one_form object place form h.form is_at h.is_at) h.leads,
+  λ h. subst (λ (f : Form). Contains (steps f ++ callees f) to) (one_form object ends place form h.form is_at h.is_at) h.leads,
 )
-leads object place (Err fault) is_at to = ((λ h. absurd (Contains-none to h)), λ h. absurd (no_form object place fault h.form is_at h.is_at))
+leads object ends place (Err fault) is_at to = ((λ h. absurd (Contains-none to h)), λ h. absurd (no_form object ends place fault h.form is_at h.is_at))
 
-pub good-led : (object : Object) (place : Place) (look : Look) → IsAt object place look → All (IsGood object) (led_by look)
-good-led object place (Ok form) is_at =
-    let good : IsGoodForm object form = at-good object place (Ok form) is_at in
+pub good-led : (object : Object) (ends : List ℕ) (place : Place) (look : Look) → IsLookAt object ends place look → All (IsGood object) (led_by look)
+good-led object ends place (Ok form) is_at =
+    let good : IsGoodForm object form = look-good object ends place form is_at in
     All-append (IsGood object) (steps form) (callees form) (good-steps object form good) (good-callees object form good)
-good-led object place (Err fault) is_at = All-nil (IsGood object)
+good-led object ends place (Err fault) is_at = All-nil (IsGood object)
 
-pub calls : (object : Object) (place : Place) (look : Look) → IsAt object place look → (to : Place) → Contains (called_by look) to ↔ Calls object place to
-calls object place (Ok form) is_at to = (
+pub calls : (object : Object) (ends : List ℕ) (place : Place) (look : Look) → IsLookAt object ends place look → (to : Place) → Contains (called_by look) to ↔ Calls object ends place to
+calls object ends place (Ok form) is_at to = (
   (λ h. record { form = form; is_at = is_at; calls = h }),
-  λ h. subst (λ (f : Form). Contains (callees f) to) (one_form object place form h.form is_at h.is_at) h.calls,
+  λ h. subst (λ (f : Form). Contains (callees f) to) (one_form object ends place form h.form is_at h.is_at) h.calls,
 )
-calls object place (Err fault) is_at to = ((λ h. absurd (Contains-none to h)), λ h. absurd (no_form object place fault h.form is_at h.is_at))
+calls object ends place (Err fault) is_at to = ((λ h. absurd (Contains-none to h)), λ h. absurd (no_form object ends place fault h.form is_at h.is_at))

@@ -1,5 +1,6 @@
 pub mod Called
 pub mod Collected
+pub mod Ended
 pub mod EntrySets
 pub mod Faulty
 pub mod Forms
@@ -9,7 +10,9 @@ pub mod Looking
 pub mod Naming
 pub mod Numbered
 pub mod OneFault
+pub mod Ordered
 pub mod PlaceLaws
 pub mod Staying
+pub mod Uniqueness
 pub mod Walking
 pub mod Whole

@@ -7,33 +7,33 @@ use Rattle.rt_elf.specs.Parts.{Parts as Object}
 use Rattle.rt_elf.proofs.Booleans.{cases_bool}
 use Rattle.rt_link.specs.Effects.{is_place}
 use Rattle.rt_link.specs.declared.place.Place.{Place}
-use Rattle.rt_control.specs.Sites.{IsAt}
+use Rattle.rt_proc.specs.Ends.{Look, IsLookAt}
 use Rattle.rt_proc.specs.declared.look.Looks.{Looks}
 use Rattle.rt_proc.specs.Entries.{IsReached}
-use Rattle.rt_proc.specs.Looks.{Look, look_in, AreLooksOf}
+use Rattle.rt_proc.specs.Looks.{look_in, AreLooksOf}
 use Rattle.rt_proc.proofs.Inserted.{Contains-none}
 use Rattle.rt_proc.proofs.PlaceLaws.{is_place-same, is_place-self}
 use Rattle.rt_proc.proofs.Walking.{followed-next}
 
 -- the looks that are kept are those at places of the object, and one is kept for each of some places
-pub record AreLooksAt (object : Object) (looks : Looks) (places : List Place) : Type 0 where
-  pub sound : (place : Place) (look : Look) → look_in looks place ≡ Some look → IsAt object place look
+pub record AreLooksAt (object : Object) (ends : List ℕ) (looks : Looks) (places : List Place) : Type 0 where
+  pub sound : (place : Place) (look : Look) → look_in looks place ≡ Some look → IsLookAt object ends place look
   pub complete : (place : Place) → Contains places place → IsSome (look_in looks place)
 
-pub no-looks : (object : Object) (looks : Looks) → ((place : Place) → look_in looks place ≡ None) → AreLooksAt object looks []
-no-looks object looks none = record {
+pub no-looks : (object : Object) (ends : List ℕ) (looks : Looks) → ((place : Place) → look_in looks place ≡ None) → AreLooksAt object ends looks []
+no-looks object ends looks none = record {
   sound = λ place look e. let no : None ≡ Some look = sym (none place) ∙ e in cc;
   complete = λ place h. absurd (Contains-none place h);
 }
 
 -- what is kept for a place after one more
-kept-sound : (object : Object) (place q : Place) (look found : Look) (old : Option Look) → IsAt object place look → (old ≡ Some found → IsAt object q found)
-    → (if is_place place q then Some look else old) ≡ Some found → IsAt object q found
-kept-sound object place q look found old is_at before e = elim (cases_bool (is_place place q)) [
+kept-sound : (object : Object) (ends : List ℕ) (place q : Place) (look found : Look) (old : Option Look) → IsLookAt object ends place look → (old ≡ Some found → IsLookAt object ends q found)
+    → (if is_place place q then Some look else old) ≡ Some found → IsLookAt object ends q found
+kept-sound object ends place q look found old is_at before e = elim (cases_bool (is_place place q)) [
   | inl same ↦
       let one : Some look ≡ Some found = rw same at e in
       let looks : look ≡ found = cc in
-      subst (λ (p : Place). IsAt object p found) (is_place-same place q same) (subst (IsAt object place) looks is_at)
+      subst (λ (p : Place). IsLookAt object ends p found) (is_place-same place q same) (subst (IsLookAt object ends place) looks is_at)
   | inr apart ↦ before (rw apart at e)
 ]
 
@@ -44,11 +44,11 @@ kept-new : (place q : Place) (look : Look) (old : Option Look) → place ≡ q �
 kept-new place q look old e = rw (subst (λ (p : Place). is_place place p ≡ true) e (is_place-self place)) refl
 
 -- one more look, at the next of the places that are followed
-pub looks-more : (object : Object) (looks looks' : Looks) (found led found' : List Place) (i : ℕ) (place : Place) (look : Look) → slice_get found i ≡ Some place → found' ≡ with_places found led
-    → IsAt object place look → ((q : Place) → look_in looks' q ≡ (if is_place place q then Some look else look_in looks q))
-    → AreLooksAt object looks (take i found) → AreLooksAt object looks' (take (i + 1) found')
-looks-more object looks looks' found led found' i place look at is is_at kept old = record {
-  sound = λ q x e. kept-sound object place q look x (look_in looks q) is_at (old.sound q x) (sym (kept q) ∙ e);
+pub looks-more : (object : Object) (ends : List ℕ) (looks looks' : Looks) (found led found' : List Place) (i : ℕ) (place : Place) (look : Look) → slice_get found i ≡ Some place → found' ≡ with_places found led
+    → IsLookAt object ends place look → ((q : Place) → look_in looks' q ≡ (if is_place place q then Some look else look_in looks q))
+    → AreLooksAt object ends looks (take i found) → AreLooksAt object ends looks' (take (i + 1) found')
+looks-more object ends looks looks' found led found' i place look at is is_at kept old = record {
+  sound = λ q x e. kept-sound object ends place q look x (look_in looks q) is_at (old.sound q x) (sym (kept q) ∙ e);
   complete = λ q h. subst (λ (o : Option Look). IsSome o) (sym (kept q))
       (elim (Contains-push_cases (take i found) place q (subst (λ (places : List Place). Contains places q) (followed-next found led found' i place at is) h)) [
         | inl before ↦ kept-some place q look (look_in looks q) (old.complete q before)
@@ -57,8 +57,8 @@ looks-more object looks looks' found led found' i place look at is is_at kept ol
 }
 
 -- looks at all that is reached
-pub all-looks : (object : Object) (looks : Looks) (found : List Place) (i : ℕ) → length found ≤ i → ((p : Place) → IsReached object p → Contains found p) → AreLooksAt object looks (take i found) → AreLooksOf object looks
-all-looks object looks found i whole all kept = record {
+pub all-looks : (object : Object) (ends : List ℕ) (looks : Looks) (found : List Place) (i : ℕ) → length found ≤ i → ((p : Place) → IsReached object ends p → Contains found p) → AreLooksAt object ends looks (take i found) → AreLooksOf object ends looks
+all-looks object ends looks found i whole all kept = record {
   sound = kept.sound;
   complete = λ p reached. kept.complete p (subst (λ (places : List Place). Contains places p) (sym (take_all i found whole)) (all p reached));
 }

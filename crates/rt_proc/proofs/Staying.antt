@@ -1,15 +1,15 @@
 -- Steps that stay in a body.
-use Rattle.std.proofs.Common.{◌≡◌, ◌↔◌, inl, inr, Bool, true, false, not, Ok, Err, List, [], ◌∷◌, Contains, filter, refl, sym, ap, subst, ◌∙◌}
+use Rattle.std.proofs.Common.{◌≡◌, ◌↔◌, ℕ, inl, inr, Bool, true, false, not, Ok, Err, List, [], ◌∷◌, Contains, filter, refl, sym, ap, subst, ◌∙◌}
 use Rattle.std.proofs.lemmas.List.Folds.{list_any_at}
 use Rattle.rt_elf.specs.Parts.{Parts as Object}
 use Rattle.rt_elf.proofs.Booleans.{cases_bool}
 use Rattle.rt_link.specs.Effects.{is_place}
 use Rattle.rt_link.specs.declared.place.Place.{Place}
 use Rattle.rt_control.specs.declared.form.Form.{Form}
-use Rattle.rt_control.specs.Sites.{IsAt}
+use Rattle.rt_proc.specs.Ends.{Look, IsLookAt}
 use Rattle.rt_proc.specs.Bodies.{StepsTo}
 use Rattle.rt_proc.specs.Entries.{IsEntry}
-use Rattle.rt_proc.specs.Looks.{Look, stepped_by}
+use Rattle.rt_proc.specs.Looks.{stepped_by}
 use Rattle.rt_proc.specs.Sites.{is_entry, is_other}
 use Rattle.rt_proc.specs.Steps.{steps}
 use Rattle.rt_proc.proofs.Forms.{one_form, no_form}
@@ -50,14 +50,14 @@ is_entry-source (q ∷ qs) p e = elim (cases_bool (is_place q p)) [
 ]
 
 -- a place stays in the body of `own` exactly if it isn't the entry of another procedure
-module _ (object : Object) (entries : List Place) (own : Place) (same : (p : Place) → Contains entries p ↔ IsEntry object p) where
-  pub stays : (to : Place) → not (is_other entries own to) ≡ true → IsEntry object to → to ≡ own
+module _ (object : Object) (ends : List ℕ) (entries : List Place) (own : Place) (same : (p : Place) → Contains entries p ↔ IsEntry object ends p) where
+  pub stays : (to : Place) → not (is_other entries own to) ≡ true → IsEntry object ends to → to ≡ own
   stays to e entry = elim (cases_bool (is_place to own)) [
     | inl one ↦ is_place-same to own one
     | inr apart ↦ let f : false ≡ true = rw (is_entry-has entries to ((same to).1 entry), apart) at e in cc
   ]
 
-  pub stays-test : (to : Place) → (IsEntry object to → to ≡ own) → not (is_other entries own to) ≡ true
+  pub stays-test : (to : Place) → (IsEntry object ends to → to ≡ own) → not (is_other entries own to) ≡ true
   stays-test to h = elim (cases_bool (is_entry entries to)) [
     | inr out ↦ rw out refl
     | inl entry ↦
@@ -65,16 +65,16 @@ module _ (object : Object) (entries : List Place) (own : Place) (same : (p : Pla
         rw (entry, one) refl
   ]
 
-  pub stepped : (place : Place) (look : Look) → IsAt object place look → (to : Place) → Contains (stepped_by entries own look) to ↔ StepsTo object own place to
+  pub stepped : (place : Place) (look : Look) → IsLookAt object ends place look → (to : Place) → Contains (stepped_by entries own look) to ↔ StepsTo object ends own place to
   stepped place (Ok form) is_at to = (
     (λ h.
         let kept = filter-source (λ p. not (is_other entries own p)) (steps form) to h in
         record { form = form; is_at = is_at; steps = kept.0; stays = stays to kept.1 }
         ),
     λ h. filter-has (λ p. not (is_other entries own p)) (steps form) to
-        (subst (λ (f : Form). Contains (steps f) to) (one_form object place form h.form is_at h.is_at) h.steps) (stays-test to h.stays),
+        (subst (λ (f : Form). Contains (steps f) to) (one_form object ends place form h.form is_at h.is_at) h.steps) (stays-test to h.stays),
   )
-  stepped place (Err fault) is_at to = ((λ h. absurd (Contains-none to h)), λ h. absurd (no_form object place fault h.form is_at h.is_at))
+  stepped place (Err fault) is_at to = ((λ h. absurd (Contains-none to h)), λ h. absurd (no_form object ends place fault h.form is_at h.is_at))
 
 -- where a body starts
 pub one-place : (own p : Place) → Contains (own ∷ []) p ↔ (p ≡ own)

@@ -15,7 +15,7 @@ use Rattle.rt_control.specs.declared.form.Target.TheVariants as target
 use Rattle.rt_control.specs.declared.form.Way.{Way}
 use Rattle.rt_control.specs.declared.form.Way.TheVariants.{On, Jump, Branch, Leave, Table}
 use Rattle.rt_control.specs.Laws.{IsKnownForm, IsKnownCalled, IsKnownTarget, IsKnownWay, IsLawOfNames, IsLawOfPlaces as IsLawOfFormPlaces}
-use Rattle.rt_control.specs.Sites.{IsAt}
+use Rattle.rt_proc.specs.Ends.{IsLookAt}
 use Rattle.rt_proc.specs.declared.proc.Proc.{Proc}
 use Rattle.rt_proc.specs.declared.site.Callee.TheVariants as callee
 use Rattle.rt_proc.specs.declared.site.Site.{Site}
@@ -26,6 +26,7 @@ use Rattle.rt_proc.specs.Procs.{places_of, entries_of, IsSite, IsProc, AreProcs}
 use Rattle.rt_proc.specs.Sites.{is_entry, number_of, is_other, callee_of, target_of, kind_of, next_of, step_tails, way_tails, tails_of, site_of}
 use Rattle.rt_proc.specs.Steps.{way_steps, steps, called_code, target_code, callees}
 use Rattle.rt_proc.specs.Walks.{Walk}
+use Rattle.rt_proc.proofs.Ended.{known-look}
 use Rattle.rt_proc.proofs.EntrySets.{reached-body}
 use Rattle.rt_proc.proofs.Inserted.{Contains-here, Contains-there}
 use Rattle.rt_proc.proofs.OneFault.{good-body}
@@ -37,37 +38,37 @@ Contains-mapped f [] k d h = absurd (omega arith)
 Contains-mapped f (x ∷ xs) zero d h = Contains-here (f x) (map f xs)
 Contains-mapped f (x ∷ xs) (suc k) d h = Contains-there (f x) (map f xs) (f (get_or xs k d)) (Contains-mapped f xs k d (omega arith))
 
-entry-of : (object : Object) (procs : List Proc) (are : AreProcs object procs) (k : ℕ) (d : Proc) → k < length procs → IsEntry object (get_or procs k d).entry
-entry-of object procs are k d within = (are.entries (get_or procs k d).entry).0 (Contains-mapped (λ (p : Proc). p.entry) procs k d within)
+entry-of : (object : Object) (ends : List ℕ) (procs : List Proc) (are : AreProcs object ends procs) (k : ℕ) (d : Proc) → k < length procs → IsEntry object ends (get_or procs k d).entry
+entry-of object ends procs are k d within = (are.entries (get_or procs k d).entry).0 (Contains-mapped (λ (p : Proc). p.entry) procs k d within)
 
 place-of : (sites : List Site) (k : ℕ) (d : Site) → k < length sites → Contains (places_of sites) (get_or sites k d).place
 place-of sites k d within = Contains-mapped (λ (s : Site). s.place) sites k d within
 
 -- each place of a body is good
 pub places_lem : IsLawOfFormPlaces → IsLawOfPlaces
-places_lem law object procs are k d within j e there =
+places_lem law object ends procs are k d within j e there =
     let proc = get_or procs k d in
-    let is : IsProc object (entries_of procs) proc = are.each k d within in
+    let is : IsProc object ends (entries_of procs) proc = are.each k d within in
     let place = get_or (places_of proc.sites) j e in
-    good-body object proc.entry place law (entry-of object procs are k d within) ((is.body place).0 (Contains-get_or (places_of proc.sites) j e there))
+    good-body object ends proc.entry place law (entry-of object ends procs are k d within) ((is.body place).0 (Contains-get_or (places_of proc.sites) j e there))
 
 -- each step of a site leads to one of its body
 pub steps_lem : IsLawOfSteps
-steps_lem object procs are k d within =
+steps_lem object ends procs are k d within =
     let proc = get_or procs k d in
     let entries = entries_of procs in
-    let is : IsProc object entries proc = are.each k d within in
+    let is : IsProc object ends entries proc = are.each k d within in
     record {
       entry = (is.body proc.entry).1 (Walk.start refl);
       next = λ j e there.
           let site = get_or proc.sites j e in
-          let one : IsSite object entries proc.entry site = is.sites j e there in
+          let one : IsSite object ends entries proc.entry site = is.sites j e there in
           let next : site.next ≡ next_of entries proc.entry one.form = ap (λ (s : Site). s.next) one.is_site in
           λ i f inside.
           let to = get_or site.next i f in
           let kept = filter-source (λ (p : Place). not (is_other entries proc.entry p)) (steps one.form) to (subst (λ (ps : List Place). Contains ps to) next (Contains-get_or site.next i f inside)) in
-          let walk : IsInBody object proc.entry site.place = (is.body site.place).0 (place-of proc.sites j e there) in
-          (is.body to).1 (Walk.step walk (record { form = one.form; is_at = one.is_at; steps = kept.0; stays = stays object entries proc.entry are.entries to kept.1 }));
+          let walk : IsInBody object ends proc.entry site.place = (is.body site.place).0 (place-of proc.sites j e there) in
+          (is.body to).1 (Walk.step walk (record { form = one.form; is_at = one.is_at; steps = kept.0; stays = stays object ends entries proc.entry are.entries to kept.1 }));
     }
 
 -- the number of an entry is that of a procedure
@@ -125,20 +126,20 @@ module _ (object : Object) (entries : List Place) (count : ℕ) (counted : lengt
   site-is own site place f is among known = subst (HasCallees object count) (sym is) (kind-is f among known, tails-are own f among known)
 
 -- what a site of a procedure calls are entries
-called-entries : (object : Object) (procs : List Proc) (are : AreProcs object procs) (own place : Place) (f : Form) → IsEntry object own → IsInBody object own place → IsAt object place (Ok f)
+called-entries : (object : Object) (ends : List ℕ) (procs : List Proc) (are : AreProcs object ends procs) (own place : Place) (f : Form) → IsEntry object ends own → IsInBody object ends own place → IsLookAt object ends place (Ok f)
     → All (λ p. is_entry (entries_of procs) p ≡ true) (callees f)
-called-entries object procs are own place f entry walk is_at = λ k d within.
+called-entries object ends procs are own place f entry walk is_at = λ k d within.
     let p = get_or (callees f) k d in
-    is_entry-has (entries_of procs) p ((are.entries p).1 (IsEntry.of_call place (reached-body object own place entry walk) (record { form = f; is_at = is_at; calls = Contains-get_or (callees f) k d within })))
+    is_entry-has (entries_of procs) p ((are.entries p).1 (IsEntry.of_call place (reached-body object ends own place entry walk) (record { form = f; is_at = is_at; calls = Contains-get_or (callees f) k d within })))
 
 pub callees_lem : IsLawOfNames → IsLawOfCallees
-callees_lem law object procs linkable are k d within j e there =
+callees_lem law object ends procs linkable are k d within j e there =
     let proc = get_or procs k d in
     let entries = entries_of procs in
-    let is : IsProc object entries proc = are.each k d within in
+    let is : IsProc object ends entries proc = are.each k d within in
     let site = get_or proc.sites j e in
-    let one : IsSite object entries proc.entry site = is.sites j e there in
-    let walk : IsInBody object proc.entry site.place = (is.body site.place).0 (place-of proc.sites j e there) in
+    let one : IsSite object ends entries proc.entry site = is.sites j e there in
+    let walk : IsInBody object ends proc.entry site.place = (is.body site.place).0 (place-of proc.sites j e there) in
     site-is object entries (length procs) (length-map procs (λ (p : Proc). p.entry)) proc.entry site site.place one.form one.is_site
-    (called-entries object procs are proc.entry site.place one.form (entry-of object procs are k d within) walk one.is_at)
-    (law object site.place one.form linkable one.is_at)
+    (called-entries object ends procs are proc.entry site.place one.form (entry-of object ends procs are k d within) walk one.is_at)
+    (known-look law object ends site.place one.form linkable one.is_at)

@@ -1,5 +1,5 @@
 -- The faults of code, in order: those of symbols, then those of sites, by procedure and in it by place.
-use Rattle.std.specs.Prelude.{◌≡◌, ℕ, ◌&&◌, not, Option, Some, None, Result, Ok, Err, length, get_or}
+use Rattle.std.specs.Prelude.{◌≡◌, ℕ, ◌&&◌, not, Option, Some, None, Result, Ok, Err, List, length, get_or}
 use Rattle.rt_base.specs.First.{fault_if, first_each}
 use Rattle.rt_elf.specs.Parts.{Parts as Object}
 use Rattle.rt_elf.specs.declared.symbol.Symbol.{Symbol}
@@ -8,7 +8,7 @@ use Rattle.rt_link.specs.declared.place.Place.{Place}
 use Rattle.rt_control.specs.declared.fault.SiteFault.{SiteFault}
 use Rattle.rt_control.specs.Control.{number_of}
 use Rattle.rt_control.specs.Places.{is_good}
-use Rattle.rt_control.specs.Sites.{IsAt}
+use Rattle.rt_proc.specs.Ends.{IsLookAt}
 use Rattle.rt_proc.specs.declared.fault.CodeFault.{CodeFault}
 use Rattle.rt_proc.specs.declared.fault.CodeFault.TheVariants.{Bad, Memory}
 use Rattle.rt_proc.specs.Bodies.{IsInBody}
@@ -24,37 +24,37 @@ abbrev pub symbols_fault : Object → Option CodeFault
 symbols_fault object = first_each (λ i. symbol_fault object (get_or object.symbols i zero_symbol)) 0 (length object.symbols)
 
 -- a site of the body that is entered at `own` has a fault of a number
-pub record HasFault (object : Object) (own : Place) (number : ℕ) (place : Place) : Type 0 where
-  pub in_body : IsInBody object own place
+pub record HasFault (object : Object) (ends : List ℕ) (own : Place) (number : ℕ) (place : Place) : Type 0 where
+  pub in_body : IsInBody object ends own place
   pub fault : SiteFault
-  pub is_at : IsAt object place (Err fault)
+  pub is_at : IsLookAt object ends place (Err fault)
   pub is_number : number ≡ number_of fault
 
 -- no site of the body has a fault
-abbrev pub IsSound : Object → Place → Type 0
-IsSound object own = (number : ℕ) (place : Place) → ¬ HasFault object own number place
+abbrev pub IsSound : Object → List ℕ → Place → Type 0
+IsSound object ends own = (number : ℕ) (place : Place) → ¬ HasFault object ends own number place
 
 -- the fault of the body that comes first: no site before it has one
-pub record IsFirstIn (object : Object) (own : Place) (number : ℕ) (place : Place) : Type 0 where
-  pub has_fault : HasFault object own number place
-  pub is_first : (other : Place) (n : ℕ) → IsBelow other place → ¬ HasFault object own n other
+pub record IsFirstIn (object : Object) (ends : List ℕ) (own : Place) (number : ℕ) (place : Place) : Type 0 where
+  pub has_fault : HasFault object ends own number place
+  pub is_first : (other : Place) (n : ℕ) → IsBelow other place → ¬ HasFault object ends own n other
 
 -- the first fault of an object's code: of its symbols, or else of the first body that has one
-pub data IsFirstFault (object : Object) (number : ℕ) (place : Place) : Type 0 where
-  of_symbol : symbols_fault object ≡ Some (Bad number place) → IsFirstFault object number place
-  of_site : (own : Place) → symbols_fault object ≡ None → IsEntry object own → IsFirstIn object own number place
-      → ((other : Place) → IsEntry object other → IsBelow other own → IsSound object other)
-      → IsFirstFault object number place
+pub data IsFirstFault (object : Object) (ends : List ℕ) (number : ℕ) (place : Place) : Type 0 where
+  of_symbol : symbols_fault object ≡ Some (Bad number place) → IsFirstFault object ends number place
+  of_site : (own : Place) → symbols_fault object ≡ None → IsEntry object ends own → IsFirstIn object ends own number place
+      → ((other : Place) → IsEntry object ends other → IsBelow other own → IsSound object ends other)
+      → IsFirstFault object ends number place
 
 -- no symbol and no site of a procedure has a fault
-pub record HasNoFault (object : Object) : Type 0 where
+pub record HasNoFault (object : Object) (ends : List ℕ) : Type 0 where
   pub symbols : symbols_fault object ≡ None
-  pub sites : (own : Place) → IsEntry object own → IsSound object own
+  pub sites : (own : Place) → IsEntry object ends own → IsSound object ends own
 
 -- an error is the first fault; memory may always run out
-abbrev pub IsFaultOf : Object → CodeFault → Type 0
-IsFaultOf object (Bad number place) = IsFirstFault object number place
-IsFaultOf object Memory = Unit {0}
+abbrev pub IsFaultOf : Object → List ℕ → CodeFault → Type 0
+IsFaultOf object ends (Bad number place) = IsFirstFault object ends number place
+IsFaultOf object ends Memory = Unit {0}
 
 -- a check answers Ok where there is no fault, else the fault
 abbrev pub checked : Option CodeFault → Result (Unit {0}) CodeFault
@@ -67,6 +67,6 @@ IsSymbolFault fault (Bad number place) = fault ≡ Some (Bad number place)
 IsSymbolFault fault Memory = Unit {0}
 
 -- an error is the first fault of a body
-abbrev pub IsBodyFault : Object → Place → CodeFault → Type 0
-IsBodyFault object own (Bad number place) = IsFirstIn object own number place
-IsBodyFault object own Memory = Unit {0}
+abbrev pub IsBodyFault : Object → List ℕ → Place → CodeFault → Type 0
+IsBodyFault object ends own (Bad number place) = IsFirstIn object ends own number place
+IsBodyFault object ends own Memory = Unit {0}

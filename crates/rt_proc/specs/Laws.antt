@@ -1,4 +1,4 @@
--- What the entries, the bodies and the faults of an object's code have in common.
+-- What the entries, the bodies and the faults of an object's code have in common, whatever undefined symbols end paths.
 use Rattle.std.specs.Prelude.{◌≡◌, ◌≢◌, ◌↔◌, ℕ, ◌<◌, IsTrue, Bool, Ok, All, Contains, List, length}
 use Rattle.rt_elf.specs.Parts.{Parts as Object}
 use Rattle.rt_elf.specs.Object.{IsLinkable}
@@ -6,7 +6,7 @@ use Rattle.rt_insn.specs.Range.{HasRange}
 use Rattle.rt_link.specs.declared.place.Place.{Place}
 use Rattle.rt_control.specs.declared.form.Form.{Form}
 use Rattle.rt_control.specs.Laws.{IsGood, IsUndefined}
-use Rattle.rt_control.specs.Sites.{IsAt}
+use Rattle.rt_proc.specs.Ends.{IsLookAt}
 use Rattle.rt_proc.specs.declared.proc.Proc.{Proc}
 use Rattle.rt_proc.specs.declared.site.Callee.{Callee}
 use Rattle.rt_proc.specs.declared.site.Callee.TheVariants as callee
@@ -24,34 +24,38 @@ use Rattle.rt_proc.specs.Walks.{Walk}
 -- Entries are the least set of places that has the functions and what is called in the bodies of its places.
 
 -- the site at a place steps to another that is outside a set or is `own`
-pub record StepsOutside (object : Object) (set : Place → Bool) (own from to : Place) : Type 0 where
+pub record StepsOutside (object : Object) (ends : List ℕ) (set : Place → Bool) (own from to : Place) : Type 0 where
   pub form : Form
-  pub is_at : IsAt object from (Ok form)
+  pub is_at : IsLookAt object ends from (Ok form)
   pub steps : Contains (steps form) to
   pub stays : IsTrue (set to) → to ≡ own
 
 -- what such steps lead to from a place of the set
-abbrev pub IsInBodyOf : Object → (Place → Bool) → Place → Place → Type 0
-IsInBodyOf object set own place = Walk (λ p. p ≡ own) (StepsOutside object set own) place
+abbrev pub IsInBodyOf : Object → List ℕ → (Place → Bool) → Place → Place → Type 0
+IsInBodyOf object ends set own place = Walk (λ p. p ≡ own) (StepsOutside object ends set own) place
 
 -- a set has the functions, and what is called in the bodies of its places
-pub record IsCallClosed (object : Object) (set : Place → Bool) : Type 0 where
+pub record IsCallClosed (object : Object) (ends : List ℕ) (set : Place → Bool) : Type 0 where
   pub functions : (place : Place) → IsFunction object place → IsTrue (set place)
-  pub calls : (own from to : Place) → IsTrue (set own) → IsInBodyOf object set own from → Calls object from to → IsTrue (set to)
+  pub calls : (own from to : Place) → IsTrue (set own) → IsInBodyOf object ends set own from → Calls object ends from to → IsTrue (set to)
 
 -- each such set has all entries
 abbrev pub IsLawOfLeast : Type 0
-IsLawOfLeast = (object : Object) (set : Place → Bool) → IsCallClosed object set → (place : Place) → IsEntry object place → IsTrue (set place)
+IsLawOfLeast =
+    (object : Object) (ends : List ℕ) (set : Place → Bool) → IsCallClosed object ends set
+    → (place : Place) → IsEntry object ends place → IsTrue (set place)
 
 -- the entries of the procedures are such a set
 abbrev pub IsLawOfClosed : Type 0
-IsLawOfClosed = (object : Object) (procs : List Proc) → AreProcs object procs → IsCallClosed object (is_entry (entries_of procs))
+IsLawOfClosed =
+    (object : Object) (ends : List ℕ) (procs : List Proc) → AreProcs object ends procs
+    → IsCallClosed object ends (is_entry (entries_of procs))
 
 -- what is reached is what the bodies have together
 abbrev pub IsLawOfBodies : Type 0
 IsLawOfBodies =
-    (object : Object) (procs : List Proc) → AreProcs object procs
-    → (place : Place) → IsReached object place ↔ ((own : Place) × IsEntry object own × IsInBody object own place)
+    (object : Object) (ends : List ℕ) (procs : List Proc) → AreProcs object ends procs
+    → (place : Place) → IsReached object ends place ↔ ((own : Place) × IsEntry object ends own × IsInBody object ends own place)
 
 -- a procedure's entry is one of its sites, and each step of a site leads to one
 pub record IsClosed (proc : Proc) : Type 0 where
@@ -59,7 +63,7 @@ pub record IsClosed (proc : Proc) : Type 0 where
   pub next : All (λ (site : Site). All (Contains (places_of proc.sites)) site.next) proc.sites
 
 abbrev pub IsLawOfSteps : Type 0
-IsLawOfSteps = (object : Object) (procs : List Proc) → AreProcs object procs → All IsClosed procs
+IsLawOfSteps = (object : Object) (ends : List ℕ) (procs : List Proc) → AreProcs object ends procs → All IsClosed procs
 
 -- a callee is the number of a procedure, an undefined symbol of the object, or one of the 32 registers
 abbrev pub IsCallee : Object → ℕ → Callee → Type 0
@@ -80,19 +84,28 @@ HasCallees object count site = IsKind object count site.kind × All (IsCallee ob
 
 abbrev pub IsLawOfCallees : Type 0
 IsLawOfCallees =
-    (object : Object) (procs : List Proc) → IsLinkable object → AreProcs object procs
+    (object : Object) (ends : List ℕ) (procs : List Proc) → IsLinkable object → AreProcs object ends procs
     → All (λ (proc : Proc). All (HasCallees object (length procs)) proc.sites) procs
 
 -- each site stands at a good place
 abbrev pub IsLawOfPlaces : Type 0
-IsLawOfPlaces = (object : Object) (procs : List Proc) → AreProcs object procs → All (λ (proc : Proc). All (IsGood object) (places_of proc.sites)) procs
+IsLawOfPlaces =
+    (object : Object) (ends : List ℕ) (procs : List Proc) → AreProcs object ends procs
+    → All (λ (proc : Proc). All (IsGood object) (places_of proc.sites)) procs
 
 -- so does a first fault, but that of a function may stand anywhere
 abbrev pub IsLawOfFaultPlaces : Type 0
-IsLawOfFaultPlaces = (object : Object) (number : ℕ) (place : Place) → IsFirstFault object number place → number ≢ 31 → IsGood object place
+IsLawOfFaultPlaces =
+    (object : Object) (ends : List ℕ) (number : ℕ) (place : Place) → IsFirstFault object ends number place → number ≢ 31
+    → IsGood object place
 
 -- there is one first fault at most
 abbrev pub IsLawOfOneFault : Type 0
 IsLawOfOneFault =
-    (object : Object) (number other_number : ℕ) (place other : Place)
-    → IsFirstFault object number place → IsFirstFault object other_number other → (number ≡ other_number) × (place ≡ other)
+    (object : Object) (ends : List ℕ) (number other_number : ℕ) (place other : Place)
+    → IsFirstFault object ends number place → IsFirstFault object ends other_number other → (number ≡ other_number) × (place ≡ other)
+
+-- an object has one list of procedures, where these symbols end paths
+abbrev pub IsLawOfOneList : Type 0
+IsLawOfOneList =
+    (object : Object) (ends : List ℕ) (first second : List Proc) → AreProcs object ends first → AreProcs object ends second → first ≡ second

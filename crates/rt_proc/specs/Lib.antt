@@ -1,4 +1,5 @@
 pub mod Bodies
+pub mod Ends
 pub mod Entries
 pub mod Faults
 pub mod Founds

@@ -6,7 +6,7 @@ use Rattle.rt_elf.specs.declared.symbol.Symbol.{Symbol}
 use Rattle.rt_link.specs.Effects.{is_place}
 use Rattle.rt_link.specs.declared.place.Place.{Place}
 use Rattle.rt_control.specs.declared.form.Form.{Form}
-use Rattle.rt_control.specs.Sites.{IsAt}
+use Rattle.rt_proc.specs.Ends.{IsLookAt}
 use Rattle.rt_proc.specs.declared.proc.Proc.{Proc}
 use Rattle.rt_proc.specs.declared.site.Site.{Site}
 use Rattle.rt_proc.specs.Bodies.{IsInBody}
@@ -38,20 +38,20 @@ abbrev pub entries_of : List Proc → List Place
 entries_of procs = map (λ proc. proc.entry) procs
 
 -- a site of the procedure that is entered at `own`, as the object has it
-pub record IsSite (object : Object) (entries : List Place) (own : Place) (site : Site) : Type 0 where
+pub record IsSite (object : Object) (ends : List ℕ) (entries : List Place) (own : Place) (site : Site) : Type 0 where
   pub form : Form
-  pub is_at : IsAt object site.place (Ok form)
+  pub is_at : IsLookAt object ends site.place (Ok form)
   pub is_site : site ≡ site_of entries own site.place form
 
 -- a procedure of an object: its sites are those of its body
-pub record IsProc (object : Object) (entries : List Place) (proc : Proc) : Type 0 where
+pub record IsProc (object : Object) (ends : List ℕ) (entries : List Place) (proc : Proc) : Type 0 where
   pub name : proc.name ≡ name_at object proc.entry
   pub rising : AreRising (places_of proc.sites)
-  pub body : (place : Place) → Contains (places_of proc.sites) place ↔ IsInBody object proc.entry place
-  pub sites : All (IsSite object entries proc.entry) proc.sites
+  pub body : (place : Place) → Contains (places_of proc.sites) place ↔ IsInBody object ends proc.entry place
+  pub sites : All (IsSite object ends entries proc.entry) proc.sites
 
 -- the procedures of an object: one for each entry
-pub record AreProcs (object : Object) (procs : List Proc) : Type 0 where
+pub record AreProcs (object : Object) (ends : List ℕ) (procs : List Proc) : Type 0 where
   pub rising : AreRising (entries_of procs)
-  pub entries : (place : Place) → Contains (entries_of procs) place ↔ IsEntry object place
-  pub each : All (IsProc object (entries_of procs)) procs
+  pub entries : (place : Place) → Contains (entries_of procs) place ↔ IsEntry object ends place
+  pub each : All (IsProc object ends (entries_of procs)) procs

@@ -35,10 +35,11 @@ fn found_from(
     entries: &[Place],
     own: Place,
 ) -> Result<Vec<Place>, AllocError>
-    requires looks { AreLooksOf code.now.object.now code.now.looks.now }
-    requires entries { AreEntries code.now.object.now entries.now }
-    requires entry { IsEntry code.now.object.now own }
-    ensures { IfOk result (λ found. (place : Place) → Contains found.items place ↔ IsInBody code.now.object.now own place) }
+    requires looks { AreLooksOf code.now.source.object.now code.now.source.ends.now code.now.looks.now }
+    requires entries { AreEntries code.now.source.object.now code.now.source.ends.now entries.now }
+    requires entry { IsEntry code.now.source.object.now code.now.source.ends.now own }
+    ensures { IfOk result (λ found. (place : Place)
+        → Contains found.items place ↔ IsInBody code.now.source.object.now code.now.source.ends.now own place) }
 {
     let mut found = Found::new(alloc);
     found.insert(own)?;
@@ -58,11 +59,12 @@ pub(crate) fn body(
     entries: &[Place],
     own: Place,
 ) -> Result<Vec<Place>, AllocError>
-    requires looks { AreLooksOf code.now.object.now code.now.looks.now }
-    requires entries { AreEntries code.now.object.now entries.now }
-    requires entry { IsEntry code.now.object.now own }
+    requires looks { AreLooksOf code.now.source.object.now code.now.source.ends.now code.now.looks.now }
+    requires entries { AreEntries code.now.source.object.now code.now.source.ends.now entries.now }
+    requires entry { IsEntry code.now.source.object.now code.now.source.ends.now own }
     ensures rising { IfOk result (λ body. AreRising body.items) }
-    ensures found { IfOk result (λ body. (place : Place) → Contains body.items place ↔ IsInBody code.now.object.now own place) }
+    ensures found { IfOk result (λ body. (place : Place)
+        → Contains body.items place ↔ IsInBody code.now.source.object.now code.now.source.ends.now own place) }
 {
     let found = found_from(alloc, code, entries, own)?;
     in_order(alloc, &found)

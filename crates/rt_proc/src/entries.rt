@@ -11,9 +11,10 @@ use std::alloc::{AllocError, Global};
 
 // The places that some sites call.
 fn called_from_any(alloc: Global, code: &Code, places: &[Place]) -> Result<Vec<Place>, AllocError>
-    requires looks { AreLooksOf code.now.object.now code.now.looks.now }
-    requires reached { All (IsReached code.now.object.now) places.now }
-    ensures { IfOk result (λ called. (to : Place) → Contains called.items to ↔ IsCalledFrom code.now.object.now places.now to) }
+    requires looks { AreLooksOf code.now.source.object.now code.now.source.ends.now code.now.looks.now }
+    requires reached { All (IsReached code.now.source.object.now code.now.source.ends.now) places.now }
+    ensures { IfOk result (λ called. (to : Place)
+        → Contains called.items to ↔ IsCalledFrom code.now.source.object.now code.now.source.ends.now places.now to) }
 {
     let mut called = Vec::new(alloc);
     for place in places {
@@ -30,11 +31,12 @@ pub(crate) fn entries(
     functions: &[Place],
     reached: &[Place],
 ) -> Result<Vec<Place>, AllocError>
-    requires looks { AreLooksOf code.now.object.now code.now.looks.now }
-    requires reached { All (IsReached code.now.object.now) reached.now }
+    requires looks { AreLooksOf code.now.source.object.now code.now.source.ends.now code.now.looks.now }
+    requires reached { All (IsReached code.now.source.object.now code.now.source.ends.now) reached.now }
     ensures rising { IfOk result (λ entries. AreRising entries.items) }
     ensures same { IfOk result (λ entries. (place : Place)
-        → Contains entries.items place ↔ (Contains functions.now place ⊎ IsCalledFrom code.now.object.now reached.now place)) }
+        → Contains entries.items place
+        ↔ (Contains functions.now place ⊎ IsCalledFrom code.now.source.object.now code.now.source.ends.now reached.now place)) }
 {
     let mut entries = functions.to_vec(alloc)?;
     entries.extend_from_slice(&called_from_any(alloc, code, reached)?)?;

@@ -1,5 +1,5 @@
 // Procedures from objects.
-ghost use Rattle.std.specs.Prelude.{◌≡◌, ◌↔◌, None, IfErr, IfOk, OnOk, All, Contains};
+ghost use Rattle.std.specs.Prelude.{◌≡◌, ◌<◌, ◌↔◌, None, IfErr, IfOk, OnOk, All, AllPairs, Contains};
 ghost use Rattle.std.specs.BTreeMap.{get};
 ghost use Rattle.rt_link.specs.Checks.{link_fault};
 ghost use Rattle.rt_link.specs.Links.{AreLinksOf, place_cmp};
@@ -14,7 +14,7 @@ use crate::bodies::body;
 use crate::entries::entries;
 use crate::fault::CodeFault;
 use crate::functions::functions;
-use crate::look::Code;
+use crate::look::{Code, Source};
 use crate::names::{name_in, names};
 use crate::proc::{Proc, Procs};
 use crate::reach::reach;
@@ -36,15 +36,15 @@ fn sites(
     own: Place,
     body: &[Place],
 ) -> Result<Sites, CodeFault>
-    requires looks { AreLooksOf code.now.object.now code.now.looks.now }
-    requires entry { IsEntry code.now.object.now own }
+    requires looks { AreLooksOf code.now.source.object.now code.now.source.ends.now code.now.looks.now }
+    requires entry { IsEntry code.now.source.object.now code.now.source.ends.now own }
     requires entries { AreRising entries.now }
     requires rising { AreRising body.now }
-    requires body { (place : Place) → Contains body.now place ↔ IsInBody code.now.object.now own place }
-    ensures bad { IfErr result (IsBodyFault code.now.object.now own) }
-    ensures sound { OnOk result (IsSound code.now.object.now own) }
+    requires body { (place : Place) → Contains body.now place ↔ IsInBody code.now.source.object.now code.now.source.ends.now own place }
+    ensures bad { IfErr result (IsBodyFault code.now.source.object.now code.now.source.ends.now own) }
+    ensures sound { OnOk result (IsSound code.now.source.object.now code.now.source.ends.now own) }
     ensures places { IfOk result (λ sites. places_of sites ≡ body.now) }
-    ensures found { IfOk result (All (IsSite code.now.object.now entries.now own)) }
+    ensures found { IfOk result (All (IsSite code.now.source.object.now code.now.source.ends.now entries.now own)) }
 {
     let mut sites = Sequence::new(alloc);
     for place in body {
@@ -69,14 +69,15 @@ fn proc_at(
     names: &BTreeMap<Place, Name>,
     own: Place,
 ) -> Result<Proc, CodeFault>
-    requires looks { AreLooksOf code.now.object.now code.now.looks.now }
-    requires entries { AreEntries code.now.object.now entries.now }
-    requires names { (place : Place) → get place_cmp names.now place ≡ name_of_first code.now.object.now code.now.object.now.symbols place }
-    requires entry { IsEntry code.now.object.now own }
-    ensures bad { IfErr result (IsBodyFault code.now.object.now own) }
-    ensures sound { OnOk result (IsSound code.now.object.now own) }
+    requires looks { AreLooksOf code.now.source.object.now code.now.source.ends.now code.now.looks.now }
+    requires entries { AreEntries code.now.source.object.now code.now.source.ends.now entries.now }
+    requires names { (place : Place)
+        → get place_cmp names.now place ≡ name_of_first code.now.source.object.now code.now.source.object.now.symbols place }
+    requires entry { IsEntry code.now.source.object.now code.now.source.ends.now own }
+    ensures bad { IfErr result (IsBodyFault code.now.source.object.now code.now.source.ends.now own) }
+    ensures sound { OnOk result (IsSound code.now.source.object.now code.now.source.ends.now own) }
     ensures entry { IfOk result (λ proc. proc.entry ≡ own) }
-    ensures found { IfOk result (IsProc code.now.object.now entries.now) }
+    ensures found { IfOk result (IsProc code.now.source.object.now code.now.source.ends.now entries.now) }
 {
     let body = body(alloc, code, entries, own)?;
     let sites = sites(alloc, code, entries, own, &body)?;
@@ -90,14 +91,14 @@ fn proc_at(
 
 // The procedures that are entered at some places. The error is the first fault of the first body that has one.
 fn procs_at(alloc: Global, code: &Code, entries: &[Place]) -> Result<Procs, CodeFault>
-    requires looks { AreLooksOf code.now.object.now code.now.looks.now }
-    requires entries { AreEntries code.now.object.now entries.now }
-    requires symbols { symbols_fault code.now.object.now ≡ None }
-    ensures bad { IfErr result (IsFaultOf code.now.object.now) }
-    ensures none { OnOk result (HasNoFault code.now.object.now) }
-    ensures found { IfOk result (AreProcs code.now.object.now) }
+    requires looks { AreLooksOf code.now.source.object.now code.now.source.ends.now code.now.looks.now }
+    requires entries { AreEntries code.now.source.object.now code.now.source.ends.now entries.now }
+    requires symbols { symbols_fault code.now.source.object.now ≡ None }
+    ensures bad { IfErr result (IsFaultOf code.now.source.object.now code.now.source.ends.now) }
+    ensures none { OnOk result (HasNoFault code.now.source.object.now code.now.source.ends.now) }
+    ensures found { IfOk result (AreProcs code.now.source.object.now code.now.source.ends.now) }
 {
-    let names = names(alloc, code.object)?;
+    let names = names(alloc, code.source.object)?;
     let mut procs = Sequence::new(alloc);
     for entry in entries {
         procs.push(proc_at(alloc, code, entries, &names, *entry)?)?;
@@ -112,10 +113,10 @@ fn all_entries(
     functions: &[Place],
     reached: &[Place],
 ) -> Result<Vec<Place>, AllocError>
-    requires looks { AreLooksOf code.now.object.now code.now.looks.now }
-    requires functions { (place : Place) → Contains functions.now place ↔ IsFunction code.now.object.now place }
-    requires reached { (place : Place) → Contains reached.now place ↔ IsReached code.now.object.now place }
-    ensures { IfOk result (λ entries. AreEntries code.now.object.now entries.items) }
+    requires looks { AreLooksOf code.now.source.object.now code.now.source.ends.now code.now.looks.now }
+    requires functions { (place : Place) → Contains functions.now place ↔ IsFunction code.now.source.object.now place }
+    requires reached { (place : Place) → Contains reached.now place ↔ IsReached code.now.source.object.now code.now.source.ends.now place }
+    ensures { IfOk result (λ entries. AreEntries code.now.source.object.now code.now.source.ends.now entries.items) }
 {
     places();
     entries(alloc, code, functions, reached)
@@ -131,21 +132,30 @@ fn all_entries(
 /// An error is the first fault: of the symbols, in their order, then of the sites, by procedure and in it by place.
 /// [`CodeFault`] lists them with their numbers.
 ///
-/// Condition: the links are those that `rt_link::resolve` gives for the object.
+/// A call of an undefined symbol that `ends` lists, one whose function doesn't return, has no continuation: its path ends
+/// there.
+///
+/// Conditions: the links are those that `rt_link::resolve` gives for the object, and `ends` is ascending.
 ///
 /// Time and memory are near linear in the symbols, in the sites of all bodies together, and in the entries of the tables
 /// to which these jump.
-pub fn find(alloc: Global, object: &Object, links: &Links) -> Result<Procs, CodeFault>
+pub fn find(alloc: Global, object: &Object, links: &Links, ends: &[u32]) -> Result<Procs, CodeFault>
     requires links { AreLinksOf object.now links.now }
     requires linked { link_fault object.now ≡ None }
-    ensures bad { IfErr result (IsFaultOf object.now) }
-    ensures none { OnOk result (HasNoFault object.now) }
-    ensures found { IfOk result (AreProcs object.now) }
+    requires ascending { AllPairs ◌<◌ ends.now }
+    ensures bad { IfErr result (IsFaultOf object.now ends.now) }
+    ensures none { OnOk result (HasNoFault object.now ends.now) }
+    ensures found { IfOk result (AreProcs object.now ends.now) }
 {
     let functions = functions(alloc, object)?;
-    let reached = reach(alloc, object, links, functions.items())?;
-    let code = Code {
+    let source = Source {
         object,
+        links,
+        ends,
+    };
+    let reached = reach(alloc, &source, functions.items())?;
+    let code = Code {
+        source,
         looks: &reached.looks,
     };
     let entries = all_entries(alloc, &code, functions.items(), &reached.places)?;

@@ -1,5 +1,6 @@
 //! What the entries, the bodies and the faults of an object's code have in common.
-ghost use Rattle.rt_proc.specs.Laws.{IsLawOfLeast, IsLawOfClosed, IsLawOfBodies, IsLawOfSteps, IsLawOfCallees, IsLawOfPlaces, IsLawOfFaultPlaces, IsLawOfOneFault};
+ghost use Rattle.rt_proc.specs.Laws.{IsLawOfLeast, IsLawOfClosed, IsLawOfBodies, IsLawOfSteps, IsLawOfCallees};
+ghost use Rattle.rt_proc.specs.Laws.{IsLawOfPlaces, IsLawOfFaultPlaces, IsLawOfOneFault, IsLawOfOneList};
 
 /// Entries are the least set of places that has the functions and what is called in the bodies of its places, where a
 /// body goes up to other places of the set.
@@ -36,6 +37,13 @@ pub fn places()
 /// There is one first fault at most.
 pub fn one_fault()
     ensures { IsLawOfOneFault }
+{
+    rt_control::laws::one_form();
+}
+
+/// An object has one list of procedures, where these symbols end paths.
+pub fn one_list()
+    ensures { IsLawOfOneList }
 {
     rt_control::laws::one_form();
 }

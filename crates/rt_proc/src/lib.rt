@@ -3,6 +3,7 @@
 #![tactic(auto)]
 
 mod bodies;
+mod ends;
 mod entries;
 mod fault;
 mod finder;

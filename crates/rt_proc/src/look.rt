@@ -1,12 +1,13 @@
 // Looks at places: each is taken once, and kept.
-ghost use Rattle.std.specs.Prelude.{◌≡◌, Option, Some, None, IsSome, IfOk, OnOk, if◌then◌else◌};
+ghost use Rattle.std.specs.Prelude.{◌≡◌, ◌<◌, AllPairs, Option, Some, None, IsSome, IfOk, OnOk, if◌then◌else◌};
 ghost use Rattle.rt_control.specs.Laws.{IsGood};
-ghost use Rattle.rt_control.specs.Sites.{IsAt};
 ghost use Rattle.rt_link.specs.Effects.{is_place};
+ghost use Rattle.rt_proc.specs.Ends.{IsLookAt};
 ghost use Rattle.rt_proc.specs.Entries.{IsReached};
 ghost use Rattle.rt_proc.specs.Looks.{led_by, called_by, look_in, AreLooksOf};
 ghost use Rattle.rt_proc.specs.Ready.{AreReady};
 
+use crate::ends::ended;
 use crate::steps::{callees, steps};
 use rt_control::{Form, FormFault, Place, SiteFault, form_at};
 use rt_elf::Object;
@@ -17,21 +18,27 @@ use std::collections::BTreeMap;
 // What the site at a place does, or its fault.
 pub(crate) type Look = Result<Form, SiteFault>;
 
-// What the site at a good place does, or its fault.
-pub(crate) fn look_at(
-    alloc: Global,
-    object: &Object,
-    links: &Links,
-    place: Place,
-) -> Result<Look, AllocError>
-    requires ready { AreReady object.now links.now }
-    requires is_good { IsGood object.now place }
-    ensures { IfOk result (IsAt object.now place) }
-{
-    match form_at(alloc, object, links, place) {
-        Ok(form) => Ok(Ok(form)),
-        Err(FormFault::Site(fault)) => Ok(Err(fault)),
-        Err(FormFault::Memory) => Err(AllocError),
+// What looks are taken of: an object, its links, and the undefined symbols whose functions don't return.
+#[derive(Clone, Copy)]
+pub(crate) struct Source<'a> {
+    pub(crate) object: &'a Object,
+    pub(crate) links: &'a Links,
+    pub(crate) ends: &'a [u32],
+}
+
+impl Source<'_> {
+    // What the site at a good place does, with the paths that end, or its fault.
+    pub(crate) fn look_at(&self, alloc: Global, place: Place) -> Result<Look, AllocError>
+        requires ready { AreReady self.now.object.now self.now.links.now }
+        requires ascending { AllPairs ◌<◌ self.now.ends.now }
+        requires is_good { IsGood self.now.object.now place }
+        ensures { IfOk result (IsLookAt self.now.object.now self.now.ends.now place) }
+    {
+        match form_at(alloc, self.object, self.links, place) {
+            Ok(form) => Ok(Ok(ended(self.ends, form))),
+            Err(FormFault::Site(fault)) => Ok(Err(fault)),
+            Err(FormFault::Memory) => Err(AllocError),
+        }
     }
 }
 
@@ -93,16 +100,16 @@ impl Looks {
 // The code of an object, with the looks at the places that are reached.
 #[derive(Clone, Copy)]
 pub(crate) struct Code<'a> {
-    pub(crate) object: &'a Object,
+    pub(crate) source: Source<'a>,
     pub(crate) looks: &'a Looks,
 }
 
 impl Code<'_> {
     // What the site at a place does that is reached, or its fault.
     pub(crate) fn look(&self, place: Place) -> &Look
-        requires looks { AreLooksOf self.now.object.now self.now.looks.now }
-        requires reached { IsReached self.now.object.now place }
-        ensures { IsAt self.now.object.now place result.now }
+        requires looks { AreLooksOf self.now.source.object.now self.now.source.ends.now self.now.looks.now }
+        requires reached { IsReached self.now.source.object.now self.now.source.ends.now place }
+        ensures { IsLookAt self.now.source.object.now self.now.source.ends.now place result.now }
     {
         self.looks.get(place)
     }

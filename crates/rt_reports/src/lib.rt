@@ -8,7 +8,5 @@ mod numbers;
 mod parts;
 mod reader;
 mod row;
-#[cfg(test)]
-mod tests;
 
 pub use reader::read_report;

@@ -1,5 +1,5 @@
 -- Lines at the numbers of procedures.
-use Rattle.std.proofs.Common.{◌≡◌, ◌∙◌, ◌⊎◌, ℕ, ◌+◌, ◌<◌, List, [], ◌∷◌, ◌++◌, All, Contains, Option, Some, None, append_assoc, ap, arith, get_or, inl, inr, length, length-append, map, option_map, refl, set, subst, sym}
+use Rattle.std.proofs.Common.{◌≡◌, ◌∙◌, ◌⊎◌, ℕ, ◌+◌, ◌<◌, ◌≤◌, List, [], ◌∷◌, ◌++◌, All, Contains, Option, Some, None, IsSome, append_assoc, ap, arith, get_or, inl, inr, length, length-append, map, option_map, refl, set, subst, sym}
 use Rattle.std.proofs.Math.Seq.{get_or-append_seam}
 use Rattle.std.proofs.lemmas.Bool.{cases_order}
 use Rattle.std.proofs.lemmas.List.{get_or-set_other, get_or-set_same, get_or_default, length-set}
@@ -15,7 +15,7 @@ use Rattle.rt_scheme.specs.declared.scheme.Scheme.{Scheme}
 use Rattle.rt_table.specs.Lists.{AreLinesOf, HasGlobalsOf}
 use Rattle.rt_run.specs.declared.analysis.Analysis.{Analysis}
 use Rattle.rt_run.specs.declared.content.Content.TheVariants as told
-use Rattle.rt_run.specs.Analyses.{AreListsOf, AreToldOf, IsAnalysis, IsBodyOf, object_in, procs_in}
+use Rattle.rt_run.specs.Analyses.{AreListed, AreListsOf, AreToldOf, IsAnalysis, IsBodyOf, IsListed, object_in, procs_in}
 
 -- the lists from a place on are put
 pub record IsPut (group : List ℕ) (bodies : List (List Line)) (old now : List (Option (List Line))) (left : List (List Line)) : Type 0 where
@@ -23,6 +23,25 @@ pub record IsPut (group : List ℕ) (bodies : List (List Line)) (old now : List 
   pub joined : left ++ put ≡ bodies
   pub long : length now ≡ length old
   pub each : (number : ℕ) (lines : List Line) → get_or now number None ≡ Some lines → (get_or old number None ≡ Some lines) ⊎ IsBodyOf group bodies number lines
+  pub members : (i : ℕ) → length left ≤ i → i < length group → IsListed now (get_or group i 0)
+  pub kept : (number : ℕ) → IsListed old number → IsListed now number
+
+-- what is put at a place is there, and what was there before
+listed_set : (now : List (Option (List Line))) (number : ℕ) (lines : List Line) (n : ℕ) → number < length now → (n ≡ number) ⊎ IsListed now n → IsListed (set now number (Some lines)) n
+listed_set now number lines n inside h = by (cases_order n number) h
+  where
+    own : n ≡ number → IsListed (set now number (Some lines)) n
+    own same = subst (λ k. IsListed (set now number (Some lines)) k) (sym same) (rw (get_or-set_same now number (Some lines) None inside) refl)
+
+    other : (n ≡ number → ⊥) → IsListed now n → IsListed (set now number (Some lines)) n
+    other differs there = rw (get_or-set_other now number n (Some lines) None differs) there
+
+    by : (n ≡ number) ⊎ ((n < number) ⊎ (number < n)) → (n ≡ number) ⊎ IsListed now n → IsListed (set now number (Some lines)) n
+    by (inl same) h = own same
+    by (inr (inl below)) (inl same) = own same
+    by (inr (inl below)) (inr there) = other (λ e. omega (arith, e, below)) there
+    by (inr (inr above)) (inl same) = own same
+    by (inr (inr above)) (inr there) = other (λ e. omega (arith, e, above)) there
 
 -- the place of the next list is one of the group
 pub place_within : (group : List ℕ) (bodies : List (List Line)) (old now : List (Option (List Line))) (left rest : List (List Line)) (lines : List Line)
@@ -48,8 +67,15 @@ put_more group bodies old now now' left rest lines number last within is_member 
   joined = sym (append_assoc rest (lines ∷ []) is_put.put) ∙ (ap (λ l. l ++ is_put.put) (sym last) ∙ is_put.joined);
   long = ap length is ∙ (length-set now number (Some lines) ∙ is_put.long);
   each = λ n found here. by n found (subst (λ l. get_or l n None ≡ Some found) is here) (cases_order n number);
+  members = λ i from below. subst (λ l. IsListed l (get_or group i 0)) (sym is) (listed_set now number lines (get_or group i 0) inside (member i from below (cases_order i (length rest))));
+  kept = λ n there. subst (λ l. IsListed l n) (sym is) (listed_set now number lines n inside (inr (is_put.kept n there)));
 }
   where
+    member : (i : ℕ) → length rest ≤ i → i < length group → (i ≡ length rest) ⊎ ((i < length rest) ⊎ (length rest < i)) → (get_or group i 0 ≡ number) ⊎ IsListed now (get_or group i 0)
+    member i from below (inl same) = inl (ap (λ k. get_or group k 0) same ∙ sym is_member)
+    member i from below (inr (inl before)) = absurd (omega (arith, from, before))
+    member i from below (inr (inr after)) = inr (is_put.members i (omega (arith, after, ap length last ∙ length-append rest (lines ∷ []))) below)
+
     own : (n : ℕ) (found : List Line) → get_or (set now number (Some lines)) n None ≡ Some found → n ≡ number → IsBodyOf group bodies n found
     own n found here same =
         let is_found : lines ≡ found = some_is lines found (sym (get_or-set_same now number (Some lines) None inside) ∙ subst (λ k. get_or (set now number (Some lines)) k None ≡ Some found) same here) in
@@ -66,12 +92,14 @@ put_more group bodies old now now' left rest lines number last within is_member 
     by n found here (inr (inr above)) = is_put.each n found (sym (get_or-set_other now number n (Some lines) None (λ e. omega (arith, e, above))) ∙ here)
 
 -- before any is put
-pub put_none : (group : List ℕ) (bodies left : List (List Line)) (old : List (Option (List Line))) → left ≡ bodies → IsPut group bodies old old left
-put_none group bodies left old is = record {
+pub put_none : (group : List ℕ) (bodies left : List (List Line)) (old : List (Option (List Line))) → length bodies ≡ length group → left ≡ bodies → IsPut group bodies old old left
+put_none group bodies left old one_each is = record {
   put = [];
   joined = append_none left ∙ is;
   long = refl;
   each = λ number lines here. inl here;
+  members = λ i from below. absurd (omega (arith, from, below, one_each, ap length is));
+  kept = λ number there. there;
 }
   where
     append_none : (l : List (List Line)) → l ++ [] ≡ l
@@ -154,3 +182,53 @@ schemes_told analysis lists is_analysis is = λ number lines here.
             globals = subst (HasGlobalsOf (object_in analysis)) (sym same) given.globals;
           };
         }
+
+-- Each procedure has lines.
+
+-- where each member of each group has lines, each procedure has
+pub full_lists : (procs : List Proc) (groups : List (List ℕ)) (lists : List (Option (List Line))) → AreGroupsOf procs groups
+    → ((k : ℕ) → k < length groups → AreListed lists (group_at groups k)) → (number : ℕ) → number < length procs → IsListed lists number
+full_lists procs groups lists are each number within =
+    let (k, less, (i, below, is)) = (are.nodes number).0 within in
+    subst (IsListed lists) (get_or_default (group_at groups k) i 0 number below ∙ is) (each k less i below)
+
+-- each scheme is there
+scheme_there : (given : Option Scheme) (scheme : Scheme) → given ≡ Some scheme → IsSome (scheme_lines given)
+scheme_there None scheme e = absurd (no e)
+  where
+    no : None ≡ Some scheme → ⊥
+    no e = cc
+scheme_there (Some s) scheme e = refl
+
+pub full_schemes : (analysis : Analysis) (lists : List (Option (List Line))) → IsAnalysis analysis → lists ≡ map scheme_lines analysis.schemes
+    → (number : ℕ) → number < length (procs_in analysis) → IsListed lists number
+full_schemes analysis lists is_analysis is = full_lists (procs_in analysis) analysis.groups lists is_analysis.groups (λ k less i below.
+    let group = group_at analysis.groups k in
+    let solved = (is_analysis.solved.each group (k, less, get_or_default analysis.groups k group [] less)).solved i below in
+    subst (λ l. IsListed l (get_or group i 0)) (sym is)
+    (rw (get_or-map_same scheme_lines analysis.schemes (get_or group i 0) None) (scheme_there (get_or analysis.schemes (get_or group i 0) None) solved.scheme solved.is_scheme)))
+
+-- the members of the first groups have lines
+pub record AreFilled (analysis : Analysis) (n : ℕ) (lists : List (Option (List Line))) : Type 0 where
+  pub long : length lists ≡ length (procs_in analysis)
+  pub are_lists : AreListsOf told.Constraints analysis lists
+  pub groups : (k : ℕ) → k < n → AreListed lists (group_at analysis.groups k)
+
+pub filled_next : (analysis : Analysis) (n : ℕ) (group : List ℕ) (old new : List (Option (List Line))) → group ≡ group_at analysis.groups n → AreFilled analysis n old
+    → length new ≡ length old → AreListsOf told.Constraints analysis new → AreListed new group → ((number : ℕ) → IsListed old number → IsListed new number)
+    → AreFilled analysis (n + 1) new
+filled_next analysis n group old new is before long lists members kept = record {
+  long = long ∙ before.long;
+  are_lists = lists;
+  groups = λ k less. by k (cases_order k n) less;
+}
+  where
+    by : (k : ℕ) → (k ≡ n) ⊎ ((k < n) ⊎ (n < k)) → k < n + 1 → AreListed new (group_at analysis.groups k)
+    by k (inl same) less = subst (λ j. AreListed new (group_at analysis.groups j)) (sym same) (subst (AreListed new) is members)
+    by k (inr (inl earlier)) less = λ i below. kept (get_or (group_at analysis.groups k) i 0) (before.groups k earlier i below)
+    by k (inr (inr later)) less = absurd (omega (arith, less, later))
+
+pub filled_whole : (analysis : Analysis) (n : ℕ) (lists : List (Option (List Line))) → IsAnalysis analysis → length analysis.groups ≤ n → AreFilled analysis n lists
+    → (number : ℕ) → number < length (procs_in analysis) → IsListed lists number
+filled_whole analysis n lists is_analysis all filled =
+    full_lists (procs_in analysis) analysis.groups lists is_analysis.groups (λ k less. filled.groups k (omega (arith, less, all)))

@@ -1,6 +1,6 @@
 -- Which refusals come first.
 use Rattle.std.proofs.Common.{◌≡◌, ℕ, ◌<◌, Option, Some, None, List, nat_lt, true, length, refl, subst, sym}
-use Rattle.std.specs.Prelude.{IfSome}
+use Rattle.std.specs.Prelude.{IfErr, IfSome, Ok, Err, Result}
 use Rattle.std.proofs.lemmas.Bool.{lt-ltb}
 use Rattle.rt_elf.specs.declared.fault.ElfFault.TheVariants.{Bad}
 use Rattle.rt_elf.specs.Checks.{first_fault}
@@ -12,7 +12,14 @@ use Rattle.rt_run.specs.declared.refusal.Refusal.TheVariants.{Object, BadLattice
 use Rattle.rt_run.specs.declared.stop.Stop.{Stop}
 use Rattle.rt_run.specs.declared.stop.Stop.TheVariants.{Refused, NoRead, NoMemory}
 use Rattle.rt_run.specs.Inputs.{Contents, IsLatticeRefused}
-use Rattle.rt_run.specs.Objects.{IsRefused}
+use Rattle.rt_sigs.specs.Signatures.{Signature}
+use Rattle.rt_run.specs.declared.no_text.NoText.{NoText}
+use Rattle.rt_run.specs.declared.no_text.NoText.TheVariants.{Refused as RefusedText, Memory as NoTextMemory}
+use Rattle.rt_run.specs.NoTexts.{IsNoText}
+use Rattle.rt_elf.specs.Parts.{Parts as ReadObject}
+use Rattle.rt_liveness.specs.Ends.{ends_of}
+use Rattle.rt_run.specs.Objects.{IsObjectRefused, IsReadAs, IsRefused}
+use Rattle.rt_run.specs.Objects.IsRefused.{of_bytes, of_object}
 use Rattle.rt_run.specs.Entails.{IsEntailRefused}
 use Rattle.rt_run.specs.Status.{StopsAt}
 
@@ -21,8 +28,9 @@ is_too_long : (bytes : List ℕ) → 16777216 < length bytes → first_fault byt
 unfolding first_fault header_fault size_fault
 is_too_long bytes h = let t : nat_lt 16777216 (length bytes) ≡ true = lt-ltb 16777216 (length bytes) h in rw t refl
 
-pub object_too_large : (bytes : List ℕ) (refusal : Refusal) → (16777216 < length bytes) × (refusal ≡ Object 16 16777216) → IsRefused bytes refusal
-object_too_large bytes refusal h = subst (IsRefused bytes) (sym h.1) (is_too_long bytes h.0)
+pub object_too_large : (signatures : List Signature) (bytes : List ℕ) (refusal : Refusal) → (16777216 < length bytes) × (refusal ≡ Object 16 16777216)
+    → IsRefused signatures bytes refusal
+object_too_large signatures bytes refusal h = subst (IsRefused signatures bytes) (sym h.1) (of_bytes 16 16777216 (is_too_long bytes h.0))
 
 -- so is a lattice file that is too long
 pub lattice_too_large : (text : List ℕ) (refusal : Refusal) → (65536 < length text) × (refusal ≡ BadLattice lattice.TooMany) → IsLatticeRefused text refusal
@@ -42,3 +50,14 @@ pub stops_with : (P Q : List ℕ → Refusal → Type 0) (content : Contents) (f
 stops_with P Q content faults faults' name (Refused refusal) h k = some_with (λ bytes. P bytes refusal) (λ bytes. Q bytes refusal) (content name) (λ bytes. h bytes refusal) k
 stops_with P Q content faults faults' name (NoRead unread) h k = k
 stops_with P Q content faults faults' name NoMemory h k = tt
+
+-- what refuses the object that bytes are read as refuses the bytes
+pub refused_object : (signatures : List Signature) (bytes : List ℕ) (object : ReadObject) (why : NoText) → IsReadAs bytes object
+    → IsNoText (IsObjectRefused object (ends_of object signatures)) why → IsNoText (IsRefused signatures bytes) why
+refused_object signatures bytes object (RefusedText refusal) read h = of_object object refusal read h
+refused_object signatures bytes object NoTextMemory read h = tt
+
+pub refused_read : (signatures : List Signature) (bytes : List ℕ) (object : ReadObject) {X : Type 0} (result : Result X NoText) → IsReadAs bytes object
+    → IfErr result (IsNoText (IsObjectRefused object (ends_of object signatures))) → IfErr result (IsNoText (IsRefused signatures bytes))
+refused_read signatures bytes object (Ok x) read h = tt
+refused_read signatures bytes object (Err why) read h = refused_object signatures bytes object why read h

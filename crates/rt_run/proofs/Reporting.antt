@@ -1,5 +1,5 @@
 -- Reports of procedures.
-use Rattle.std.proofs.Common.{◌≡◌, ◌∙◌, ◌⊎◌, ℕ, ◌+◌, ◌<◌, List, [], ◌∷◌, ◌++◌, All, Option, Some, None, Ok, Err, Result, ap, arith, get_or, inl, inr, length, refl, set, subst, sym}
+use Rattle.std.proofs.Common.{◌≡◌, ◌∙◌, ◌⊎◌, ℕ, ◌+◌, ◌<◌, ◌≤◌, List, [], ◌∷◌, ◌++◌, All, Option, Some, None, Ok, Err, Result, ap, arith, get_or, inl, inr, length, refl, set, subst, sym}
 use Rattle.std.specs.Prelude.{IfOk}
 use Rattle.std.proofs.lemmas.Bool.{cases_order}
 use Rattle.std.proofs.lemmas.List.Elements.{All-append, All-cons, All-nil}
@@ -16,10 +16,11 @@ use Rattle.rt_scheme.specs.declared.report.Report.{Report}
 use Rattle.rt_scheme.specs.Reports.{report_text}
 use Rattle.rt_run.specs.declared.analysis.Analysis.{Analysis}
 use Rattle.rt_run.specs.declared.content.Content.{Content}
-use Rattle.rt_run.specs.Analyses.{AreListsOf, AreToldOf, IsAnalysis, object_in, procs_in}
-use Rattle.rt_run.specs.Objects.{IsAnalysed}
+use Rattle.rt_run.specs.Analyses.{AreListsOf, AreToldOf, IsAnalysis, IsListed, object_in, procs_in}
+use Rattle.rt_liveness.specs.Ends.{ends_of}
+use Rattle.rt_run.specs.Objects.{IsInProfile}
 use Rattle.rt_run.specs.Globals.{AreGlobals}
-use Rattle.rt_run.specs.Reports.{AreEntries, IsEntryOf, IsReportText, IsRight, IsTold}
+use Rattle.rt_run.specs.Reports.{AreEntries, IsEntryOf, IsReportOf, IsRightOf, IsTold}
 
 -- Lists.
 
@@ -50,6 +51,7 @@ pub record AreBegun (told : Content) (analysis : Analysis) (n : ℕ) (entries : 
   pub globals : All (λ entry. HasGlobalsOf (object_in analysis) entry.lines) entries
   pub long : length lists ≡ length (procs_in analysis)
   pub left : AreListsOf told analysis lists
+  pub listed : (number : ℕ) → n ≤ number → number < length (procs_in analysis) → IsListed lists number
 
 -- what holds of the entries at all numbers before one, and of a last entry at that number, holds up to it
 upto : (P : ℕ → Entry → Type 0) (n : ℕ) (entries : List Entry) (entry : Entry) → length entries ≡ n
@@ -68,8 +70,8 @@ length_push [] x = refl
 length_push (y ∷ ys) x = omega (arith, length_push ys x)
 
 pub begun_none : (told : Content) (analysis : Analysis) (lists : List (Option (List Line))) → length lists ≡ length (procs_in analysis) → AreListsOf told analysis lists
-    → AreBegun told analysis 0 [] lists
-begun_none told analysis lists long left = record {
+    → ((number : ℕ) → number < length (procs_in analysis) → IsListed lists number) → AreBegun told analysis 0 [] lists
+begun_none told analysis lists long left full = record {
   one_each = refl;
   each = λ number proc entry less. absurd (omega (arith, less));
   lines = λ number entry less. absurd (omega (arith, less));
@@ -77,6 +79,7 @@ begun_none told analysis lists long left = record {
   globals = All-nil (λ (entry : Entry). HasGlobalsOf (object_in analysis) entry.lines);
   long = long;
   left = left;
+  listed = λ number from within. full number within;
 }
 
 -- what is read of a list is so by any default
@@ -100,6 +103,8 @@ begun_next told analysis n proc lines entry entries lists lists' begun is within
       globals = All-append named entries (entry ∷ []) begun.globals (All-cons named entry [] (subst (HasGlobalsOf (object_in analysis)) (sym is_lines) are_told.are_kept.globals) (All-nil named));
       long = ap length is_left ∙ (length-set lists n None ∙ begun.long);
       left = lists_taken told analysis lists lists' n (omega (arith, within, begun.long)) is_left begun.left;
+      listed = λ number from less. subst (λ l. IsListed l number) (sym is_left)
+          (rw (get_or-set_other lists n number None None (λ e. omega (arith, e, from))) (begun.listed number (omega (arith, from)) less));
     }
 
 pub begun_whole : (told : Content) (analysis : Analysis) (n : ℕ) (entries : List Entry) (lists : List (Option (List Line))) → n ≡ length (procs_in analysis)
@@ -113,30 +118,31 @@ begun_whole told analysis n entries lists is begun = record {
 -- Reports.
 
 -- a report of an analysis is right
-right : (told : Content) (bytes : List ℕ) (object : Object) (procs : List Proc) (analysis : Analysis) (report : Report)
-    → IsAnalysed bytes object procs → IsAnalysis analysis → object_in analysis ≡ object → procs_in analysis ≡ procs
+right : (told : Content) (object : Object) (procs : List Proc) (analysis : Analysis) (report : Report)
+    → IsInProfile object (ends_of object analysis.sigs.now) procs → IsAnalysis analysis → object_in analysis ≡ object → procs_in analysis ≡ procs
     → AreEntries told (object_in analysis) analysis.lattice.now analysis.sigs.now (procs_in analysis) analysis.schemes report.entries → AreGlobals object report.entries report.globals
-    → IsRight told analysis.lattice.now analysis.sigs.now bytes report
-right told bytes object procs analysis report analysed is_analysis is_object are_procs entries globals = record {
-  object = object_in analysis;
-  procs = procs_in analysis;
-  is_analysed = subst (λ o. IsAnalysed bytes o (procs_in analysis)) (sym is_object) (subst (IsAnalysed bytes object) (sym are_procs) analysed);
-  schemes = analysis.schemes;
-  are_schemes = record { groups = analysis.groups; are_groups = is_analysis.groups; are_solved = is_analysis.solved };
-  entries = entries;
-  globals = subst (λ o. AreGlobals o report.entries report.globals) (sym is_object) globals;
-}
+    → IsRightOf told analysis.lattice.now analysis.sigs.now object report
+right told object procs analysis report in_profile is_analysis is_object are_procs entries globals =
+    subst (λ o. IsRightOf told analysis.lattice.now analysis.sigs.now o report) is_object (record {
+      procs = procs_in analysis;
+      in_profile = subst (λ o. IsInProfile o (ends_of o analysis.sigs.now) (procs_in analysis)) (sym is_object)
+          (subst (IsInProfile object (ends_of object analysis.sigs.now)) (sym are_procs) in_profile);
+      schemes = analysis.schemes;
+      are_schemes = record { groups = analysis.groups; are_groups = is_analysis.groups; are_solved = is_analysis.solved };
+      entries = entries;
+      globals = subst (λ o. AreGlobals o report.entries report.globals) (sym is_object) globals;
+    })
 
-pub right_text : (told : Content) (bytes : List ℕ) (object : Object) (procs : List Proc) (order : NamedOrder) (signatures : List Signature) (names : List (List ℕ)) (analysis : Analysis) (report : Report)
+pub right_text : (told : Content) (object : Object) (procs : List Proc) (order : NamedOrder) (signatures : List Signature) (names : List (List ℕ)) (analysis : Analysis) (report : Report)
     {X E : Type 0} (items : X → List ℕ) (text : Result X E)
-    → IsAnalysed bytes object procs → IsAnalysis analysis → object_in analysis ≡ object → procs_in analysis ≡ procs → analysis.sigs.now ≡ signatures → analysis.lattice.now ≡ order
+    → IsInProfile object (ends_of object signatures) procs → IsAnalysis analysis → object_in analysis ≡ object → procs_in analysis ≡ procs → analysis.sigs.now ≡ signatures → analysis.lattice.now ≡ order
     → AreEntries told (object_in analysis) analysis.lattice.now analysis.sigs.now (procs_in analysis) analysis.schemes report.entries → AreGlobals object report.entries report.globals
     → names ≡ order.names → IfOk text (λ t. items t ≡ report_text names report)
-    → IfOk text (λ t. IsReportText told order signatures bytes (items t))
-right_text told bytes object procs order signatures names analysis report items (Ok t) analysed is_analysis is_object are_procs are_signatures is_order entries globals named is = (
-  report,
-  subst (λ s. IsRight told order s bytes report) are_signatures (subst (λ o. IsRight told o analysis.sigs.now bytes report) is_order
-      (right told bytes object procs analysis report analysed is_analysis is_object are_procs entries globals)),
-  is ∙ ap (λ n. report_text n report) named,
-)
-right_text told bytes object procs order signatures names analysis report items (Err e) analysed is_analysis is_object are_procs are_signatures is_order entries globals named is = tt
+    → IfOk text (λ t. IsReportOf told order signatures object (items t))
+right_text told object procs order signatures names analysis report items (Ok t) in_profile is_analysis is_object are_procs are_signatures is_order entries globals named is = record {
+  report = report;
+  is_right = subst (λ s. IsRightOf told order s object report) are_signatures (subst (λ o. IsRightOf told o analysis.sigs.now object report) is_order
+      (right told object procs analysis report (subst (λ s. IsInProfile object (ends_of object s) procs) (sym are_signatures) in_profile) is_analysis is_object are_procs entries globals));
+  is_text = is ∙ ap (λ n. report_text n report) named;
+}
+right_text told object procs order signatures names analysis report items (Err e) in_profile is_analysis is_object are_procs are_signatures is_order entries globals named is = tt

@@ -1,5 +1,5 @@
 -- How a command stops, and what it writes.
-use Rattle.std.proofs.Common.{Bor, ◌≡◌, ◌∙◌, ℕ, ◌≤◌, List, Option, Some, None, ap, arith, inl, inr, subst, sym}
+use Rattle.std.proofs.Common.{Bor, ◌≡◌, ◌∙◌, ℕ, zero, suc, ◌≤◌, List, [], ◌∷◌, ◌++◌, Option, Some, None, ap, arith, inl, inr, refl, subst, sym, take}
 use Rattle.std.specs.Prelude.{IfSome}
 use Rattle.rt_base.specs.Outside.{Rose, Tells}
 use Rattle.rt_lattice.specs.Lattices.{NamedOrder}
@@ -10,11 +10,27 @@ use Rattle.rt_run.specs.declared.stop.Stop.TheVariants.{Refused, NoRead, NoMemor
 use Rattle.rt_run.specs.declared.no_text.NoText.{NoText}
 use Rattle.rt_run.specs.declared.no_text.NoText.TheVariants.{Refused as RefusedText, Memory as NoTextMemory}
 use Rattle.rt_run.specs.Errors.{read_line, refusal_line}
-use Rattle.rt_run.specs.Objects.{IsNoText}
-use Rattle.rt_run.specs.Entails.{IsNoEntailText}
-use Rattle.rt_run.specs.Words.{Command, Report, Entail, Step, OfLattice, OfSignatures, OfInput, lattice_of, signatures_of, input_of}
-use Rattle.rt_run.specs.Inputs.{Contents, IsLatticeFor, AreSignaturesIn, AreSignaturesFor, IsLatticeRefused, IsSignaturesRefused}
-use Rattle.rt_run.specs.Status.{AreInputs, ComesTo, IsInputRefused, IsRefusedBy, of_lattice, of_signatures, of_input, IsStopFor, Stops, StopsAt, StopsFor}
+use Rattle.rt_run.specs.NoTexts.{IsNoText}
+use Rattle.rt_run.specs.Words.{Command, Report, Entail, Step, OfLattice, OfSignatures, OfInput, lattice_of, signatures_of, inputs_of}
+use Rattle.rt_run.specs.Inputs.{Contents, with_first, contents_of, IsLatticeFor, AreSignaturesIn, AreSignaturesFor, IsLatticeRefused, IsSignaturesRefused}
+use Rattle.rt_run.specs.Status.{
+  AreAccepted,
+  AreInputs,
+  ComesTo,
+  ComesToInput,
+  Gives,
+  IsInputRefused,
+  IsRefusedAt,
+  IsRefusedBy,
+  of_lattice,
+  of_signatures,
+  of_input,
+  IsStopFor,
+  IsTextFor,
+  Stops,
+  StopsAt,
+  StopsFor,
+}
 
 -- a count that rose later rose from before
 rose_from : (a b c : ℕ) → a ≤ b → Rose b c → Rose a c
@@ -50,15 +66,65 @@ stops_at_signatures command content content' before faults faults' (Some name) o
     by (NoRead unread) h = (OfSignatures, ((order, lattice), named ∙ ap Some (sym h.0)), subst (λ n. Rose (before n) (faults' n)) (sym h.0) h.1)
     by NoMemory h = tt
 
-pub stops_at_input : (command : Command) (content content' : Contents) (before faults faults' : List ℕ → ℕ) (order : NamedOrder) (signatures : List Signature) (stop : Stop)
-    → ((n : List ℕ) → content' n ≡ content n) → ((n : List ℕ) → before n ≤ faults n) → AreInputs command content order signatures
-    → StopsAt (IsInputRefused command order) content' faults faults' (input_of command) stop → Stops command content before faults' stop
-stops_at_input command content content' before faults faults' order signatures stop same counted inputs h =
-    by stop (stops_from (IsInputRefused command order) content content' before faults faults' (input_of command) stop same counted h)
+-- Nothing is refused before a command has read a file of its own.
+none_refused : (command : Command) (order : NamedOrder) (signatures : List Signature) (refusal : Refusal) → IsInputRefused command order signatures [] refusal → ⊥
+none_refused (Report told options object) order signatures refusal h = h
+none_refused (Entail lattice file judgement) order signatures refusal h = h
+
+abbrev no_files : List (List ℕ)
+no_files = []
+
+take_none : (k : ℕ) → take k no_files ≡ no_files
+take_none zero = refl
+take_none (suc k) = refl
+
+none_accepted : (command : Command) (order : NamedOrder) (signatures : List Signature) → AreAccepted command order signatures []
+none_accepted command order signatures k refusal h =
+    none_refused command order signatures refusal (subst (λ (inputs : List (List ℕ)). IsInputRefused command order signatures inputs refusal) (take_none k) h)
+
+-- A command that has one file of its own comes to it.
+comes_to_one : (command : Command) (content : Contents) (order : NamedOrder) (signatures : List Signature) (name : List ℕ) → inputs_of command ≡ name ∷ []
+    → AreInputs command content order signatures → ComesToInput command content 0 name
+comes_to_one command content order signatures name one inputs = record {
+  order = order;
+  signatures = signatures;
+  are_inputs = inputs;
+  before = [];
+  after = [];
+  are_names = one;
+  is_number = refl;
+  accepted = none_accepted command order signatures;
+}
+
+-- what is so of the content of one name is so of the contents of that name alone
+one_told : (found : Option (List ℕ)) (P : List (List ℕ) → Type 0) → IfSome found (λ (bytes : List ℕ). P (bytes ∷ [])) → IfSome (with_first found (Some [])) P
+one_told None P h = tt
+one_told (Some bytes) P h = h
+
+-- its file is refused
+refused_one : (command : Command) (content : Contents) (order : NamedOrder) (signatures : List Signature) (name : List ℕ) (refusal : Refusal) → inputs_of command ≡ name ∷ []
+    → AreInputs command content order signatures → IfSome (content name) (λ (bytes : List ℕ). IsInputRefused command order signatures (bytes ∷ []) refusal)
+    → IsRefusedBy command content refusal
+unfolding comes_to_one
+refused_one command content order signatures name refusal one inputs h =
+    of_input 0 name (record {
+      comes = comes_to_one command content order signatures name one inputs;
+      refused = one_told (content name) (λ (inputs : List (List ℕ)). IsInputRefused command order signatures inputs refusal) h;
+    })
+
+pub stops_at_input : (command : Command) (content content' : Contents) (before faults faults' : List ℕ → ℕ) (order : NamedOrder) (signatures : List Signature) (name : List ℕ) (stop : Stop)
+    → inputs_of command ≡ name ∷ [] → ((n : List ℕ) → content' n ≡ content n) → ((n : List ℕ) → before n ≤ faults n) → AreInputs command content order signatures
+    → StopsAt (λ bytes. IsInputRefused command order signatures (bytes ∷ [])) content' faults faults' name stop → Stops command content before faults' stop
+stops_at_input command content content' before faults faults' order signatures name stop one same counted inputs h =
+    by stop (stops_from (λ bytes. IsInputRefused command order signatures (bytes ∷ [])) content content' before faults faults' name stop same counted h)
   where
-    by : (stop : Stop) → StopsAt (IsInputRefused command order) content before faults' (input_of command) stop → Stops command content before faults' stop
-    by (Refused refusal) h = of_input order signatures inputs h
-    by (NoRead unread) h = (OfInput, ((order, signatures, inputs), sym h.0), subst (λ n. Rose (before n) (faults' n)) (sym h.0) h.1)
+    by : (stop : Stop) → StopsAt (λ bytes. IsInputRefused command order signatures (bytes ∷ [])) content before faults' name stop → Stops command content before faults' stop
+    by (Refused refusal) h = refused_one command content order signatures name refusal one inputs h
+    by (NoRead unread) h = (
+      OfInput 0,
+      subst (ComesToInput command content 0) (sym h.0) (comes_to_one command content order signatures name one inputs),
+      subst (λ n. Rose (before n) (faults' n)) (sym h.0) h.1,
+    )
     by NoMemory h = tt
 
 -- The signatures are those of before, when no content has changed.
@@ -74,27 +140,35 @@ are_inputs command content content' order names signatures same known lattice si
   are_signatures = signatures_from content content' order.names (signatures_of command) signatures same (subst (λ (ns : List (List ℕ)). AreSignaturesFor content' ns (signatures_of command) signatures) known signed);
 }
 
--- There is no text of its own file.
-abbrev pub IsNoTextFor : Command → NamedOrder → List ℕ → NoText → Type 0
-IsNoTextFor (Report told options object) order = IsNoText
-IsNoTextFor (Entail lattice file judgement) order = IsNoEntailText order.names judgement
-
 some_found : (content : Option (List ℕ)) (P : List ℕ → Type 0) (found shown : List ℕ) → IfSome content (λ (b : List ℕ). found ≡ b) → shown ≡ found → P shown → IfSome content P
 some_found None P found shown told same h = tt
 some_found (Some bytes) P found shown told same h = subst P (same ∙ told) h
 
-refused_for : (command : Command) (order : NamedOrder) (bytes : List ℕ) (refusal : Refusal) → IsNoTextFor command order bytes (RefusedText refusal) → IsInputRefused command order bytes refusal
-refused_for (Report told options object) order bytes refusal h = h
-refused_for (Entail lattice file judgement) order bytes refusal h = h
+-- There is no text of its file.
+pub stops_for : (command : Command) (content content' : Contents) (faults faults' : List ℕ → ℕ) (order : NamedOrder) (signatures : List Signature) (name found shown : List ℕ) (why : NoText) (stop : Stop)
+    → inputs_of command ≡ name ∷ [] → ((n : List ℕ) → content' n ≡ content n) → AreInputs command content order signatures → IfSome (content' name) (λ (bytes : List ℕ). found ≡ bytes) → shown ≡ found
+    → IsNoText (IsInputRefused command order signatures (shown ∷ [])) why → IsStopFor stop why → Stops command content faults faults' stop
+stops_for command content content' faults faults' order signatures name found shown (RefusedText refusal) stop one same inputs told is refused is_stop =
+    subst (Stops command content faults faults') (sym is_stop) (refused_one command content order signatures name refusal one inputs
+    (some_found (content name) (λ (bytes : List ℕ). IsInputRefused command order signatures (bytes ∷ []) refusal) found shown
+    (subst (λ o. IfSome o (λ (bytes : List ℕ). found ≡ bytes)) (same name) told) is refused))
+stops_for command content content' faults faults' order signatures name found shown NoTextMemory stop one same inputs told is refused is_stop = subst (Stops command content faults faults') (sym is_stop) tt
 
-pub stops_for : (command : Command) (content content' : Contents) (faults faults' : List ℕ → ℕ) (order : NamedOrder) (signatures : List Signature) (found shown : List ℕ) (why : NoText) (stop : Stop)
-    → ((n : List ℕ) → content' n ≡ content n) → AreInputs command content order signatures → IfSome (content' (input_of command)) (λ (bytes : List ℕ). found ≡ bytes) → shown ≡ found
-    → IsNoTextFor command order shown why → IsStopFor stop why → Stops command content faults faults' stop
-stops_for command content content' faults faults' order signatures found shown (RefusedText refusal) stop same inputs told is refused is_stop =
-    subst (Stops command content faults faults') (sym is_stop) (of_input order signatures inputs
-    (some_found (content (input_of command)) (λ (bytes : List ℕ). IsInputRefused command order bytes refusal) found shown
-    (subst (λ o. IfSome o (λ (bytes : List ℕ). found ≡ bytes)) (same (input_of command)) told) is (refused_for command order shown refusal refused)))
-stops_for command content content' faults faults' order signatures found shown NoTextMemory stop same inputs told is refused is_stop = subst (Stops command content faults faults') (sym is_stop) tt
+-- There is a text of its file.
+pub gives_for : (command : Command) (content content' : Contents) (order : NamedOrder) (signatures : List Signature) (name found shown text : List ℕ)
+    → inputs_of command ≡ name ∷ [] → ((n : List ℕ) → content' n ≡ content n) → AreInputs command content order signatures → IfSome (content' name) (λ (bytes : List ℕ). found ≡ bytes) → shown ≡ found
+    → IsTextFor command order signatures (shown ∷ []) text → Gives command content text
+gives_for command content content' order signatures name found shown text one same inputs told is is_text = record {
+  order = order;
+  signatures = signatures;
+  are_inputs = inputs;
+  text = text;
+  is_text =
+      rw one (one_told (content name) (λ (given : List (List ℕ)). IsTextFor command order signatures given text)
+      (some_found (content name) (λ (bytes : List ℕ). IsTextFor command order signatures (bytes ∷ []) text) found shown
+      (subst (λ o. IfSome o (λ (bytes : List ℕ). found ≡ bytes)) (same name) told) is is_text));
+  gained = refl;
+}
 
 -- What is told of a command that stopped.
 

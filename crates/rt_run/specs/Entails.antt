@@ -1,9 +1,8 @@
 -- What `entail` writes for a text and a judgement, and when it refuses them.
 use Rattle.std.specs.Prelude.{◌≡◌, ℕ, ◌<◌, ◌≤◌, Bool, List, codes, length, if◌then◌else◌}
+use Rattle.rt_lattice.specs.Lattices.{NamedOrder}
 use Rattle.rt_entail.specs.declared.fault.EntailFault.TheVariants.{BadLine as HasBadLine, BadJudgement as IsBadJudgement}
 use Rattle.rt_entail.specs.Entailment.{IsRefusal, IsAnswer}
-use Rattle.rt_run.specs.declared.no_text.NoText.{NoText}
-use Rattle.rt_run.specs.declared.no_text.NoText.TheVariants.{Refused, Memory}
 use Rattle.rt_run.specs.declared.refusal.Refusal.{Refusal}
 use Rattle.rt_run.specs.declared.refusal.Refusal.TheVariants.{Object, Link, Code, BadLattice, BadSignatures, TextTooLarge, BadLine, BadJudgement}
 
@@ -19,11 +18,9 @@ IsEntailRefused names judgement text (Object number offset) = ⊥
 IsEntailRefused names judgement text (Link number section offset) = ⊥
 IsEntailRefused names judgement text (Code number section offset) = ⊥
 
--- whether the judgement is derivable from the lines of the text, which is no longer than a text may be
-abbrev pub IsEntailText : List (List ℕ) → List ℕ → List ℕ → List ℕ → Type 0
-IsEntailText names judgement text written = (yes : Bool) × (length text ≤ 1048576) × IsAnswer names text judgement yes × (written ≡ (if yes then codes "yes\n" else codes "no\n"))
-
--- there is no text where the text of lines or the judgement is refused; memory may always run out
-abbrev pub IsNoEntailText : List (List ℕ) → List ℕ → List ℕ → NoText → Type 0
-IsNoEntailText names judgement text (Refused refusal) = IsEntailRefused names judgement text refusal
-IsNoEntailText names judgement text Memory = Unit {0}
+-- whether the judgement is derivable from the lines of the text, which is no longer than a text may be, with the order of a lattice
+pub record IsEntailText (lattice : NamedOrder) (judgement text written : List ℕ) : Type 0 where
+  pub yes : Bool
+  pub small : length text ≤ 1048576
+  pub is_answer : IsAnswer lattice.order lattice.names text judgement yes
+  pub is_text : written ≡ (if yes then codes "yes\n" else codes "no\n")

@@ -84,6 +84,7 @@ abbrev pub signatures_line : SigFault → List ℕ
 signatures_line (signatures.BadLine number) = numbered_line (codes "error 50 BadLine ") number
 signatures_line (signatures.UnknownConst number) = numbered_line (codes "error 51 UnknownConst ") number
 signatures_line (signatures.Twice number) = numbered_line (codes "error 52 Twice ") number
+signatures_line (signatures.Args number) = numbered_line (codes "error 54 Args ") number
 signatures_line signatures.TooLarge = codes "error 53 TooLarge\n"
 signatures_line signatures.Memory = []
 

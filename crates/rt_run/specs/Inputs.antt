@@ -1,5 +1,5 @@
 -- The lattice and the signatures that a command works with, and when their files are refused.
-use Rattle.std.specs.Prelude.{◌≡◌, ◌≢◌, ◌≤◌, ℕ, Option, Some, None, IfSome, List, [], length}
+use Rattle.std.specs.Prelude.{◌≡◌, ◌≢◌, ◌≤◌, ℕ, Option, Some, None, IfSome, List, [], ◌∷◌, length}
 use Rattle.rt_lattice.specs.declared.fault.LatFault.TheVariants as lattice
 use Rattle.rt_lattice.specs.Faults.{IsFirstFault, IsLatticeIn}
 use Rattle.rt_lattice.specs.Lattices.{NamedOrder, IsLatticeOf}
@@ -14,6 +14,22 @@ use Rattle.rt_run.specs.declared.refusal.Refusal.TheVariants.{BadLattice, BadSig
 -- what names hold, where it is told
 abbrev pub Contents : Type 0
 Contents = List ℕ → Option (List ℕ)
+
+abbrev pub with_first : Option (List ℕ) → Option (List (List ℕ)) → Option (List (List ℕ))
+with_first None inputs = None
+with_first (Some bytes) None = None
+with_first (Some bytes) (Some inputs) = Some (bytes ∷ inputs)
+
+-- what these names hold, in their order, where all of it is told
+abbrev pub contents_of : Contents → List (List ℕ) → Option (List (List ℕ))
+contents_of content [] = Some []
+contents_of content (name ∷ names) = with_first (content name) (contents_of content names)
+
+-- there is one of them, and it is such
+abbrev pub OfOne : List (List ℕ) → (List ℕ → Type 0) → Type 0
+OfOne [] P = ⊥
+OfOne (bytes ∷ []) P = P bytes
+OfOne (bytes ∷ other ∷ more) P = ⊥
 
 -- the lattice of a file, where one is named, and else the standard one
 abbrev pub IsLatticeFor : Contents → Option (List ℕ) → NamedOrder → Type 0

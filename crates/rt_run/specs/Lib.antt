@@ -2,6 +2,7 @@ pub mod Words
 pub mod Meant
 pub mod Errors
 pub mod Inputs
+pub mod NoTexts
 pub mod Objects
 pub mod Globals
 pub mod Reports

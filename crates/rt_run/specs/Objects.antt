@@ -1,4 +1,4 @@
--- Objects that the reports are about, and when one is refused.
+-- Objects, and when one is refused.
 use Rattle.std.specs.Prelude.{◌≡◌, ℕ, Some, None, List}
 use Rattle.rt_elf.specs.declared.fault.ElfFault.TheVariants.{Bad}
 use Rattle.rt_elf.specs.Parts.{Parts as Object}
@@ -9,36 +9,39 @@ use Rattle.rt_link.specs.Checks.{link_fault}
 use Rattle.rt_proc.specs.declared.proc.Proc.{Proc}
 use Rattle.rt_proc.specs.Faults.{HasNoFault, IsFirstFault}
 use Rattle.rt_proc.specs.Procs.{AreProcs}
-use Rattle.rt_run.specs.declared.no_text.NoText.{NoText}
-use Rattle.rt_run.specs.declared.no_text.NoText.TheVariants.{Refused, Memory}
+use Rattle.rt_sigs.specs.Signatures.{Signature}
+use Rattle.rt_liveness.specs.Ends.{ends_of}
 use Rattle.rt_run.specs.declared.refusal.Refusal.{Refusal}
 use Rattle.rt_run.specs.declared.refusal.Refusal.TheVariants.{Object as BadObject, Link as BadLink, Code as BadCode, BadLattice, BadSignatures, TextTooLarge, BadLine, BadJudgement}
 
--- the bytes are those of the object, which passes all checks of its bytes and of its relocations
-pub record IsLinked (bytes : List ℕ) (object : Object) : Type 0 where
+-- the bytes pass all checks of an object, and are read as this one
+pub record IsReadAs (bytes : List ℕ) (object : Object) : Type 0 where
   pub unrefused : first_fault bytes ≡ None
   pub is_object : IsObject bytes object
+
+-- An object of the profile, where the functions of these symbols don't return: its relocations pass all checks, its code has no fault,
+-- and these are its procedures.
+pub record IsInProfile (object : Object) (ends : List ℕ) (procs : List Proc) : Type 0 where
   pub linked : link_fault object ≡ None
+  pub is_sound : HasNoFault object ends
+  pub are_procs : AreProcs object ends procs
 
--- they are those of an object of the profile, whose code has no fault, and which has these procedures
-pub record IsAnalysed (bytes : List ℕ) (object : Object) (procs : List Proc) : Type 0 where
-  pub is_linked : IsLinked bytes object
-  pub is_sound : HasNoFault object
-  pub are_procs : AreProcs object procs
+-- why an object is refused, where the functions of these symbols don't return: the first check of its relocations that fails, else the
+-- first fault of its code
+abbrev pub IsObjectRefused : Object → List ℕ → Refusal → Type 0
+IsObjectRefused object ends (BadObject number offset) = ⊥
+IsObjectRefused object ends (BadLink number section offset) = link_fault object ≡ Some (BadReloc number section offset)
+IsObjectRefused object ends (BadCode number section offset) =
+    (link_fault object ≡ None) × IsFirstFault object ends number (record { section = section; offset = offset })
+IsObjectRefused object ends (BadLattice fault) = ⊥
+IsObjectRefused object ends (BadSignatures fault) = ⊥
+IsObjectRefused object ends TextTooLarge = ⊥
+IsObjectRefused object ends (BadLine place) = ⊥
+IsObjectRefused object ends BadJudgement = ⊥
 
--- Why an object is refused: the first check of its bytes that fails, else the first of its relocations, else the first
--- fault of its code.
-abbrev pub IsRefused : List ℕ → Refusal → Type 0
-IsRefused bytes (BadObject number offset) = first_fault bytes ≡ Some (Bad number offset)
-IsRefused bytes (BadLink number section offset) = (first_fault bytes ≡ None) × ((object : Object) × IsObject bytes object × (link_fault object ≡ Some (BadReloc number section offset)))
-IsRefused bytes (BadCode number section offset) = (object : Object) × IsLinked bytes object × IsFirstFault object number (record { section = section; offset = offset })
-IsRefused bytes (BadLattice fault) = ⊥
-IsRefused bytes (BadSignatures fault) = ⊥
-IsRefused bytes TextTooLarge = ⊥
-IsRefused bytes (BadLine place) = ⊥
-IsRefused bytes BadJudgement = ⊥
-
--- there is no text where the object is refused; memory may always run out
-abbrev pub IsNoText : List ℕ → NoText → Type 0
-IsNoText bytes (Refused refusal) = IsRefused bytes refusal
-IsNoText bytes Memory = Unit {0}
+-- why the bytes of an object are refused, where these are the signatures of functions outside: the first check of them that fails, else
+-- what refuses the object that they are read as
+pub data IsRefused (signatures : List Signature) (bytes : List ℕ) : Refusal → Type 0 where
+  of_bytes : (number offset : ℕ) → first_fault bytes ≡ Some (Bad number offset) → IsRefused signatures bytes (BadObject number offset)
+  of_object : (object : Object) (refusal : Refusal) → IsReadAs bytes object → IsObjectRefused object (ends_of object signatures) refusal
+      → IsRefused signatures bytes refusal

@@ -6,6 +6,7 @@ use Rattle.rt_elf.specs.Parts.{Parts as Object}
 use Rattle.rt_proc.specs.declared.proc.Proc.{Proc}
 use Rattle.rt_calls.specs.Calls.{AreGroupsOf}
 use Rattle.rt_sigs.specs.Signatures.{Signature}
+use Rattle.rt_liveness.specs.Ends.{ends_of}
 use Rattle.rt_table.specs.Lists.{AreLinesOf}
 use Rattle.rt_solve.specs.Solved.{AreSolved}
 use Rattle.rt_scheme.specs.declared.scheme.Scheme.{Scheme}
@@ -14,18 +15,21 @@ use Rattle.rt_scheme.specs.declared.report.Report.{Report}
 use Rattle.rt_scheme.specs.Reports.{report_text}
 use Rattle.rt_run.specs.declared.content.Content.{Content}
 use Rattle.rt_run.specs.declared.content.Content.TheVariants.{Constraints, Schemes}
-use Rattle.rt_run.specs.Objects.{IsAnalysed}
+use Rattle.rt_run.specs.Objects.{IsInProfile, IsReadAs}
 use Rattle.rt_run.specs.Globals.{AreGlobals}
 
--- The schemes of an object's procedures: in each group of procedures that call each other, each member's scheme tells whoever calls it the same as
--- the lists of the group's members together, where callees outside the group have these same schemes and functions outside their signatures.
-pub record AreSchemes (object : Object) (order : NamedOrder) (signatures : List Signature) (procs : List Proc) (schemes : List (Option Scheme)) : Type 0 where
+-- The schemes of an object's procedures: in each group of procedures that call each other, each member's scheme gives whoever calls it the
+-- same as the lists of the group's members together, where callees outside the group have these same schemes and functions outside their
+-- signatures.
+pub record AreSchemes (object : Object) (order : NamedOrder) (signatures : List Signature) (procs : List Proc)
+    (schemes : List (Option Scheme)) : Type 0 where
   pub groups : List (List ℕ)
   pub are_groups : AreGroupsOf procs groups
   pub are_solved : AreSolved object order.roles procs signatures groups schemes
 
 -- the lines of the procedure of a number, by the table, with such schemes of its callees
-pub record AreConstraints (object : Object) (order : NamedOrder) (signatures : List Signature) (procs : List Proc) (schemes : List (Option Scheme)) (number : ℕ) (lines : List Line) : Type 0 where
+pub record AreConstraints (object : Object) (order : NamedOrder) (signatures : List Signature) (procs : List Proc)
+    (schemes : List (Option Scheme)) (number : ℕ) (lines : List Line) : Type 0 where
   pub groups : List (List ℕ)
   pub are_groups : AreGroupsOf procs groups
   pub group : List ℕ
@@ -56,21 +60,31 @@ pub record IsEntryOf (number : ℕ) (proc : Proc) (entry : Entry) : Type 0 where
   pub name : entry.name ≡ proc.name
 
 -- an entry for each procedure, in the order of their numbers
-pub record AreEntries (told : Content) (object : Object) (order : NamedOrder) (signatures : List Signature) (procs : List Proc) (schemes : List (Option Scheme)) (entries : List Entry) : Type 0 where
+pub record AreEntries (told : Content) (object : Object) (order : NamedOrder) (signatures : List Signature) (procs : List Proc)
+    (schemes : List (Option Scheme)) (entries : List Entry) : Type 0 where
   pub one_each : length entries ≡ length procs
-  pub each : (number : ℕ) (proc : Proc) (entry : Entry) → number < length procs → IsEntryOf number (get_or procs number proc) (get_or entries number entry)
-  pub lines : (number : ℕ) (entry : Entry) → number < length procs → IsTold told object order signatures procs schemes number (get_or entries number entry).lines
+  pub each : (number : ℕ) (proc : Proc) (entry : Entry) → number < length procs
+      → IsEntryOf number (get_or procs number proc) (get_or entries number entry)
+  pub lines : (number : ℕ) (entry : Entry) → number < length procs
+      → IsTold told object order signatures procs schemes number (get_or entries number entry).lines
 
--- a right report of the bytes of an object, with this lattice and these signatures
-pub record IsRight (told : Content) (order : NamedOrder) (signatures : List Signature) (bytes : List ℕ) (report : Report) : Type 0 where
-  pub object : Object
+-- a right report of an object of the profile, with this lattice and these signatures
+pub record IsRightOf (told : Content) (order : NamedOrder) (signatures : List Signature) (object : Object) (report : Report) : Type 0 where
   pub procs : List Proc
-  pub is_analysed : IsAnalysed bytes object procs
+  pub in_profile : IsInProfile object (ends_of object signatures) procs
   pub schemes : List (Option Scheme)
   pub are_schemes : AreSchemes object order signatures procs schemes
   pub entries : AreEntries told object order signatures procs schemes report.entries
   pub globals : AreGlobals object report.entries report.globals
 
--- the text of a right report of the object
-abbrev pub IsReportText : Content → NamedOrder → List Signature → List ℕ → List ℕ → Type 0
-IsReportText told order signatures bytes text = (report : Report) × IsRight told order signatures bytes report × (text ≡ report_text order.names report)
+-- the text of a right report of an object
+pub record IsReportOf (told : Content) (order : NamedOrder) (signatures : List Signature) (object : Object) (text : List ℕ) : Type 0 where
+  pub report : Report
+  pub is_right : IsRightOf told order signatures object report
+  pub is_text : text ≡ report_text order.names report
+
+-- that of the object that the bytes are read as
+pub record IsReportText (told : Content) (order : NamedOrder) (signatures : List Signature) (bytes text : List ℕ) : Type 0 where
+  pub object : Object
+  pub is_read : IsReadAs bytes object
+  pub is_report : IsReportOf told order signatures object text

@@ -30,8 +30,10 @@ abbrev pub report_of : Content → Options → List (List ℕ) → Option Comman
 report_of told options [] = None
 report_of told options (object ∷ []) = if is_argument object then Some (Report told options object) else None
 report_of told options (word ∷ file ∷ rest) =
-    if is_text word (codes "--lattice") && (is_none options.lattice && is_argument file) then report_of told (record options { lattice = Some file }) rest else
-    if is_text word (codes "--signatures") && (is_none options.signatures && is_argument file) then report_of told (record options { signatures = Some file }) rest else None
+    if is_text word (codes "--lattice") && (is_none options.lattice && is_argument file)
+    then report_of told (record options { lattice = Some file }) rest else
+    if is_text word (codes "--signatures") && (is_none options.signatures && is_argument file)
+    then report_of told (record options { signatures = Some file }) rest else None
 
 -- the last two words of `entail`
 abbrev pub entail_by : Option (List ℕ) → List ℕ → List ℕ → Option Command
@@ -48,8 +50,8 @@ entail_of words = None
 abbrev pub no_options : Options
 no_options = record { lattice = None; signatures = None }
 
--- the command of the words: `constraints OPTIONS OBJECT`, `schemes OPTIONS OBJECT` or `entail [--lattice FILE] FILE JUDGEMENT`, where OPTIONS are
--- `--lattice FILE` and `--signatures FILE`
+-- the command of the words: `constraints OPTIONS OBJECT`, `schemes OPTIONS OBJECT` or `entail [--lattice FILE] FILE JUDGEMENT`, where
+-- OPTIONS are `--lattice FILE` and `--signatures FILE`
 abbrev pub command_of : List (List ℕ) → Option Command
 command_of [] = None
 command_of (word ∷ words) =
@@ -57,11 +59,11 @@ command_of (word ∷ words) =
     if is_text word (codes "schemes") then report_of content.Schemes no_options words else
     if is_text word (codes "entail") then entail_of words else None
 
--- the files that a command reads, in this order: the lattice and the signatures, where they are named, and then its own file
+-- the files that a command reads, in this order: the lattice and the signatures, where they are named, and then its own files, from 0
 pub data Step : Type 0 where
   OfLattice : Step
   OfSignatures : Step
-  OfInput : Step
+  OfInput : ℕ → Step
 
 abbrev pub lattice_of : Command → Option (List ℕ)
 lattice_of (Report told options object) = options.lattice
@@ -71,6 +73,7 @@ abbrev pub signatures_of : Command → Option (List ℕ)
 signatures_of (Report told options object) = options.signatures
 signatures_of (Entail lattice file judgement) = None
 
-abbrev pub input_of : Command → List ℕ
-input_of (Report told options object) = object
-input_of (Entail lattice file judgement) = file
+-- the names of a command's own files, in the order in which it reads them
+abbrev pub inputs_of : Command → List (List ℕ)
+inputs_of (Report told options object) = object ∷ []
+inputs_of (Entail lattice file judgement) = file ∷ []

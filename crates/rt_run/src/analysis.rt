@@ -1,12 +1,10 @@
 // What is worked out of an object before it is told.
 ghost use Rattle.std.specs.Prelude.{◌≡◌, None, IfOk};
 
+use crate::objects::Program;
 use rt_base::Memory;
 use rt_calls::{Groups, groups_of};
-use rt_elf::Object;
 use rt_lattice::Lattice;
-use rt_link::Links;
-use rt_proc::Procs;
 use rt_scheme::Schemes;
 use rt_sigs::Sigs;
 use rt_solve::solve_all;
@@ -30,33 +28,30 @@ pub struct Analysis<'a> {
 
 impl<'a> Analysis<'a> {
     ghost use Rattle.rt_lattice.specs.Lattices.{size_of};
-    ghost use Rattle.rt_link.specs.Checks.{link_fault};
     ghost use Rattle.rt_link.specs.Links.{AreLinksOf};
-    ghost use Rattle.rt_proc.specs.Procs.{AreProcs};
+    ghost use Rattle.rt_liveness.specs.Ends.{ends_of};
     ghost use Rattle.rt_sigs.specs.Signatures.{AreSignatures};
     ghost use Rattle.rt_run.specs.Analyses.{IsAnalysis, object_in, procs_in};
+    ghost use Rattle.rt_run.specs.Objects.{IsInProfile};
 
-    /// The analysis of an object, with these signatures and this lattice.
+    /// The analysis of an object of the profile, with these signatures and this lattice.
     pub fn of(
         alloc: Global,
-        object: &'a Object,
-        links: &Links,
-        procs: &'a Procs,
+        program: &'a Program,
         sigs: &'a Sigs,
         lattice: &'a Lattice,
     ) -> Result<Analysis<'a>, Memory>
-        requires linked { link_fault object.now ≡ None }
-        requires links { AreLinksOf object.now links.now }
-        requires procs { AreProcs object.now procs.now }
+        requires in_profile { IsInProfile program.now.object (ends_of program.now.object sigs.now) program.now.procs }
+        requires links { AreLinksOf program.now.object program.now.links }
         requires signatures { AreSignatures (size_of lattice.now) sigs.now }
         ensures is_analysis { IfOk result IsAnalysis }
-        ensures object { IfOk result (λ analysis. object_in analysis ≡ object.now) }
-        ensures procs { IfOk result (λ analysis. procs_in analysis ≡ procs.now) }
+        ensures object { IfOk result (λ analysis. object_in analysis ≡ program.now.object) }
+        ensures procs { IfOk result (λ analysis. procs_in analysis ≡ program.now.procs) }
         ensures signatures { IfOk result (λ analysis. analysis.sigs.now ≡ sigs.now) }
         ensures lattice { IfOk result (λ analysis. analysis.lattice.now ≡ lattice.now) }
     {
-        let facts = prepare(alloc, object, links, procs, sigs)?;
-        let groups = groups_of(alloc, procs)?;
+        let facts = prepare(alloc, &program.object, &program.links, &program.procs, sigs)?;
+        let groups = groups_of(alloc, &program.procs)?;
         let schemes = solve_all(alloc, &facts, &groups, sigs, lattice)?;
         Ok(Analysis {
             facts,

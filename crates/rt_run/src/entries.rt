@@ -59,7 +59,8 @@ pub fn entries_of(
             return Err(AllocError);
         };
         let Some(lines) = take_at(&mut lists, place) else {
-            return Err(AllocError);
+            // Each procedure has lines.
+            unreachable!()
         };
         entries.push(entry_of(alloc, number, proc, lines)?)?;
     }

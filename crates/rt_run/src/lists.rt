@@ -2,7 +2,7 @@
 ghost use Rattle.std.specs.Prelude.{◌≡◌, ◌<◌, ◌⊎◌, ℕ, List, Some, None, All, Contains, IfOk, OnOk, length, option_map, replicate, slice_index_or};
 ghost use Rattle.rt_lines.specs.declared.line.Line.{Line};
 ghost use Rattle.rt_scheme.specs.declared.scheme.Scheme.{Scheme};
-ghost use Rattle.rt_run.specs.Analyses.{AreListsOf, IsAnalysis, IsBodyOf, procs_in};
+ghost use Rattle.rt_run.specs.Analyses.{AreListed, AreListsOf, IsAnalysis, IsBodyOf, IsListed, procs_in};
 
 use crate::analysis::Analysis;
 use crate::content::Content;
@@ -21,6 +21,8 @@ fn put(group: &[u32], bodies: Bodies, lists: &mut Lists)
     ensures long { length lists.new.items ≡ length lists.old.items }
     ensures each { (number : ℕ) (lines : List Line) → slice_index_or lists.new.items number None ≡ Some lines
         → (slice_index_or lists.old.items number None ≡ Some lines) ⊎ IsBodyOf group.now bodies number lines }
+    ensures members { AreListed lists.new.items group.now }
+    ensures kept { (number : ℕ) → IsListed lists.old.items number → IsListed lists.new.items number }
 {
     let mut left = bodies.into_vec();
     while let Some(lines) = left.pop() {
@@ -49,6 +51,8 @@ impl Analysis<'_> {
         requires lists { AreListsOf Content.Constraints self.now lists.old.items }
         ensures long { OnOk result (length lists.new.items ≡ length lists.old.items) }
         ensures lists { OnOk result (AreListsOf Content.Constraints self.now lists.new.items) }
+        ensures members { OnOk result (AreListed lists.new.items group.now) }
+        ensures kept { OnOk result ((number : ℕ) → IsListed lists.old.items number → IsListed lists.new.items number) }
     {
         let bodies = lines_of(
             alloc,
@@ -67,6 +71,7 @@ impl Analysis<'_> {
         requires { IsAnalysis self.now }
         ensures long { IfOk result (λ lists. length lists.items ≡ length (procs_in self.now)) }
         ensures lists { IfOk result (λ lists. AreListsOf Content.Constraints self.now lists.items) }
+        ensures full { IfOk result (λ lists. (number : ℕ) → number < length (procs_in self.now) → IsListed lists.items number) }
     {
         let mut lists = none(alloc, self.facts.procs().len())?;
         for group in self.groups.items() {
@@ -91,6 +96,7 @@ impl Analysis<'_> {
         requires { IsAnalysis self.now }
         ensures long { IfOk result (λ lists. length lists.items ≡ length (procs_in self.now)) }
         ensures lists { IfOk result (λ lists. AreListsOf Content.Schemes self.now lists.items) }
+        ensures full { IfOk result (λ lists. (number : ℕ) → number < length (procs_in self.now) → IsListed lists.items number) }
     {
         let Ok(count) = u32::try_from(self.facts.procs().len()) else {
             return Err(AllocError);
@@ -102,11 +108,12 @@ impl Analysis<'_> {
         Ok(lists)
     }
 
-    /// What a report tells of each procedure, by the procedures' numbers. The error is want of memory.
+    /// What a report says of each procedure, by the procedures' numbers. The error is out of memory.
     pub fn lists(&self, alloc: Global, content: Content) -> Result<Lists, Memory>
         requires { IsAnalysis self.now }
         ensures long { IfOk result (λ lists. length lists.items ≡ length (procs_in self.now)) }
         ensures lists { IfOk result (λ lists. AreListsOf content self.now lists.items) }
+        ensures full { IfOk result (λ lists. (number : ℕ) → number < length (procs_in self.now) → IsListed lists.items number) }
     {
         match content {
             Content::Constraints => self.constraints(alloc),

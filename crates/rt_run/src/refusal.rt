@@ -196,6 +196,7 @@ fn push_signatures(fault: SigFault, line: &mut Vec<u8>) -> Result<(), Memory>
     match fault {
         SigFault::BadLine(number) => push_numbered(b"error 50 BadLine ", number, line),
         SigFault::UnknownConst(number) => push_numbered(b"error 51 UnknownConst ", number, line),
+        SigFault::Args(number) => push_numbered(b"error 54 Args ", number, line),
         SigFault::Twice(number) => push_numbered(b"error 52 Twice ", number, line),
         SigFault::TooLarge => line.extend_from_slice(b"error 53 TooLarge\n"),
         SigFault::Memory => Ok(()),

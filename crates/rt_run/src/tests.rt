@@ -1,8 +1,10 @@
 // Runs over files and streams in memory. What a command writes and refuses is shown by cases of the built program; here a
-// read and a write fail.
+// read and a write fail, and a report is read back.
 use crate::run;
 use rt_base::Bytes;
 use rt_io::{BytesSink, FilesOf};
+use rt_lattice::standard;
+use rt_reports::read_report;
 use std::alloc::{AllocError, Global};
 use std::process::Abort;
 use std::test::Fail;
@@ -96,6 +98,8 @@ const UNWRITTEN: Outcome = Outcome {
 fn runs(rt: HostRuntime) -> Result<(), Fail> {
     let alloc = rt.alloc();
     check(&rt, alloc, &["schemes", "file"], &[], SCHEMES)?;
+    let lattice = standard(alloc)?;
+    assert!(rt; read_report(alloc, SCHEMES.out.as_bytes(), lattice.names()).is_ok());
     check(&rt, alloc, &["schemes", "no file"], &[], UNREAD)?;
     check(&rt, alloc, &["schemes", "file"], &[0], UNWRITTEN)?;
     Ok(())

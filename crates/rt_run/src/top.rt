@@ -87,12 +87,7 @@ fn entail<'a, F: Files>(
         Ok(bytes) => bytes,
         Err(stop) => return Err(stop),
     };
-    match entail_text(
-        alloc,
-        bytes.as_slice(),
-        judgement.as_bytes(),
-        lattice.names(),
-    ) {
+    match entail_text(alloc, bytes.as_slice(), judgement.as_bytes(), &lattice) {
         Ok(text) => Ok(text),
         Err(why) => Err(stop_of(why)),
     }

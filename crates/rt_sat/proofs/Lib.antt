@@ -2,3 +2,14 @@ pub mod Binary
 pub mod Deciding
 pub mod Searching
 pub mod Indices
+pub mod Numbered
+pub mod Pushed
+pub mod Closed
+pub mod Children
+pub mod Growing
+pub mod Closings
+pub mod Entered
+pub mod Frames
+pub mod Sources
+pub mod Below
+pub mod Bounded

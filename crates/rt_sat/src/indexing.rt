@@ -7,21 +7,20 @@ use rt_base::{Memory, Sequence};
 use std::alloc::Global;
 
 // For each variable the indices of the edges that leave it.
-pub(crate) fn indexed(alloc: Global, edges: &[Edge]) -> Result<Vec<Sequence<u32>>, Memory>
-    requires { length edges.now ≤ 4294967296 }
+pub(crate) fn indexed(alloc: Global, edges: &[Edge]) -> Result<Vec<Sequence<usize>>, Memory>
     ensures { IfOk result (λ out. IsIndexed edges.now out.items) }
 {
     let mut out = Vec::new(alloc);
     for i in 0..edges.len() {
         let variable = edges[i].from.variable as usize;
         widen(alloc, &mut out, variable)?;
-        out[variable].push(i as u32)?;
+        out[variable].push(i)?;
     }
     Ok(out)
 }
 
 // Makes room for a variable's indices.
-fn widen(alloc: Global, out: &mut Vec<Sequence<u32>>, variable: usize) -> Result<(), Memory>
+fn widen(alloc: Global, out: &mut Vec<Sequence<usize>>, variable: usize) -> Result<(), Memory>
     ensures room { OnOk result (variable < length out.new.items) }
     ensures same { OnOk result ((v : ℕ) → slice_index_or out.new.items v [] ≡ slice_index_or out.old.items v []) }
 {

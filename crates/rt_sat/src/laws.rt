@@ -1,8 +1,32 @@
 //! The laws of saturation: functions that do nothing, each for the law that it ensures.
+ghost use Rattle.rt_sat.specs.Closings.{ClosingLaw};
 ghost use Rattle.rt_sat.specs.Deciding.{DecidingLaw};
+ghost use Rattle.rt_sat.specs.Numbered.{NumberedLaw};
+ghost use Rattle.rt_sat.specs.Tables.{BelowLaw, FrameLaw};
 
 /// The variables that lines and a question name, and what their shape says can be read and written through, are enough to
 /// decide which variable lies below which by counted judgements.
 pub fn deciding()
     ensures { DecidingLaw }
+{}
+
+/// Ways along edges between numbers of distinct variables are the ways along the edges between the variables.
+pub fn numbered()
+    ensures { NumberedLaw }
+{}
+
+/// The edges of subtype lines, with all that is pushed from ways along edges, are a table of the lines.
+pub fn closing()
+    ensures { ClosingLaw }
+{}
+
+/// What lines name, with what their shape says can be read and written through, is what pushes ask for.
+pub fn frames()
+    ensures { FrameLaw }
+{}
+
+/// In a table of lines a way of count nought leads from one variable to another exactly if the lines derive that the first
+/// is a subtype of the second.
+pub fn below()
+    ensures { BelowLaw }
 {}

@@ -1,13 +1,21 @@
-//! Parts of exact saturation (PLDI 2016, section 5 and appendix D): counts of how far a common rest has to go through
-//! pointers, with the halving of a push, and the least counts of ways along edges. The table of all edges is still to come.
+//! Exact saturation (PLDI 2016, section 5 and appendix D), which decides each judgement. Edges with counts of how far a
+//! common rest has to go through pointers are closed under pushes, with the halving of a push through a pointer; what lies
+//! below what is then a least count of nought.
 #![tactic(auto)]
 
+mod closing;
 mod count;
 mod digits;
+mod entering;
 mod indexing;
+mod judging;
 pub mod laws;
+mod nodes;
+mod pushing;
 mod search;
 mod state;
+mod table;
 
 pub use count::Count;
+pub use judging::derives;
 pub use state::{Edge, State};

@@ -17,7 +17,7 @@ const ROUNDS: u64 = 0xff_ffff_ffff;
 pub(crate) fn search(
     alloc: Global,
     edges: &[Edge],
-    out: &[Sequence<u32>],
+    out: &[Sequence<usize>],
     start: State,
 ) -> Result<IndexMap<State, Count>, Memory>
     requires { IsIndexed edges.now out.now }
@@ -40,7 +40,7 @@ pub(crate) fn search(
 fn round(
     alloc: Global,
     edges: &[Edge],
-    out: &[Sequence<u32>],
+    out: &[Sequence<usize>],
     found: &mut IndexMap<State, Count>,
     active: &[State],
 ) -> Result<Vec<State>, Memory>
@@ -60,7 +60,7 @@ fn round(
 fn visit(
     alloc: Global,
     edges: &[Edge],
-    out: &[Sequence<u32>],
+    out: &[Sequence<usize>],
     found: &mut IndexMap<State, Count>,
     next: &mut Vec<State>,
     state: State,
@@ -86,7 +86,7 @@ fn visit(
 }
 
 // The indices of the edges that leave a variable.
-fn leaving(out: &[Sequence<u32>], variable: u32) -> &[u32]
+fn leaving(out: &[Sequence<usize>], variable: u32) -> &[usize]
     ensures { result.now ≡ slice_index_or out.now variable [] }
 {
     match out.get(variable as usize) {
@@ -99,7 +99,7 @@ fn leaving(out: &[Sequence<u32>], variable: u32) -> &[u32]
 fn follow(
     alloc: Global,
     edges: &[Edge],
-    leaving: &[u32],
+    leaving: &[usize],
     found: &mut IndexMap<State, Count>,
     next: &mut Vec<State>,
     state: State,
@@ -109,7 +109,7 @@ fn follow(
     ensures { OnOk result (IsFollowed edges.now leaving.now found.old.entries found.new.entries next.old.items next.new.items state count.now (length leaving.now)) }
 {
     for index in leaving {
-        let edge = &edges[*index as usize];
+        let edge = &edges[*index];
         if edge.from != state {
             continue;
         }

@@ -7,7 +7,7 @@ ghost use Rattle.rt_settle.specs.Groups.{AreSchemesFrom, AreSchemesOf, IsSchemeF
 
 use crate::scheme::settle;
 use rt_base::{Memory, Sequence};
-use rt_lines::{Line, Lines};
+use rt_lines::{Line, Lines, Order};
 use rt_scheme::{Scheme, is_scheme_line, split};
 use std::alloc::Global;
 
@@ -85,11 +85,18 @@ fn schemes_for(alloc: Global, members: &[u32], settled: &Lines) -> Result<GroupS
 /// all lists tell, with no constant and no global more.
 ///
 /// The lines of all lists are settled, first for the outside of all members at once, then once for each member, where an
-/// existential stands for each argument and result of the others. The error is out of memory.
-pub fn solve_group(alloc: Global, members: &[u32], lists: &Lists) -> Result<GroupSchemes, Memory>
+/// existential stands for each argument and result of the others. The constants are in an order, and the schemes tell the
+/// same under it and under each other one: none of it is used. The error is out of memory.
+pub fn solve_group(
+    alloc: Global,
+    members: &[u32],
+    lists: &Lists,
+    order: &Order,
+) -> Result<GroupSchemes, Memory>
     requires { AreInterfaceLines (joined lists.now) }
     ensures { IfOk result (AreSchemesOf members.now (joined lists.now)) }
 {
+    let _ = order;
     let all = join(alloc, lists.items())?;
     let settled = settle(alloc, all)?;
     schemes_for(alloc, members, &settled)

@@ -1,5 +1,5 @@
 -- Lines with a constant.
-use Rattle.std.proofs.Common.{◌≡◌, ◌≢◌, ℕ, zero, suc, ◌↔◌, ◌⊎◌, inl, inr, Bool, true, false, ◌&&◌, IsTrue, Option, Some, None, MatchOption, Bor, List, [], ◌∷◌, ◌++◌, Contains, length, codes, refl, sym, ap, subst, ◌∙◌, arith}
+use Rattle.std.proofs.Common.{◌≡◌, ◌≢◌, ℕ, zero, suc, ◌↔◌, ◌⊎◌, inl, inr, Bool, false, ◌&&◌, IsTrue, Option, Some, None, MatchOption, Bor, List, [], ◌∷◌, ◌++◌, Contains, length, codes, sym, ap, subst, ◌∙◌, arith}
 use Rattle.std.proofs.lemmas.List.Elements.{All-cons}
 use Rattle.std.proofs.lemmas.Bool.{and_parts, and_from}
 use Rattle.rt_lines.specs.declared.line.Line.{Line}
@@ -19,10 +19,10 @@ one_name name spelled =
     record { spelled = All-cons IsName name [] spelled (λ k d h. absurd (omega arith)); distinct = λ i j d less within. absurd (omega arith); few = omega arith }
 
 -- the text is cut at its first space before the name or after the sign
-abbrev IsNamedBy : List ℕ → List ℕ → List ℕ → Type 0
+abbrev pub IsNamedBy : List ℕ → List ℕ → List ℕ → Type 0
 IsNamedBy name front back = (front ≡ 35 ∷ name) ⊎ (((r : List ℕ) → front ≢ 35 ∷ r) × (back ≡ codes " <= #" ++ name))
 
-named_by : (name text front back : List ℕ) (line : Line) → IsCut 32 text front back → IsLineWith name text line → IsNamedBy name front back
+pub named_by : (name text front back : List ℕ) (line : Line) → IsCut 32 text front back → IsLineWith name text line → IsNamedBy name front back
 named_by name text front back (Var x) cut h = let no = h.constant in cc
 named_by name text front back (Same x y) cut h = let no = h.constant in cc
 named_by name text front back (Sub x y) cut h = let no = h.constant in cc

@@ -1,5 +1,5 @@
 -- What is wrong with a text that is that of no signatures: its first faulty line.
-use Rattle.std.specs.Prelude.{◌≡◌, ◌≢◌, ℕ, ◌+◌, ◌<◌, ◌≤◌, ◌⊎◌, Bool, true, false, IsTrue, List, [], ◌∷◌, ◌++◌, All, Contains, codes, length}
+use Rattle.std.specs.Prelude.{◌≡◌, ◌≢◌, ℕ, ◌+◌, ◌<◌, ◌≤◌, ◌⊎◌, Bool, true, false, IsTrue, Option, Some, None, IfSome, List, [], ◌∷◌, ◌++◌, All, Contains, codes, length}
 use Rattle.rt_lines.specs.declared.line.Line.{Line}
 use Rattle.rt_lines.specs.declared.line.Line.TheVariants.{Var, Same, Sub, Low, Up}
 use Rattle.rt_lines.specs.Names.{IsName}
@@ -8,9 +8,11 @@ use Rattle.rt_texts.specs.Readings.{IsNoText, HasNo, IsCut}
 use Rattle.rt_texts.specs.Texts.{line_text, lines_text}
 use Rattle.rt_scheme.specs.NameReadings.{AreBytes}
 use Rattle.rt_sigs.specs.declared.fault.SigFault.{SigFault}
-use Rattle.rt_sigs.specs.declared.fault.SigFault.TheVariants.{BadLine, UnknownConst, Twice, TooLarge, Memory}
-use Rattle.rt_sigs.specs.Signatures.{Signature, is_signature_line, IsSignatureLine, AreSignatures, HasNamed}
-use Rattle.rt_sigs.specs.SignatureTexts.{heading_text, file_text, line_count}
+use Rattle.rt_sigs.specs.declared.fault.SigFault.TheVariants.{BadLine, UnknownConst, Args, Twice, TooLarge, Memory}
+use Rattle.rt_sigs.specs.declared.version.Version.{Version}
+use Rattle.rt_sigs.specs.declared.version.Version.TheVariants.{First, Second}
+use Rattle.rt_sigs.specs.Signatures.{Signature, is_signature_line, IsSignatureLine, is_within, most_args, AreSignatures, HasNamed}
+use Rattle.rt_sigs.specs.SignatureTexts.{heading_text, returns_text, count_text, remarks_text, file_text, AreSayable, IsSayable, IsOfVersion, remark_count, line_count, first_number}
 
 -- the line has a constant
 abbrev pub has_constant : Line → Bool
@@ -40,37 +42,69 @@ pub record IsFirstLine (text line : List ℕ) : Type 0 where
   pub more : List ℕ
   pub cut : IsCut 10 text line (10 ∷ more)
 
+-- a text begins with a line that says how many registers are taken
+abbrev pub HasCount : List ℕ → Type 0
+HasCount text = (n : ℕ) × (rest : List ℕ) × (n ≤ most_args) × (text ≡ count_text n ++ rest)
+
+-- In the second version the text begins with a line that may say more of the function, where this has been said of it so far.
+abbrev pub HasRemark : Version → Bool → Option ℕ → List ℕ → Type 0
+HasRemark First returns args text = ⊥
+HasRemark Second returns (Some count) text = ⊥
+HasRemark Second true None text = ((rest : List ℕ) × (text ≡ returns_text false ++ rest)) ⊎ HasCount text
+HasRemark Second false None text = HasCount text
+
 -- the line is neither one of a signature, nor `end`, nor only for its constant no such line
 pub record IsBadInside (names : List (List ℕ)) (line : List ℕ) : Type 0 where
   pub no_end : codes "end" ≢ line
   pub no_line : IsNoText (IsSignatureLine (length names)) (line_text names) line
   pub known : IsUnknown names line → ⊥
 
--- Whole signatures stand before the rest of the text, which begins with the line of this number, from 1.
-pub record IsBetween (names : List (List ℕ)) (text : List ℕ) (signatures : List Signature) (rest : List ℕ) (number : ℕ) : Type 0 where
-  pub good : AreSignatures (length names) signatures
-  pub joined : file_text names signatures ++ rest ≡ text
-  pub counted : line_count signatures + 1 ≡ number
+-- the line is one of a signature, but names an argument that the function doesn't take
+pub record IsPastArgs (names : List (List ℕ)) (args : Option ℕ) (text : List ℕ) : Type 0 where
+  pub line : Line
+  pub good : IsSignatureLine (length names) line
+  pub is : line_text names line ≡ text
+  pub past : is_within args line ≡ false
 
--- Whole signatures, the first line of one with another name and lines of it stand before the rest of the text, which begins
--- with the line of this number.
+-- Whole signatures stand before the rest of the text, which begins with the line of this number, from 1.
+pub record IsBetween (version : Version) (names : List (List ℕ)) (text : List ℕ) (signatures : List Signature) (rest : List ℕ) (number : ℕ)
+    : Type 0 where
+  pub chosen : IsOfVersion version text
+  pub good : AreSignatures (length names) signatures
+  pub sayable : AreSayable version signatures
+  pub joined : file_text version names signatures ++ rest ≡ text
+  pub counted : first_number version + line_count signatures ≡ number
+
+-- Whole signatures, the first line of one with another name, what is said of its function and lines of it stand before the rest
+-- of the text, which begins with the line of this number. Where no line of it stands there, no more is said of the function.
 pub record IsInside (names : List (List ℕ)) (text rest : List ℕ) (number : ℕ) : Type 0 where
+  pub version : Version
   pub signatures : List Signature
   pub name : List ℕ
+  pub returns : Bool
+  pub args : Option ℕ
   pub lines : List Line
+  pub chosen : IsOfVersion version text
   pub good : AreSignatures (length names) signatures
+  pub sayable : AreSayable version signatures
   pub bytes : AreBytes name
   pub new : HasNamed signatures name → ⊥
+  pub said : IsSayable version returns args
+  pub few : IfSome args (λ (n : ℕ). n ≤ most_args)
   pub each : All (IsSignatureLine (length names)) lines
-  pub joined : file_text names signatures ++ (heading_text name ++ 10 ∷ (lines_text names lines ++ rest)) ≡ text
-  pub counted : line_count signatures + (length lines + 2) ≡ number
+  pub within : All (λ line. IsTrue (is_within args line)) lines
+  pub no_more : lines ≡ [] → HasRemark version returns args rest → ⊥
+  pub joined :
+      file_text version names signatures ++ (heading_text name ++ 10 ∷ (remarks_text returns args ++ (lines_text names lines ++ rest))) ≡ text
+  pub counted : first_number version + line_count signatures + (remark_count returns args + length lines + 1) ≡ number
 
 -- The line of this number is the first that is not of the grammar in its place. After a whole signature it is no `sig` line, or
 -- there is a last line with no line end; within a signature it is bad, or there is no line end, so that the text ends.
 pub record IsBadBetween (names : List (List ℕ)) (text : List ℕ) (number : ℕ) : Type 0 where
+  pub version : Version
   pub signatures : List Signature
   pub rest : List ℕ
-  pub at : IsBetween names text signatures rest number
+  pub at : IsBetween version names text signatures rest number
   pub bad : ((rest ≢ []) × HasNo 10 rest) ⊎ ((line : List ℕ) × IsFirstLine rest line × IsNoText AreBytes heading_text line)
 
 pub record IsBadWithin (names : List (List ℕ)) (text : List ℕ) (number : ℕ) : Type 0 where
@@ -86,11 +120,20 @@ pub record HasUnknown (names : List (List ℕ)) (text : List ℕ) (number : ℕ)
   pub first : IsFirstLine rest line
   pub unknown : IsUnknown names line
 
+-- the line of this number is the first that is faulty, one that names an argument that its function doesn't take
+pub record HasPastArgs (names : List (List ℕ)) (text : List ℕ) (number : ℕ) : Type 0 where
+  pub rest : List ℕ
+  pub at : IsInside names text rest number
+  pub line : List ℕ
+  pub first : IsFirstLine rest line
+  pub past : IsPastArgs names at.args line
+
 -- the line of this number is the first that is faulty, a `sig` line with the name of a signature before it
 pub record IsTwice (names : List (List ℕ)) (text : List ℕ) (number : ℕ) : Type 0 where
+  pub version : Version
   pub signatures : List Signature
   pub rest : List ℕ
-  pub at : IsBetween names text signatures rest number
+  pub at : IsBetween version names text signatures rest number
   pub name : List ℕ
   pub bytes : AreBytes name
   pub first : IsFirstLine rest (heading_text name)
@@ -104,6 +147,7 @@ most_bytes = 1048576
 abbrev pub IsFault : List (List ℕ) → List ℕ → SigFault → Type 0
 IsFault names text (BadLine number) = (length text ≤ most_bytes) × (IsBadBetween names text number ⊎ IsBadWithin names text number)
 IsFault names text (UnknownConst number) = (length text ≤ most_bytes) × HasUnknown names text number
+IsFault names text (Args number) = (length text ≤ most_bytes) × HasPastArgs names text number
 IsFault names text (Twice number) = (length text ≤ most_bytes) × IsTwice names text number
 IsFault names text TooLarge = most_bytes < length text
 IsFault names text Memory = Unit {0}

@@ -2,3 +2,4 @@ pub mod Signatures
 pub mod SignatureTexts
 pub mod Faults
 pub mod Readings
+pub mod Laws

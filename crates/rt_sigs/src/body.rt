@@ -1,4 +1,4 @@
-// The lines of a signature after its first one.
+// The lines of a signature after what it says of its function.
 ghost use Rattle.std.specs.Prelude.{◌+◌, ◌<◌, ◌^◌, MatchResult, length};
 ghost use Rattle.rt_sigs.specs.Readings.{IsBody, IsBodyFault};
 
@@ -16,15 +16,16 @@ pub struct Body<'a> {
     pub number: u32,
 }
 
-// Reads the lines of a signature and its end. The first of them has the number.
+// Reads the lines of a signature, which says so much of the arguments, and its end. The first of them has the number.
 pub fn read_body<'a>(
     alloc: Global,
     text: &'a [u8],
     names: &Names,
+    args: Option<u8>,
     first: u32,
 ) -> Result<Body<'a>, SigFault>
     requires { first + length text.now < 2 ^ 32 }
-    ensures { MatchResult result (IsBody names.now text.now first) (IsBodyFault names.now text.now first) }
+    ensures { MatchResult result (IsBody names.now args text.now first) (IsBodyFault names.now args text.now first) }
 {
     let mut scheme = Scheme::empty(alloc, 0);
     let mut rest = text;
@@ -37,7 +38,7 @@ pub fn read_body<'a>(
                 number: number + 1,
             });
         }
-        let line = match read_signature_line(alloc, line, names, number) {
+        let line = match read_signature_line(alloc, line, names, args, number) {
             Ok(line) => line,
             Err(fault) => return Err(fault),
         };

@@ -12,6 +12,9 @@ pub enum SigFault {
     BadLine(u32),
     /// The line is of the grammar but for its constant, which is spelled as a name and is none of the names.
     UnknownConst(u32),
+    /// The line is of the grammar with known constants, but names an argument of the function past those that the signature
+    /// says it takes: the register of a number that isn't below the count, or a word of the stack where the count isn't 8.
+    Args(u32),
     /// The line begins a signature with the name of an earlier one.
     Twice(u32),
     /// The file has more than 1,048,576 bytes.

@@ -2,12 +2,12 @@
 ghost use Rattle.std.specs.Prelude.{◌≡◌, ◌≢◌, ◌∷◌, ◌++◌, List, ℕ, MatchOption, MatchResult, length};
 ghost use Rattle.rt_texts.specs.Readings.{HasNo, IsCut, IsNoText};
 ghost use Rattle.rt_texts.specs.Texts.{line_text};
-ghost use Rattle.rt_sigs.specs.Signatures.{IsSignatureLine, is_no_global, is_signature_line, names_no_global};
-ghost use Rattle.rt_sigs.specs.Readings.{IsLineFault};
+ghost use Rattle.rt_sigs.specs.Signatures.{IsSignatureLine, begins_within, is_line_within, is_no_global, is_signature_line, is_taken, is_variable_within, is_within, names_no_global};
+ghost use Rattle.rt_sigs.specs.Readings.{IsLineFault, IsRightLine};
 
 use crate::fault::SigFault;
 use crate::unknown::is_unknown;
-use rt_lines::{Base, Line, Names};
+use rt_lines::{Base, Dtv, Label, Line, Loc, Names, Word};
 use rt_scheme::is_scheme_line;
 use rt_texts::{TextFault, read_line, split_before};
 use std::alloc::Global;
@@ -30,33 +30,36 @@ pub fn after_front<'a>(text: &'a [u8], front: &[u8]) -> Option<&'a [u8]>
     text.strip_prefix(front)
 }
 
-// Reads the line of this number, one of a signature.
+// Reads the line of this number, one of a signature that says so much of the arguments.
 pub fn read_signature_line(
     alloc: Global,
     text: &[u8],
     names: &Names,
+    args: Option<u8>,
     number: u32,
 ) -> Result<Line, SigFault>
-    ensures { MatchResult result (λ line. IsSignatureLine (length names.now) line × (line_text names.now line ≡ text.now))
-        (IsLineFault names.now text.now number) }
+    ensures { MatchResult result (IsRightLine names.now args text.now) (IsLineFault names.now args text.now number) }
 {
     let _names = names.items();
     match read_line(alloc, text, names) {
         Ok(line) => {
-            if is_signature_line(&line) {
-                return Ok(line);
+            if !is_signature_line(&line) {
+                return Err(fault_of(alloc, text, names, args, number));
             }
-            Err(fault_of(alloc, text, names, number))
+            if !is_within(args, &line) {
+                return Err(SigFault::Args(number));
+            }
+            Ok(line)
         }
-        Err(TextFault::BadText(_)) => Err(fault_of(alloc, text, names, number)),
+        Err(TextFault::BadText(_)) => Err(fault_of(alloc, text, names, args, number)),
         Err(TextFault::Memory) => Err(SigFault::Memory),
     }
 }
 
 // Why a text is that of no line of a signature.
-fn fault_of(alloc: Global, text: &[u8], names: &Names, number: u32) -> SigFault
+fn fault_of(alloc: Global, text: &[u8], names: &Names, args: Option<u8>, number: u32) -> SigFault
     requires { IsNoText (IsSignatureLine (length names.now)) (line_text names.now) text.now }
-    ensures { IsLineFault names.now text.now number result }
+    ensures { IsLineFault names.now args text.now number result }
 {
     match is_unknown(alloc, text, names) {
         Ok(true) => SigFault::UnknownConst(number),
@@ -85,4 +88,54 @@ pub fn is_signature_line(line: &Line) -> bool
     ensures { result ≡ is_signature_line line.now }
 {
     is_scheme_line(0, line) && names_no_global(line)
+}
+
+// Whether the argument is one of a function that takes so many registers.
+fn is_taken(count: u8, loc: Loc) -> bool
+    ensures { result ≡ is_taken count loc }
+{
+    match loc {
+        Loc::Arg(k) => k < count,
+        Loc::Stack(_) => count == 8,
+    }
+}
+
+// Whether a word of such a function begins with no other argument.
+fn begins_within(count: u8, word: &Word) -> bool
+    ensures { result ≡ begins_within count word.now }
+{
+    match word.items() {
+        [Label::In(loc), ..] => is_taken(count, *loc),
+        _ => true,
+    }
+}
+
+fn is_variable_within(count: u8, x: &Dtv) -> bool
+    ensures { result ≡ is_variable_within count x.now }
+{
+    match x.base {
+        Base::Proc(_) => begins_within(count, &x.word),
+        Base::Global(_) | Base::Exist(_) | Base::Outer(_) => true,
+    }
+}
+
+fn is_line_within(count: u8, line: &Line) -> bool
+    ensures { result ≡ is_line_within count line.now }
+{
+    match line {
+        Line::Var(x) | Line::Low(_, x) | Line::Up(x, _) => is_variable_within(count, x),
+        Line::Same(x, y) | Line::Sub(x, y) => {
+            is_variable_within(count, x) && is_variable_within(count, y)
+        }
+    }
+}
+
+// Whether the line names no argument of the function but those that it takes, where their count is said.
+pub fn is_within(args: Option<u8>, line: &Line) -> bool
+    ensures { result ≡ is_within args line.now }
+{
+    match args {
+        Some(count) => is_line_within(count, line),
+        None => true,
+    }
 }

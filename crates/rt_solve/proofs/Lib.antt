@@ -2,3 +2,4 @@ mod Gathering
 mod Linking
 mod Setting
 mod Solving
+mod Uniqueness

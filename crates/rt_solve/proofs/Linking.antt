@@ -80,11 +80,11 @@ module _ (program : Program) (known : List Knowledge) (group : List ℕ) (first 
   no_member q e (k, lt, f) = both_ways (is_member group q) e (any_member q group k lt f)
 
   abbrev chosen : ℕ → List (Option Scheme) → Bool → Target
-  chosen q schemes t = cond t (Member q (words_at known q)) (scheme_target (get_or schemes q None))
+  chosen q schemes t = cond t (Member q (words_at known q)) (scheme_target None (get_or schemes q None))
 
   by_member : (q : ℕ) → IsSame (callee.Proc q) → (t : Bool) → is_member group q ≡ t → chosen q first (is_member group q) ≡ chosen q second (is_member group q)
   by_member q same true e = (λ i. chosen q first (e i)) ∙ sym (λ i. chosen q second (e i))
-  by_member q same false e = (λ i. chosen q first (e i)) ∙ ap scheme_target (same q refl (no_member q e)) ∙ sym (λ i. chosen q second (e i))
+  by_member q same false e = (λ i. chosen q first (e i)) ∙ ap (scheme_target None) (same q refl (no_member q e)) ∙ sym (λ i. chosen q second (e i))
 
   target_same : (c : Callee) (is_plain : Bool) → IsSame c → target_by program known first group c is_plain ≡ target_by program known second group c is_plain
   target_same (callee.Proc q) is_plain same = by_member q same (is_member group q) refl

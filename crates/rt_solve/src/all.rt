@@ -45,7 +45,7 @@ fn solve_next(
     ensures given { OnOk result (AreGiven facts.now.object.now (size_of lattice.now) schemes.new) }
 {
     let bodies = lines_of(alloc, facts, group, schemes, sigs, lattice)?;
-    let found = solve_group(alloc, group, &bodies)?;
+    let found = solve_group(alloc, group, &bodies, lattice.order())?;
     set_schemes(schemes, found);
     Ok(())
 }

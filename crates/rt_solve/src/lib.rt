@@ -2,6 +2,7 @@
 #![tactic(auto)]
 
 mod all;
+pub mod laws;
 
 pub use all::solve_all;
-pub use rt_settle::{GroupSchemes, Lists, laws, settle, solve_group};
+pub use rt_settle::{GroupSchemes, Lists, settle, solve_group};

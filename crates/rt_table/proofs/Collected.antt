@@ -29,7 +29,7 @@ use Rattle.rt_table.specs.Table.{Linked, Member, Target}
 
 module _ (program : Program) (known : List Knowledge) (schemes : List (Option scheme.Scheme)) (keys group : List ℕ) (same : (q : ℕ) → is_member keys q ≡ is_member group q) where
   same_target : (c : Callee) (b : Bool) → target_by program known schemes keys c b ≡ target_by program known schemes group c b
-  same_target (callee.Proc q) b = ap (λ m. cond m (Member q (words_at known q)) (scheme_target (slice_index_or schemes q None))) (same q)
+  same_target (callee.Proc q) b = ap (λ m. cond m (Member q (words_at known q)) (scheme_target None (slice_index_or schemes q None))) (same q)
   same_target (callee.Extern symbol) b = refl
   same_target (callee.Unknown register) b = refl
 

@@ -199,4 +199,4 @@ module _ (object : Object) (proc : Proc) (reading : Reading) (is : IsReading obj
   pub reading-defs : (site r : ℕ) → site < length reading.actions → r < 32 → All (λ d. HasGlobal (λ g. g < length object.symbols) (def_value reading r d)) (reading.reaching site r)
   reading-defs site r i j k d less =
       let x = get_or (reading.reaching site r) k d in
-      def_good site r x (((is.reaching site r i j).reaching x).0 (Contains-get_or (reading.reaching site r) k d less))
+      def_good site r x (((is.reaching site r i).reaching x).0 (Contains-get_or (reading.reaching site r) k d less))

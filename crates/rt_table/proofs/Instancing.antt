@@ -36,7 +36,7 @@ IsGoodLine G C (line.Up x k) = IsGoodBase G x.base × C k
 
 -- so do those of a scheme
 abbrev pub IsGoodTarget : (ℕ → Type 0) → (ℕ → Type 0) → Target → Type 0
-IsGoodTarget G C (Scheme own lines) = AreSchemeLines own lines × All (IsGoodLine G C) lines
+IsGoodTarget G C (Scheme own lines covered) = AreSchemeLines own lines × All (IsGoodLine G C) lines
 IsGoodTarget G C other = Unit {0}
 
 both_left : (b c : Bool) → IsTrue (b && c) → IsTrue b
@@ -83,7 +83,7 @@ module _ (context : Context) (G : ℕ → Type 0) (C : ℕ → Type 0) where
 
   -- the rows of the instance of a target's scheme
   instance_good : (site i : ℕ) (target : Target) → IsGoodTarget G C target → All (IsGood context G C) (scheme_rows context site i target)
-  instance_good site i (Scheme own lines) h =
+  instance_good site i (Scheme own lines covered) h =
       All-map (IsGood context G C) (new_row context site i (instance_ports own lines 0)) (instance_lines own lines 0)
       (All-map (λ l. IsGood context G C (new_row context site i (instance_ports own lines 0) l)) (map_line (instanced own 0 (origins own lines))) lines
       (λ k d less. row_good site i own (instance_ports own lines 0) (origins own lines) (get_or lines k d) (h.0 k d less) (h.1 k d less)))

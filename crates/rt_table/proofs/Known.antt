@@ -27,7 +27,7 @@ use Rattle.rt_body.specs.Registers.{HasRegisters}
 use Rattle.rt_body.specs.Right.{IsReading}
 use Rattle.rt_liveness.specs.declared.call.Call.{Call}
 use Rattle.rt_liveness.specs.Calls.{HasCallRegister, HasCalleeRegister}
-use Rattle.rt_liveness.specs.Programs.{Program, signature_at}
+use Rattle.rt_liveness.specs.Programs.{Program, args_at, signature_at}
 use Rattle.rt_scheme.specs.declared.scheme.Scheme as scheme
 use Rattle.rt_scheme.specs.Schemes.{is_scheme_line}
 use Rattle.rt_sigs.specs.Signatures.{AreSignatures, IsSignature, IsSignatureLine, Signature, is_no_global, names_no_global, signature_of}
@@ -72,16 +72,16 @@ module _ (P : Target → Type 0) (unknown : P Unknown) (link : Call → Linked) 
   targets-of (here ∷ calls) h zero i = target_in_calls here (All-head (All (λ call. P (link call).target)) here calls h) i
   targets-of (here ∷ calls) h (suc site) i = targets-of calls (All-tail (All (λ call. P (link call).target)) here calls h) site i
 
-scheme_held : (o : Option scheme.Scheme) → HasHeldRegister (scheme_target o)
-scheme_held None = tt
-scheme_held (Some s) = tt
+scheme_held : (covered : Option ℕ) (o : Option scheme.Scheme) → HasHeldRegister (scheme_target covered o)
+scheme_held covered None = tt
+scheme_held covered (Some s) = tt
 
 module _ (program : Program) (known : List Knowledge) (schemes : List (Option scheme.Scheme)) (group : List ℕ) where
   target_held : (c : Callee) (b : Bool) → HasCalleeRegister c → HasHeldRegister (target_by program known schemes group c b)
   target_held (callee.Proc q) b h =
-      elim (is_member group q) as (λ m. HasHeldRegister (cond m (Member q (words_at known q)) (scheme_target (slice_index_or schemes q None))))
-      [ true ↦ tt | false ↦ scheme_held (slice_index_or schemes q None) ]
-  target_held (callee.Extern symbol) b h = scheme_held (signature_at program symbol)
+      elim (is_member group q) as (λ m. HasHeldRegister (cond m (Member q (words_at known q)) (scheme_target None (slice_index_or schemes q None))))
+      [ true ↦ tt | false ↦ scheme_held None (slice_index_or schemes q None) ]
+  target_held (callee.Extern symbol) b h = scheme_held (args_at program symbol) (signature_at program symbol)
   target_held (callee.Unknown register) true h = h
   target_held (callee.Unknown register) false h = tt
 
@@ -97,15 +97,16 @@ module _ (program : Program) (known : List Knowledge) (schemes : List (Option sc
 
   module _ (G : ℕ → Type 0) (C : ℕ → Type 0) (given : (q : ℕ) (s : scheme.Scheme) → slice_index_or schemes q None ≡ Some s → All (IsGoodLine G C) s.lines)
       (signed : (symbol : ℕ) (s : scheme.Scheme) → signature_at program symbol ≡ Some s → All (IsGoodLine G C) s.lines) where
-    scheme_good : (o : Option scheme.Scheme) → ((s : scheme.Scheme) → o ≡ Some s → All (IsGoodLine G C) s.lines) → IsGoodTarget G C (scheme_target o)
-    scheme_good None h = tt
-    scheme_good (Some s) h = (s.bases, h s refl)
+    scheme_good : (covered : Option ℕ) (o : Option scheme.Scheme) → ((s : scheme.Scheme) → o ≡ Some s → All (IsGoodLine G C) s.lines)
+        → IsGoodTarget G C (scheme_target covered o)
+    scheme_good covered None h = tt
+    scheme_good covered (Some s) h = (s.bases, h s refl)
 
     target_good : (c : Callee) (b : Bool) → IsGoodTarget G C (target_by program known schemes group c b)
     target_good (callee.Proc q) b =
-        elim (is_member group q) as (λ m. IsGoodTarget G C (cond m (Member q (words_at known q)) (scheme_target (slice_index_or schemes q None))))
-        [ true ↦ tt | false ↦ scheme_good (slice_index_or schemes q None) (given q) ]
-    target_good (callee.Extern symbol) b = scheme_good (signature_at program symbol) (signed symbol)
+        elim (is_member group q) as (λ m. IsGoodTarget G C (cond m (Member q (words_at known q)) (scheme_target None (slice_index_or schemes q None))))
+        [ true ↦ tt | false ↦ scheme_good None (slice_index_or schemes q None) (given q) ]
+    target_good (callee.Extern symbol) b = scheme_good (args_at program symbol) (signature_at program symbol) (signed symbol)
     target_good (callee.Unknown register) true = tt
     target_good (callee.Unknown register) false = tt
 
@@ -173,22 +174,23 @@ given_lines object count s h k d less =
     let l = get_or s.lines k d in
     line_below (length object.symbols) count l (h.constants k d less) (λ x g side e. h.globals g (l, x, Contains-get_or s.lines k d less, side, e))
 
--- a signature that is found is one of them
-signed_of : (P : Signature → Type 0) (signatures : List Signature) (name : List ℕ) (s : scheme.Scheme) → All P signatures → signature_of signatures name ≡ Some s
-    → (other : List ℕ) × P (other, s)
+-- the scheme of a signature that is found is that of one of them
+signed_of : (P : scheme.Scheme → Type 0) (signatures : List Signature) (name : List ℕ) (s : scheme.Scheme) → All (λ (signature : Signature). P signature.1.scheme) signatures
+    → signature_of signatures name ≡ Some s → P s
 signed_of P [] name s h e = cc
 signed_of P ((other, t) ∷ signatures) name s h e =
-    elim (pointwise nat_eq other name) as (λ b. cond b (Some t) (signature_of signatures name) ≡ Some s → (o : List ℕ) × P (o, s)) [
-      | true ↦ λ (same : Some t ≡ Some s). (let is : t ≡ s = cc in (other, subst (λ u. P (other, u)) is (All-head P (other, t) signatures h)))
-      | false ↦ λ (later : signature_of signatures name ≡ Some s). signed_of P signatures name s (All-tail P (other, t) signatures h) later
+    elim (pointwise nat_eq other name) as (λ b. cond b (Some t.scheme) (signature_of signatures name) ≡ Some s → P s) [
+      | true ↦ λ (same : Some t.scheme ≡ Some s). (let is : t.scheme ≡ s = cc in subst P is (All-head (λ (signature : Signature). P signature.1.scheme) (other, t) signatures h))
+      | false ↦ λ (later : signature_of signatures name ≡ Some s).
+          signed_of P signatures name s (All-tail (λ (signature : Signature). P signature.1.scheme) (other, t) signatures h) later
     ]
     e
 
 signed_lines : (n count : ℕ) (signatures : List Signature) (name : List ℕ) (s : scheme.Scheme) → AreSignatures count signatures → signature_of signatures name ≡ Some s
     → All (IsBelow n count) s.lines
 signed_lines n count signatures name s are e k d less =
-    let found = signed_of (IsSignature count) signatures name s are.each e in
-    signature_below n count (get_or s.lines k d) (found.1.good k d less)
+    let good = signed_of (λ (t : scheme.Scheme). All (IsSignatureLine count) t.lines) signatures name s (λ i x within. (are.each i x within).good) e in
+    signature_below n count (get_or s.lines k d) (good k d less)
 
 -- Rows.
 

@@ -1,5 +1,5 @@
 -- Labels of the arguments in registers that callees take.
-use Rattle.std.proofs.Common.{◌≡◌, ◌+◌, ◌-◌, ◌<◌, ◌≤◌, ℕ, zero, suc, Bool, true, false, cond, List, [], ◌∷◌, ◌++◌, length, get_or, take, map, filter, refl, sym, ap, subst, ◌∙◌, add-one, arith}
+use Rattle.std.proofs.Common.{◌≡◌, ◌+◌, ◌-◌, ◌<◌, ◌≤◌, ℕ, zero, suc, Bool, true, false, cond, ◌||◌, Option, List, [], ◌∷◌, ◌++◌, length, get_or, take, map, filter, refl, sym, ap, subst, ◌∙◌, add-one, arith}
 use Rattle.std.specs.Prelude.{All, if◌then◌else◌}
 use Rattle.std.proofs.lemmas.List.{map-append, take_more}
 use Rattle.std.proofs.lemmas.List.Elements.{All-append, All-cons, All-nil, All-filter, All-map, filter-append}
@@ -12,7 +12,7 @@ use Rattle.rt_liveness.specs.declared.call.Call.{Call}
 use Rattle.rt_liveness.specs.Calls.{takes_register}
 use Rattle.rt_table.specs.Parts.{IsPassed, port_register_labels}
 use Rattle.rt_table.specs.Words.{AreStackWords}
-use Rattle.rt_table.specs.Table.{port_registers, stack_arguments}
+use Rattle.rt_table.specs.Table.{is_covered, port_registers, stack_arguments}
 
 labels-one : (p : ℕ → Bool) (f : ℕ → Label) (x : ℕ) → map f (filter p (x ∷ [])) ≡ (if p x then f x ∷ [] else [])
 labels-one p f x = elim (p x) as (λ b. map f (cond b (x ∷ []) []) ≡ cond b (f x ∷ []) []) [ true ↦ refl | false ↦ refl ]
@@ -70,13 +70,17 @@ first_arguments-more call n less =
     labels-more (takes_register call) argument_label registers n (10 + n) less (register-at n less)
     ∙ ap (λ m. first_arguments call n ++ (if takes_register call (10 + n) then label.In (Arg m) ∷ [] else [])) (omega arith)
 
--- the labels of the first of a0 to a7 that have a port
-abbrev pub first_registers : List (Label × ℕ) → ℕ → List Label
-first_registers ports n = map number_label (filter (λ (n : ℕ). has_port ports (label.In (Arg n))) (take n numbers))
+-- the argument register of a number has a port, or is covered
+abbrev pub is_taken : List (Label × ℕ) → Option ℕ → ℕ → Bool
+is_taken ports covered n = has_port ports (label.In (Arg n)) || is_covered covered n
 
-pub first_registers-more : (ports : List (Label × ℕ)) (n : ℕ) → n < 8
-    → first_registers ports (n + 1) ≡ first_registers ports n ++ (if has_port ports (label.In (Arg n)) then label.In (Arg n) ∷ [] else [])
-first_registers-more ports n less = labels-more (λ (n : ℕ). has_port ports (label.In (Arg n))) number_label numbers n n less (number-at n less)
+-- the labels of the first of a0 to a7 of which this holds
+abbrev pub first_registers : List (Label × ℕ) → Option ℕ → ℕ → List Label
+first_registers ports covered n = map number_label (filter (is_taken ports covered) (take n numbers))
+
+pub first_registers-more : (ports : List (Label × ℕ)) (covered : Option ℕ) (n : ℕ) → n < 8
+    → first_registers ports covered (n + 1) ≡ first_registers ports covered n ++ (if is_taken ports covered n then label.In (Arg n) ∷ [] else [])
+first_registers-more ports covered n less = labels-more (is_taken ports covered) number_label numbers n n less (number-at n less)
 
 pub label-if : (n : ℕ) (b : Bool) (labels : List Label) → n < 8 → All IsLabel labels → All IsLabel (labels ++ (if b then label.In (Arg n) ∷ [] else []))
 label-if n true labels less h = All-append IsLabel labels (label.In (Arg n) ∷ []) h (All-cons IsLabel (label.In (Arg n)) [] (omega arith) (All-nil IsLabel))
@@ -91,10 +95,10 @@ small_numbers =
     All-cons IsNumber 0 (1 ∷ 2 ∷ 3 ∷ 4 ∷ 5 ∷ 6 ∷ 7 ∷ []) (omega arith) (All-cons IsNumber 1 (2 ∷ 3 ∷ 4 ∷ 5 ∷ 6 ∷ 7 ∷ []) (omega arith) (All-cons IsNumber 2 (3 ∷ 4 ∷ 5 ∷ 6 ∷ 7 ∷ []) (omega arith) (All-cons IsNumber 3 (4 ∷ 5 ∷ 6 ∷ 7 ∷ []) (omega arith) (All-cons IsNumber 4 (5 ∷ 6 ∷ 7 ∷ []) (omega arith) (All-cons IsNumber 5 (6 ∷ 7 ∷ []) (omega arith) (All-cons IsNumber 6 (7 ∷ []) (omega arith) (All-cons IsNumber 7 ([]) (omega arith) (All-nil IsNumber))))))))
 
 -- a register of an argument is one of a0 to a7
-pub registers-passed : (ports : List (Label × ℕ)) → All IsPassed (port_register_labels ports)
-registers-passed ports =
-    All-map IsPassed number_label (port_registers ports)
-    (λ k d less. All-filter (λ (n : ℕ). has_port ports (label.In (Arg n))) IsNumber numbers small_numbers k d less)
+pub registers-passed : (ports : List (Label × ℕ)) (covered : Option ℕ) → All IsPassed (port_register_labels ports covered)
+registers-passed ports covered =
+    All-map IsPassed number_label (port_registers ports covered)
+    (λ k d less. All-filter (is_taken ports covered) IsNumber numbers small_numbers k d less)
 
 pub words-passed : (words : List ℕ) → All IsPassed (stack_arguments words)
 words-passed words = All-map IsPassed (λ (k : ℕ). label.In (Stack k)) words (λ k d less. tt)

@@ -15,3 +15,4 @@ pub mod Instancing
 pub mod Framings
 pub mod Looking
 pub mod Holding
+pub mod Uniqueness

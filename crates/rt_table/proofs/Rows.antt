@@ -45,7 +45,7 @@ calls_from-more context site link xs i a less =
 pub call_by-rows : (context : Context) (site i : ℕ) (call : Call) (target : Target)
     → call_by context site i call target ≡ places_of site i target ++ told (call_rows context site i call target)
 call_by-rows context site i call (Member q words) = refl
-call_by-rows context site i call (Scheme own lines) = refl
+call_by-rows context site i call (Scheme own lines covered) = refl
 call_by-rows context site i call (Held register) = refl
 call_by-rows context site i call Unknown = refl
 

@@ -1,6 +1,6 @@
 -- What the rows of a procedure name: arguments and results of procedures, globals of some kind, and merges of its registers at its sites;
 -- and which constants.
-use Rattle.std.proofs.Common.{◌≡◌, ◌≢◌, ◌<◌, ◌≤◌, ◌+◌, ◌-◌, ◌+ℤ◌, zero, suc, ℕ, ℤ, pos, Bool, true, false, cond, not, nat_eq, nat_le, ◌&&◌, ◌⊎◌, inl, inr, lit<, Option, Some, None, List, [], ◌∷◌, ◌++◌, length, get_or, flat_map, fold, map, filter, refl, sym, ap, subst, ◌∙◌, arith}
+use Rattle.std.proofs.Common.{◌≡◌, ◌≢◌, ◌<◌, ◌≤◌, ◌+◌, ◌-◌, ◌+ℤ◌, zero, suc, ℕ, ℤ, pos, Bool, true, false, cond, not, nat_eq, nat_le, ◌&&◌, ◌||◌, ◌⊎◌, inl, inr, lit<, Option, Some, None, List, [], ◌∷◌, ◌++◌, length, get_or, flat_map, fold, map, filter, refl, sym, ap, subst, ◌∙◌, arith}
 use Rattle.std.specs.Prelude.{All, IsTrue}
 use Rattle.std.specs.Int.{int_wrap, w32}
 use Rattle.std.specs.Ordering.{int_eq}
@@ -55,7 +55,7 @@ use Rattle.rt_table.specs.declared.pointer.Pointer.TheVariants.{Through, InFrame
 use Rattle.rt_table.specs.declared.side.Side.{Side}
 use Rattle.rt_table.specs.declared.side.Side.TheVariants.{Variable, Code}
 use Rattle.rt_table.specs.Named.{IsItemWithin, IsNameWithin, IsRowWithin}
-use Rattle.rt_table.specs.Table.{Context, Linked, Target, Member, Scheme, Held, Unknown, Writes, ends, places, writes, opens, addition_rows, argument, argument_flow, at_side, below, call_by, calls_from, calls_of, compute_rows, def_side, def_written, definition, entry_side, exists_if_none, first_closed, flow, flow_or_exists, if_first, if_nothing_added, if_zero, indexed, is_argument, is_call_site, is_closed, is_stack_word, items_from, kept_rows, left_role, linked_at, load_in_frame, load_rows, load_through, load_word, loaded_bits, loaded_role, merge_name, merge_rows, object, operand_rows, pointer, pointer_call, pointer_result, port, port_arguments, port_of, port_of_member, port_registers, port_words, read_into, register_arguments, register_pointer, result_above, result_by, result_role, result_rows, returned, right_role, role_row, side_of, site_items, site_rows, spot_flow, spot_pointer, stack_argument, stack_arguments, stack_flow, store_rows, store_through, stored_side, symbol_side, tail_result, tail_results, target_at, through, told, unknown_result, use_side, value_pointer, value_side, width_bits, word_defs, word_flow, written_by, written_side}
+use Rattle.rt_table.specs.Table.{Context, Linked, Target, Member, Scheme, Held, Unknown, Writes, ends, places, writes, opens, addition_rows, argument, argument_flow, at_side, below, call_by, calls_from, calls_of, compute_rows, def_side, def_written, definition, entry_side, exists_if_none, first_closed, flow, flow_or_exists, if_first, if_nothing_added, if_zero, indexed, is_argument, is_call_site, is_closed, is_covered, is_stack_word, items_from, kept_rows, left_role, linked_at, load_in_frame, load_rows, load_through, load_word, loaded_bits, loaded_role, merge_name, merge_rows, object, operand_rows, pointer, pointer_call, pointer_result, port, port_arguments, port_of, port_of_member, port_registers, port_words, read_into, register_arguments, register_pointer, result_above, result_by, result_role, result_rows, returned, right_role, role_row, side_of, site_items, site_rows, spot_flow, spot_pointer, stack_argument, stack_arguments, stack_flow, store_rows, store_through, stored_side, symbol_side, tail_result, tail_results, target_at, through, told, unknown_result, use_side, value_pointer, value_side, width_bits, word_defs, word_flow, written_by, written_side}
 
 -- the symbol of a value is a global of some kind
 abbrev pub HasGlobal : (ℕ → Type 0) → Value → Type 0
@@ -144,11 +144,11 @@ register_labels call =
 stack_labels : (words : List ℕ) → All IsArgument (stack_arguments words)
 stack_labels words = All-map IsArgument (λ (k : ℕ). label.In (Stack k)) words (λ k d less. tt)
 
-port_labels : (ports : List (Label × ℕ)) → All IsArgument (port_arguments ports)
-port_labels ports =
-    All-append IsArgument (map (λ (n : ℕ). label.In (Arg n)) (port_registers ports)) (stack_arguments (port_words ports))
-    (All-map IsArgument (λ (n : ℕ). label.In (Arg n)) (port_registers ports)
-    (λ k d less. All-filter (λ (n : ℕ). has_port ports (label.In (Arg n))) IsArgumentNumber (0 ∷ 1 ∷ 2 ∷ 3 ∷ 4 ∷ 5 ∷ 6 ∷ 7 ∷ []) argument_numbers k d less))
+port_labels : (ports : List (Label × ℕ)) (covered : Option ℕ) → All IsArgument (port_arguments ports covered)
+port_labels ports covered =
+    All-append IsArgument (map (λ (n : ℕ). label.In (Arg n)) (port_registers ports covered)) (stack_arguments (port_words ports))
+    (All-map IsArgument (λ (n : ℕ). label.In (Arg n)) (port_registers ports covered)
+    (λ k d less. All-filter (λ (n : ℕ). has_port ports (label.In (Arg n)) || is_covered covered n) IsArgumentNumber (0 ∷ 1 ∷ 2 ∷ 3 ∷ 4 ∷ 5 ∷ 6 ∷ 7 ∷ []) argument_numbers k d less))
     (stack_labels (port_words ports))
 
 -- the first closed merge among names is one of them
@@ -260,7 +260,7 @@ module _ (context : Context) (G : ℕ → Type 0) (C : ℕ → Type 0) where
     results_by : (site i r : ℕ) (call : Call) (target : Target) → site < sites → HasHeldRegister target → IsSide (result_by context uses site i r call target)
     results_by site i r call (Member q words) less h =
         elim (gives_result call r) as (λ b. IsSide (cond b (Some (Variable (port_of_member q (label.Out r)))) None)) [ true ↦ (tt, refl) | false ↦ tt ]
-    results_by site i r call (Scheme own lines) less h =
+    results_by site i r call (Scheme own lines covered) less h =
         elim (has_port (instance_ports own lines 0) (label.Out r)) as (λ b. IsSide (cond b (Some (Variable (port_of context site i (label.Out r)))) None))
         [ true ↦ (tt, refl) | false ↦ tt ]
     results_by site i r call (Held register) less h = first r (pointer_result context site i (uses site register)) (pointer_results site i (uses site register) (u site register less h))
@@ -560,10 +560,12 @@ module _ (context : Context) (G : ℕ → Type 0) (C : ℕ → Type 0) where
         tells (flat_map (λ (l : Label). argument_flow context site l (port_of_member q l)) (register_arguments call ++ stack_arguments words))
         (passed site (λ (l : Label). port_of_member q l) (member_port q) (register_arguments call ++ stack_arguments words) less
         (All-append IsArgument (register_arguments call) (stack_arguments words) (register_labels call) (stack_labels words)))
-    calls_by site i call (Scheme own lines) less h =
-        let rows = flat_map (λ (l : Label). argument_flow context site l (port_of context site i l)) (port_arguments (instance_ports own lines 0)) in
+    calls_by site i call (Scheme own lines covered) less h =
+        let labels = port_arguments (instance_ports own lines 0) covered in
+        let rows = flat_map (λ (l : Label). argument_flow context site l (port_of context site i l)) labels in
         All-cons IsGoodItem (item.Instance site i) (told rows) tt
-        (tells rows (passed site (λ (l : Label). port_of context site i l) (λ l a. (tt, refl)) (port_arguments (instance_ports own lines 0)) less (port_labels (instance_ports own lines 0))))
+        (tells rows (passed site (λ (l : Label). port_of context site i l) (λ l a. (tt, refl)) labels less
+        (port_labels (instance_ports own lines 0) covered)))
     calls_by site i call (Held register) less h =
         tells (pointer_call context site call (use_side context site register)) (pointer_calls site call (use_side context site register) less (used site register less h))
     calls_by site i call Unknown less h = All-nil IsGoodItem

@@ -1,5 +1,5 @@
 -- What calls are told by.
-use Rattle.std.proofs.Common.{◌≡◌, ◌+◌, ◌<◌, ◌≤◌, ℕ, zero, suc, List, [], ◌∷◌, length, get_or, map, refl, ap, ◌∙◌, arith, Bor}
+use Rattle.std.proofs.Common.{◌≡◌, ◌+◌, ◌<◌, ◌≤◌, ℕ, zero, suc, Option, List, [], ◌∷◌, length, get_or, map, refl, ap, ◌∙◌, arith, Bor}
 use Rattle.rt_body.specs.declared.body.Body.{Body}
 use Rattle.rt_liveness.specs.declared.call.Call.{Call}
 use Rattle.rt_table.specs.declared.context.Context.{Context as Given}
@@ -32,9 +32,10 @@ words-past (b ∷ bodies) (c ∷ calls) (x ∷ frames) zero past = absurd (omega
 words-past (b ∷ bodies) (c ∷ calls) (x ∷ frames) (suc q) past = words-past bodies calls frames q (omega arith)
 
 -- a target that is no scheme has no place
-pub no-place : (site i : ℕ) (target : GivenTarget) → ((scheme : Bor Scheme) → target ≡ given.Scheme scheme → ⊥) → places_of site i (target_of target) ≡ []
+pub no-place : (site i : ℕ) (target : GivenTarget) → ((scheme : Bor Scheme) (covered : Option ℕ) → target ≡ given.Scheme scheme covered → ⊥)
+    → places_of site i (target_of target) ≡ []
 no-place site i (given.Member q words) h = refl
-no-place site i (given.Scheme scheme) h = absurd (h scheme refl)
+no-place site i (given.Scheme scheme covered) h = absurd (h scheme covered refl)
 no-place site i (given.Held register) h = refl
 no-place site i given.Unknown h = refl
 

@@ -1,7 +1,8 @@
 -- What the sides of the results of calls come to.
-use Rattle.std.proofs.Common.{◌≡◌, ◌≢◌, ◌<◌, ◌≤◌, ◌+◌, ◌-◌, ℕ, zero, suc, ℤ, pos, Bool, true, false, cond, Option, Some, None, List, [], ◌∷◌, ◌++◌, length, map, refl, sym, ap, subst, ◌∙◌, arith}
+use Rattle.std.proofs.Common.{◌≡◌, ◌≢◌, ◌<◌, ◌≤◌, ◌+◌, ◌-◌, ℕ, zero, suc, ℤ, pos, Bool, true, false, cond, Option, Some, None, List, [], ◌∷◌, ◌++◌, get_or, length, map, take, refl, sym, ap, subst, ◌∙◌, arith}
 use Rattle.std.specs.Prelude.{slice_get, slice_index_or}
 use Rattle.std.specs.Ordering.{int_eq}
+use Rattle.std.proofs.lemmas.List.{map-append, take_more}
 use Rattle.rt_track.specs.declared.value.Value.{Value}
 use Rattle.rt_track.specs.declared.value.Value.TheVariants as value
 use Rattle.rt_liveness.specs.declared.call.Call.{Call}
@@ -14,7 +15,7 @@ use Rattle.rt_table.specs.declared.target.Target.{Target as GivenTarget}
 use Rattle.rt_table.specs.declared.target.Target.TheVariants as given
 use Rattle.rt_table.specs.declared.traced.Traced.{Traced}
 use Rattle.rt_table.specs.declared.traced.Traced.TheVariants as traced
-use Rattle.rt_table.specs.Parts.{IsOutcome, held_side, result_of_calls, uses_by}
+use Rattle.rt_table.specs.Parts.{IsOutcome, held_side, named_results, names_result, result_of_calls, uses_by}
 use Rattle.rt_table.specs.Table.{Context, Linked, Target, Member, Scheme, Held, Unknown, at_side, definition, if_first, is_call_site, linked_at, pointer_result, result_by, use_side, value_side, written_by, written_side}
 use Rattle.rt_table.specs.Told.{context_of, linked_call, linked_of, target_of}
 
@@ -22,14 +23,14 @@ use Rattle.rt_table.specs.Told.{context_of, linked_call, linked_of, target_of}
 pub result-held : (context : Context) (site i r : ℕ) (call : Call) (target : Target)
     → result_by context (use_side context) site i r call target ≡ result_by context (λ (s q : ℕ). held_side context site target) site i r call target
 result-held context site i r call (Member q words) = refl
-result-held context site i r call (Scheme own lines) = refl
+result-held context site i r call (Scheme own lines covered) = refl
 result-held context site i r call (Held register) = refl
 result-held context site i r call Unknown = refl
 
 pub result-unheld : (context : Context) (f g : ℕ → ℕ → Option Side) (site i r : ℕ) (call : Call) (target : GivenTarget) → ((register : ℕ) → target ≡ given.Held register → ⊥)
     → result_by context f site i r call (target_of target) ≡ result_by context g site i r call (target_of target)
 result-unheld context f g site i r call (given.Member q words) h = refl
-result-unheld context f g site i r call (given.Scheme scheme) h = refl
+result-unheld context f g site i r call (given.Scheme scheme covered) h = refl
 result-unheld context f g site i r call (given.Held register) h = absurd (h register refl)
 result-unheld context f g site i r call given.Unknown h = refl
 
@@ -116,6 +117,48 @@ outcome-none self site register here is_call e none =
     let context = context_of self in
     λ written. called self (uses_by context written) site register here is_call e
     ∙ written-none context (uses_by context written) site register (linked_call self.outside) here none
+
+-- Which results the first call's scheme names.
+
+pub named-first : (link : Call → Linked) (here : List Call) (call : Call) → slice_get here 0 ≡ Some call
+    → named_results (map link here) ≡ named_results (link call ∷ [])
+named-first link [] call e = cc
+named-first link (x ∷ here) call e = let same : x ≡ call = cc in ap (λ y. named_results (link y ∷ [])) same
+
+pub named-one : (self : Given) (site : ℕ) (here : List Call) (call : Call) → here ≡ slice_index_or self.calls.now site [] → slice_get here 0 ≡ Some call
+    → named_results (linked_at (context_of self) site) ≡ named_results (linked_call self.outside call ∷ [])
+named-one self site here call e first =
+    ap named_results (linked-at self site ∙ ap (map (linked_call self.outside)) (sym e)) ∙ named-first (linked_call self.outside) here call first
+
+-- that of a number among both
+pub named-of : (linked : Linked) (r : ℕ) → r ≤ 1 → slice_index_or (named_results (linked ∷ [])) r false ≡ names_result linked.target r
+named-of linked zero less = refl
+named-of linked (suc zero) less = refl
+named-of linked (suc (suc r)) less = absurd (omega arith)
+
+-- those of the site of a number among those of all sites
+pub named-found : (linked : List (List Linked)) (site : ℕ) (named : List Bool) → site < length (map named_results linked) → named ≡ get_or (map named_results linked) site named
+    → named ≡ named_results (slice_index_or linked site [])
+named-found [] site named less e = absurd (omega arith)
+named-found (here ∷ linked) zero named less e = e
+named-found (here ∷ linked) (suc site) named less e = named-found linked site named (omega arith) e
+
+pub named-missing : (linked : List (List Linked)) (site : ℕ) → length (map named_results linked) ≤ site
+    → false ∷ false ∷ [] ≡ named_results (slice_index_or linked site [])
+named-missing [] site past = refl
+named-missing (here ∷ linked) zero past = absurd (omega arith)
+named-missing (here ∷ linked) (suc site) past = named-missing linked site (omega arith)
+
+-- those of one site more
+pub named-more : (link : Call → Linked) (calls : List (List Call)) (i : ℕ) (here : List Call) → i < length calls → here ≡ get_or calls i here
+    → map named_results (map (λ (xs : List Call). map link xs) (take (i + 1) calls))
+    ≡ map named_results (map (λ (xs : List Call). map link xs) (take i calls)) ++ named_results (map link here) ∷ []
+named-more link calls i here less e =
+    let links = λ (xs : List Call). map link xs in
+    ap (λ (ys : List (List Call)). map named_results (map links ys)) (take_more calls i here less)
+    ∙ ap (map named_results) (map-append links (take i calls) (get_or calls i here ∷ []))
+    ∙ map-append named_results (map links (take i calls)) (map link (get_or calls i here) ∷ [])
+    ∙ ap (λ (h : List Call). map named_results (map links (take i calls)) ++ named_results (map link h) ∷ []) (sym e)
 
 -- Steps through calls.
 

@@ -1,5 +1,5 @@
 -- Items are written, of which some are open and pending.
-use Rattle.std.proofs.Common.{◌≡◌, ℕ, Bool, true, false, cond, not, Option, Some, None, List, [], ◌∷◌, ◌++◌, map, reverse, length, refl, sym, ap, subst, ◌∙◌, append_assoc, arith}
+use Rattle.std.proofs.Common.{◌≡◌, ◌+◌, ℕ, Bool, true, false, cond, not, Option, Some, None, List, [], ◌∷◌, ◌++◌, map, reverse, length, refl, sym, ap, subst, ◌∙◌, append_assoc, arith}
 use Rattle.std.specs.Prelude.{All}
 use Rattle.std.specs.List.{list_any}
 use Rattle.std.proofs.lemmas.List.{append-nil, get_or_append_left, get_or_push, length-append, map-append, reverse-append, reverse-reverse}
@@ -88,6 +88,20 @@ closed_in-closed keys (item.Instance site i) merge e = cc
 pub closed_in-within : (sites : ℕ) (keys : List Name) (x : Item) (merge : Name) → closed_in keys x ≡ Some merge → IsItemWithin sites x → IsNameWithin sites merge
 closed_in-within sites keys (item.Told x) merge e h = first-closed-of (IsNameWithin sites) keys (row_names x) merge e h
 closed_in-within sites keys (item.Instance site i) merge e h = cc
+
+-- How many steps were made: each added an item to what is done, or a merge to those that are open.
+
+pub steps-done : (done new : List Item) (keys opened : List Name) (n : ℕ) (x : Item) → new ≡ done ++ x ∷ [] → opened ≡ keys → length done + length keys ≡ n
+    → length new + length opened ≡ n + 1
+steps-done done new keys opened n x d k e =
+    ap (λ xs. length xs + length opened) d ∙ ap (λ ks. length (done ++ x ∷ []) + length ks) k ∙ omega (arith, length-append done (x ∷ []), e)
+
+pub steps-opened : (done new : List Item) (keys opened : List Name) (n : ℕ) (x : Item) (merge : Name) → closed_in keys x ≡ Some merge → new ≡ done
+    → opened ≡ insert_key name_eq keys merge → length done + length keys ≡ n → length new + length opened ≡ n + 1
+steps-opened done new keys opened n x merge c d k e =
+    ap (λ xs. length xs + length opened) d
+    ∙ ap (λ ks. length done + length ks) (k ∙ closed-new keys merge (closed_in-closed keys x merge c))
+    ∙ omega (arith, length-append keys (merge ∷ []), e)
 
 -- Steps.
 

@@ -25,14 +25,16 @@ use Rattle.rt_table.specs.Table.{is_stack_word}
 use Rattle.rt_table.specs.declared.facts.Facts.{Facts}
 use Rattle.rt_table.specs.declared.facts.Framed.{Framed}
 
--- what is known of a procedure: its registers, the calls of its sites, its frame, and the offsets of the words of the stack that it takes as arguments
+-- what is known of a procedure: its registers, the calls of its sites, its frame, and the offsets of the words of the stack that it takes as
+-- arguments
 pub record Knowledge : Type 0 where
   pub reading : Reading
   pub calls : List (List Call)
   pub frame : Frame
   pub words : List ℕ
 
--- a procedure takes the word of the stack at an offset: it loads a word there, on no object of its frame, of which a byte may be as the caller left it
+-- a procedure takes the word of the stack at an offset: it loads a word there, on no object of its frame, of which a byte may be as the caller
+-- left it
 pub record TakesWord (reading : Reading) (frame : Frame) (k : ℕ) : Type 0 where
   pub is_word : is_stack_word (pos k) ≡ true
   pub site : ℕ
@@ -58,7 +60,8 @@ pub record IsKnown (program : Program) (q : ℕ) (proc : Proc) (known : Knowledg
 pub record AreKnown (program : Program) (known : List Knowledge) : Type 0 where
   pub is_program : IsProgram program
   pub one_each : length known ≡ length program.procs
-  pub each : (q : ℕ) (proc : Proc) (knowledge : Knowledge) → q < length known → IsKnown program q (get_or program.procs q proc) (get_or known q knowledge)
+  pub each : (q : ℕ) (proc : Proc) (knowledge : Knowledge) → q < length known
+      → IsKnown program q (get_or program.procs q proc) (get_or known q knowledge)
 
 -- what is known of each procedure, by its body, its calls and its frame
 abbrev pub knowledge_of : List Body → List (List (List Call)) → List Framed → List Knowledge
@@ -66,7 +69,8 @@ knowledge_of [] calls frames = []
 knowledge_of (body ∷ bodies) [] frames = []
 knowledge_of (body ∷ bodies) (here ∷ calls) [] = []
 knowledge_of (body ∷ bodies) (here ∷ calls) (framed ∷ frames) =
-    record { reading = reading_of body; calls = here; frame = frame_of framed.frame; words = framed.words } ∷ knowledge_of bodies calls frames
+    record { reading = reading_of body; calls = here; frame = frame_of framed.frame; words = framed.words }
+    ∷ knowledge_of bodies calls frames
 
 -- the facts are those of an object, its procedures and signatures; the relocations of the object are about its symbols
 pub record IsFactsOf (object : Object) (procs : List Proc) (signatures : List Signature) (facts : Facts) : Type 0 where
@@ -74,4 +78,5 @@ pub record IsFactsOf (object : Object) (procs : List Proc) (signatures : List Si
   pub object_is : facts.object.now ≡ object
   pub procs_is : facts.procs.now ≡ procs
   pub signatures_are : facts.sigs.now ≡ signatures
-  pub are_known : AreKnown (program_of object procs facts.bodies.items signatures) (knowledge_of facts.bodies.items facts.calls facts.frames.items)
+  pub are_known : AreKnown (program_of object procs facts.bodies.items signatures)
+      (knowledge_of facts.bodies.items facts.calls facts.frames.items)

@@ -15,7 +15,8 @@ use Rattle.rt_table.specs.Facts.{TakesWord}
 -- the bodies tell what is true of procedures
 pub record AreReadings (object : Object) (procs : List Proc) (bodies : List Body) : Type 0 where
   pub one_each : length bodies ≡ length procs
-  pub each : (q : ℕ) (proc : Proc) (body : Body) → q < length procs → IsReading object (get_or procs q proc) (reading_of (get_or bodies q body))
+  pub each : (q : ℕ) (proc : Proc) (body : Body) → q < length procs
+      → IsReading object (get_or procs q proc) (reading_of (get_or bodies q body))
 
 -- the frame of a procedure of which a body tells, with these calls at its sites, and the words of the stack that it takes
 pub record IsFramed (body : Body) (calls : List (List Call)) (framed : Framed) : Type 0 where
@@ -27,4 +28,5 @@ pub record IsFramed (body : Body) (calls : List (List Call)) (framed : Framed) :
 -- so are those of procedures
 pub record AreFramed (bodies : List Body) (calls : List (List (List Call))) (frames : List Framed) : Type 0 where
   pub one_each : length frames ≡ length bodies
-  pub each : (q : ℕ) (body : Body) (framed : Framed) → q < length bodies → IsFramed (get_or bodies q body) (get_or calls q []) (get_or frames q framed)
+  pub each : (q : ℕ) (body : Body) (framed : Framed) → q < length bodies
+      → IsFramed (get_or bodies q body) (get_or calls q []) (get_or frames q framed)

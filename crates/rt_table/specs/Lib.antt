@@ -10,3 +10,4 @@ pub mod Taken
 pub mod Writing
 pub mod Lists
 pub mod Told
+pub mod Laws

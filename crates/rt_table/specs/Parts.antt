@@ -1,10 +1,12 @@
 -- Parts of the table that functions compute alone.
-use Rattle.std.specs.Prelude.{◌≡◌, ◌≤◌, ◌<◌, ℕ, suc, ◌+◌, Option, Some, None, IsTrue, List, [], ◌∷◌, ◌++◌, flat_map, map, Bool, not, ◌&&◌, ◌==◌}
+use Rattle.std.specs.Prelude.{◌≡◌, ◌≤◌, ◌<◌, ℕ, suc, ◌+◌, ◌==◌, Option, Some, None, IsTrue, Bool, false, not, ◌&&◌}
+use Rattle.std.specs.Prelude.{List, [], ◌∷◌, ◌++◌, flat_map, map}
 use Rattle.rt_lines.specs.declared.label.Loc.TheVariants.{Arg, Stack}
 use Rattle.rt_lines.specs.declared.label.Label.{Label}
 use Rattle.rt_lines.specs.declared.label.Label.TheVariants as label
 use Rattle.rt_lines.specs.Words.{IsLabel}
 use Rattle.rt_scheme.specs.Instances.{instance_ports}
+use Rattle.rt_scheme.specs.Ports.{names_label}
 use Rattle.rt_liveness.specs.declared.call.Call.{Call}
 use Rattle.rt_rows.specs.declared.row.Row.{Row}
 use Rattle.rt_rows.specs.declared.row.Term.{Term}
@@ -17,7 +19,9 @@ use Rattle.rt_table.specs.declared.side.Side.{Side}
 use Rattle.rt_table.specs.declared.traced.Traced.{Traced}
 use Rattle.rt_table.specs.declared.traced.Traced.TheVariants as traced
 use Rattle.rt_table.specs.Words.{AreStackWords}
-use Rattle.rt_table.specs.Table.{Context, Target, Member, Scheme, Held, Unknown, Linked, argument_flow, call_by, is_call_site, merge_name, pointer_call, pointer_result, port_arguments, port_of, port_of_member, port_registers, register_arguments, stack_arguments, tail_result, tail_results, told, use_side, value_side}
+use Rattle.rt_table.specs.Table.{Context, Target, Member, Scheme, Held, Unknown, Linked, argument_flow, call_by, is_call_site, merge_name}
+use Rattle.rt_table.specs.Table.{pointer_call, pointer_result, port_arguments, port_of, port_of_member, port_registers, register_arguments}
+use Rattle.rt_table.specs.Table.{stack_arguments, tail_result, tail_results, told, use_side, value_side}
 
 -- Sides of results.
 
@@ -25,6 +29,16 @@ use Rattle.rt_table.specs.Table.{Context, Target, Member, Scheme, Held, Unknown,
 abbrev pub held_side : Context → ℕ → Target → Option Side
 held_side context site (Held register) = use_side context site register
 held_side context site other = None
+
+-- the scheme that a target is names the result of a number
+abbrev pub names_result : Target → ℕ → Bool
+names_result (Scheme own lines covered) r = names_label own lines (label.Out r)
+names_result other r = false
+
+-- of results 0 and 1, whether the scheme names them by which the first of some calls is told
+abbrev pub named_results : List Linked → List Bool
+named_results [] = false ∷ false ∷ []
+named_results (linked ∷ more) = names_result linked.target 0 ∷ names_result linked.target 1 ∷ []
 
 -- the register that a target goes through is x0 to x31, and the words that a member takes are words of the stack
 abbrev pub IsTargetWithin : Target → Type 0
@@ -34,7 +48,8 @@ IsTargetWithin other = Unit {0}
 
 -- the sides of uses, by those of what sites wrote
 abbrev pub uses_by : Context → (ℕ → ℕ → Option Side) → ℕ → ℕ → Option Side
-uses_by context written site register = value_side context written (merge_name context site register) (context.reading.value_at site register)
+uses_by context written site register =
+    value_side context written (merge_name context site register) (context.reading.value_at site register)
 
 -- what the side of what a site wrote comes to, whatever other sites wrote: it is known, or it is the result of what another site wrote
 abbrev pub IsOutcome : Context → ℕ → ((ℕ → ℕ → Option Side) → Option Side) → Traced → Type 0
@@ -73,19 +88,19 @@ passed context site to labels = flat_map (λ (l : Label). argument_flow context 
 abbrev pub call_rows : Context → ℕ → ℕ → Call → Target → List Row
 call_rows context site i call (Member q words) =
     flat_map (λ (l : Label). argument_flow context site l (port_of_member q l)) (register_arguments call ++ stack_arguments words)
-call_rows context site i call (Scheme own lines) =
-    flat_map (λ (l : Label). argument_flow context site l (port_of context site i l)) (port_arguments (instance_ports own lines 0))
+call_rows context site i call (Scheme own lines covered) =
+    flat_map (λ (l : Label). argument_flow context site l (port_of context site i l)) (port_arguments (instance_ports own lines 0) covered)
 call_rows context site i call (Held register) = pointer_call context site call (use_side context site register)
 call_rows context site i call Unknown = []
 
 -- the place of an instance, where a target is a scheme
 abbrev pub places_of : ℕ → ℕ → Target → List Item
-places_of site i (Scheme own lines) = item.Instance site i ∷ []
+places_of site i (Scheme own lines covered) = item.Instance site i ∷ []
 places_of site i other = []
 
--- the labels of the arguments in registers among ports
-abbrev pub port_register_labels : List (Label × ℕ) → List Label
-port_register_labels ports = map (λ (n : ℕ). label.In (Arg n)) (port_registers ports)
+-- the labels of the arguments in registers that have ports or are covered
+abbrev pub port_register_labels : List (Label × ℕ) → Option ℕ → List Label
+port_register_labels ports covered = map (λ (n : ℕ). label.In (Arg n)) (port_registers ports covered)
 
 -- both results of a call in which a procedure goes on for good
 abbrev pub both_results : Context → ℕ → ℕ → Linked → List Row

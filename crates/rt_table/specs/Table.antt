@@ -1,5 +1,7 @@
 -- The table: what each site says of types, by what it does.
-use Rattle.std.specs.Prelude.{◌≡◌, ℕ, zero, suc, ℤ, pos, ◌+◌, ◌-◌, ◌+ℤ◌, ◌<◌, ◌≤◌, ◌==◌, ◌%◌, ◌&&◌, nat_le, nat_lt, int_le, not, Bool, true, false, Option, Some, None, List, [], ◌∷◌, ◌++◌, map, flat_map, fold, if◌then◌else◌, length, slice_index_or}
+use Rattle.std.specs.Prelude.{◌≡◌, ℕ, zero, suc, ℤ, pos, ◌+◌, ◌-◌, ◌+ℤ◌, ◌<◌, ◌≤◌, ◌==◌, ◌%◌, nat_le, nat_lt, int_le}
+use Rattle.std.specs.Prelude.{◌&&◌, ◌||◌, not, Bool, true, false, if◌then◌else◌, Option, Some, None}
+use Rattle.std.specs.Prelude.{List, [], ◌∷◌, ◌++◌, map, flat_map, fold, length, slice_index_or}
 use Rattle.std.specs.Ordering.{int_eq, nat_cmp}
 use Rattle.std.specs.List.{filter, list_any}
 use Rattle.std.specs.Int.{cast_unsigned, int_wrap, w32}
@@ -54,11 +56,11 @@ use Rattle.rt_table.specs.declared.item.Item.TheVariants as item
 use Rattle.rt_table.specs.declared.pointer.Pointer.{Pointer}
 use Rattle.rt_table.specs.declared.pointer.Pointer.TheVariants.{Through, InFrame, Nowhere}
 
--- how a call is told: a procedure of the group, which takes these words of the stack; a scheme, by its own base and its lines; what a
--- register holds; nothing is known of it
+-- how a call is told: a procedure of the group, which takes these words of the stack; a scheme, by its own base, its lines, and how many
+-- argument registers a signature says that the function takes, where it says so; what a register holds; nothing is known of it
 pub data Target : Type 0 where
   Member : ℕ → List ℕ → Target
-  Scheme : ℕ → List Line → Target
+  Scheme : ℕ → List Line → Option ℕ → Target
   Held : ℕ → Target
   Unknown : Target
 
@@ -149,8 +151,9 @@ if_first (suc r) side = None
 
 -- the result of a number of a call of a site, by the sides of uses
 abbrev pub result_by : Context → (ℕ → ℕ → Option Side) → ℕ → ℕ → ℕ → Call → Target → Option Side
-result_by context side_at site i r call (Member q words) = if gives_result call r then Some (Variable (port_of_member q (label.Out r))) else None
-result_by context side_at site i r call (Scheme own lines) =
+result_by context side_at site i r call (Member q words) =
+    if gives_result call r then Some (Variable (port_of_member q (label.Out r))) else None
+result_by context side_at site i r call (Scheme own lines covered) =
     if has_port (instance_ports own lines 0) (label.Out r) then Some (Variable (port_of context site i (label.Out r))) else None
 result_by context side_at site i r call (Held register) = if_first r (pointer_result context site i (side_at site register))
 result_by context side_at site i r call Unknown = if_first r (unknown_result context site i)
@@ -164,7 +167,8 @@ written_by context side_at site register (linked ∷ more) =
 -- the side of what a site wrote into a register
 abbrev pub written_side : Context → (ℕ → ℕ → Option Side) → ℕ → ℕ → Option Side
 written_side context side_at site register =
-    if is_call_site context site then written_by context side_at site register (linked_at context site) else Some (Variable (definition context site register))
+    if is_call_site context site then written_by context side_at site register (linked_at context site) else
+    Some (Variable (definition context site register))
 
 -- a side, where nothing was added to it
 abbrev pub if_nothing_added : ℤ → Option Side → Option Side
@@ -179,12 +183,13 @@ value_side context written own (value.Frame k) = Some (Variable (object context 
 value_side context written own value.Multi = Some (Variable (named own))
 value_side context written own (value.Const n) = None
 
--- the side of what a site wrote into a register. Where results of calls through registers are called in turn, it is followed through so many of
--- them: as each call comes before the next one on every way to it, there are no more than sites
+-- the side of what a site wrote into a register. Where results of calls through registers are called in turn, it is followed through so many
+-- of them: as each call comes before the next one on every way to it, there are no more than sites
 abbrev pub at_side : ℕ → Context → ℕ → ℕ → Option Side
 at_side zero context site register = None
 at_side (suc steps) context site register =
-    written_side context (λ (s r : ℕ). value_side context (at_side steps context) (merge_name context s r) (context.reading.value_at s r)) site register
+    written_side context (λ (s r : ℕ). value_side context (at_side steps context) (merge_name context s r) (context.reading.value_at s r))
+    site register
 
 abbrev pub def_written : Context → ℕ → ℕ → Option Side
 def_written context site register = at_side (length context.reading.actions) context site register
@@ -311,11 +316,13 @@ byte_defs context site k i = context.frame.reaching site (byte_at (k +ℤ pos i)
 
 abbrev pub word_defs : Context → ℕ → ℤ → List Def
 word_defs context site k =
-    merged (merged (byte_defs context site k 0) (byte_defs context site k 1)) (merged (byte_defs context site k 2) (byte_defs context site k 3))
+    merged (merged (byte_defs context site k 0) (byte_defs context site k 1))
+    (merged (byte_defs context site k 2) (byte_defs context site k 3))
 
 -- what a store of a word at an offset of the frame puts there; any other definition of its bytes is of no side
 abbrev pub stored_side : Context → ℤ → ℕ → Action → Option Side
-stored_side context k site (action.Store width.Word stored to) = if is_frame k (address_value context.reading site to) then use_side context site stored else None
+stored_side context k site (action.Store width.Word stored to) =
+    if is_frame k (address_value context.reading site to) then use_side context site stored else None
 stored_side context k site other = None
 
 -- what a definition of a byte of the word at an offset brings into a variable: the argument that the caller passed there, or what
@@ -339,7 +346,8 @@ load_rows context site loaded to Nowhere = []
 
 -- a store through a variable: a word keeps what flows into it
 abbrev pub store_through : Context → ℕ → Width → ℕ → Term → ℤ → List Row
-store_through context site width.Word stored d k = flow_or_exists context (use_side context site stored) (along d (label.Store ∷ label.Field 32 k ∷ []))
+store_through context site width.Word stored d k =
+    flow_or_exists context (use_side context site stored) (along d (label.Store ∷ label.Field 32 k ∷ []))
 store_through context site narrow stored d k = row.Var (along d (label.Store ∷ label.Field (width_bits narrow) k ∷ [])) ∷ []
 
 abbrev pub store_rows : Context → ℕ → Width → ℕ → Pointer → List Row
@@ -420,7 +428,8 @@ returned context y register [] = []
 returned context y register defs = exists_if_none y (flat_map (λ def. flow context (def_side context register def) y) defs)
 
 abbrev pub result_rows : Context → ℕ → ℕ → List Row
-result_rows context site r = returned context (port context (label.Out r)) (10 + r) (results context.reading (calls_of context) site (10 + r))
+result_rows context site r =
+    returned context (port context (label.Out r)) (10 + r) (results context.reading (calls_of context) site (10 + r))
 
 -- The rows of a site.
 
@@ -429,12 +438,14 @@ kept_rows context site to from true = flow context (use_side context site from) 
 kept_rows context site to from false = []
 
 abbrev pub site_rows : Context → ℕ → Action → List Row
-site_rows context site (action.AddImmediate to from immediate) = kept_rows context site to from (is_kept context.reading site to from immediate)
+site_rows context site (action.AddImmediate to from immediate) =
+    kept_rows context site to from (is_kept context.reading site to from immediate)
 site_rows context site (action.Add to left right) = addition_rows context site to left right (addition context.reading site left right)
 site_rows context site (action.Load loaded to from) = load_rows context site loaded to (pointer context site from)
 site_rows context site (action.Store width stored to) = store_rows context site width stored (pointer context site to)
 site_rows context site (action.Compute operation to left right) = compute_rows context site operation to left right
-site_rows context site (action.Compare left right) = below context role.Sint32 (use_side context site left) ++ below context role.Sint32 (use_side context site right)
+site_rows context site (action.Compare left right) =
+    below context role.Sint32 (use_side context site left) ++ below context role.Sint32 (use_side context site right)
 site_rows context site action.Return = result_rows context site 0 ++ result_rows context site 1
 site_rows context site other = []
 
@@ -463,7 +474,8 @@ register_arguments call = map (λ (register : ℕ). label.In (Arg (register - 10
 abbrev pub stack_arguments : List ℕ → List Label
 stack_arguments words = map (λ (k : ℕ). label.In (Stack k)) words
 
--- the arguments among ports, a0 to a7 and then words of the stack, rising
+-- the arguments that a scheme takes, by its ports and how many argument registers its signature covers: a0 to a7 and then words of the
+-- stack, ascending
 abbrev pub port_word : Label → List ℕ
 port_word (label.In (Stack k)) = k ∷ []
 port_word other = []
@@ -471,11 +483,17 @@ port_word other = []
 abbrev pub port_words : List (Label × ℕ) → List ℕ
 port_words ports = fold (insert_key nat_cmp) [] (flat_map (λ (port : Label × ℕ). port_word port.0) ports)
 
-abbrev pub port_registers : List (Label × ℕ) → List ℕ
-port_registers ports = filter (λ (n : ℕ). has_port ports (label.In (Arg n))) (0 ∷ 1 ∷ 2 ∷ 3 ∷ 4 ∷ 5 ∷ 6 ∷ 7 ∷ [])
+-- the argument register of a number is among the first ones that a signature says that the function takes
+abbrev pub is_covered : Option ℕ → ℕ → Bool
+is_covered None n = false
+is_covered (Some count) n = nat_lt n count
 
-abbrev pub port_arguments : List (Label × ℕ) → List Label
-port_arguments ports = map (λ (n : ℕ). label.In (Arg n)) (port_registers ports) ++ stack_arguments (port_words ports)
+abbrev pub port_registers : List (Label × ℕ) → Option ℕ → List ℕ
+port_registers ports covered =
+    filter (λ (n : ℕ). has_port ports (label.In (Arg n)) || is_covered covered n) (0 ∷ 1 ∷ 2 ∷ 3 ∷ 4 ∷ 5 ∷ 6 ∷ 7 ∷ [])
+
+abbrev pub port_arguments : List (Label × ℕ) → Option ℕ → List Label
+port_arguments ports covered = map (λ (n : ℕ). label.In (Arg n)) (port_registers ports covered) ++ stack_arguments (port_words ports)
 
 -- rows as items
 abbrev pub told : List Row → List Item
@@ -484,22 +502,27 @@ told rows = map item.Told rows
 -- a call through a register: what it holds is code, and takes what is passed; nothing is said where that is no variable
 abbrev pub pointer_call : Context → ℕ → Call → Option Side → List Row
 pointer_call context site call (Some (Variable x)) =
-    row.Up x (context.constant role.Code) ∷ flat_map (λ (l : Label). argument_flow context site l (along x (l ∷ []))) (register_arguments call)
+    row.Up x (context.constant role.Code)
+    ∷ flat_map (λ (l : Label). argument_flow context site l (along x (l ∷ []))) (register_arguments call)
 pointer_call context site call other = []
 
--- the items of a call of a site: of a procedure of the group by its own variables, of a scheme by the lines of an instance
+-- the items of a call of a site: of a procedure of the group by its own variables, of a scheme by the lines of an instance, where an
+-- argument that the lines don't name has a port of its own
 abbrev pub call_by : Context → ℕ → ℕ → Call → Target → List Item
 call_by context site i call (Member q words) =
     told (flat_map (λ (l : Label). argument_flow context site l (port_of_member q l)) (register_arguments call ++ stack_arguments words))
-call_by context site i call (Scheme own lines) =
-    item.Instance site i ∷ told (flat_map (λ (l : Label). argument_flow context site l (port_of context site i l)) (port_arguments (instance_ports own lines 0)))
+call_by context site i call (Scheme own lines covered) =
+    item.Instance site i
+    ∷ told (flat_map (λ (l : Label). argument_flow context site l (port_of context site i l))
+    (port_arguments (instance_ports own lines 0) covered))
 call_by context site i call (Held register) = told (pointer_call context site call (use_side context site register))
 call_by context site i call Unknown = []
 
 -- where a procedure goes on in another one for good, what that gives flows into its own results
 abbrev pub tail_result : Context → ℕ → ℕ → Linked → ℕ → List Row
 tail_result context site i linked r =
-    if gives_result linked.call r then flow_or_exists context (result_by context (use_side context) site i r linked.call linked.target) (port context (label.Out r)) else []
+    if gives_result linked.call r then
+    flow_or_exists context (result_by context (use_side context) site i r linked.call linked.target) (port context (label.Out r)) else []
 
 abbrev pub tail_results : Context → ℕ → ℕ → Linked → Bool → List Row
 tail_results context site i linked true = tail_result context site i linked 0 ++ tail_result context site i linked 1
@@ -509,7 +532,8 @@ tail_results context site i linked false = []
 abbrev pub calls_from : Context → ℕ → ℕ → List Linked → List Item
 calls_from context site i [] = []
 calls_from context site i (linked ∷ more) =
-    (call_by context site i linked.call linked.target ++ told (tail_results context site i linked (not (is_call_site context site && (i == 0)))))
+    (call_by context site i linked.call linked.target
+    ++ told (tail_results context site i linked (not (is_call_site context site && (i == 0)))))
     ++ calls_from context site (i + 1) more
 
 -- the items of a site: its rows, and then those of its calls
@@ -526,7 +550,8 @@ items_from context i (act ∷ actions) = site_items context i act ++ items_from 
 -- what the merge of a register at a site takes from each definition that reaches the site
 abbrev pub merge_rows : Context → Name → List Row
 merge_rows context (name.Merge procedure site register) =
-    flat_map (λ def. flow context (def_side context register def) (named (name.Merge procedure site register))) (context.reading.reaching site register)
+    flat_map (λ def. flow context (def_side context register def) (named (name.Merge procedure site register)))
+    (context.reading.reaching site register)
 merge_rows context other = []
 
 -- the first merge among names that isn't open
@@ -544,8 +569,8 @@ pub data Writes (context : Context) : List Name → List Item → List Item → 
   ends : {open_names : List Name} → Writes context open_names [] []
   places : {open_names : List Name} {site i : ℕ} {items done : List Item} → Writes context open_names items done
       → Writes context open_names (item.Instance site i ∷ items) (item.Instance site i ∷ done)
-  writes : {open_names : List Name} {x : Row} {items done : List Item} → first_closed open_names (row_names x) ≡ None → Writes context open_names items done
-      → Writes context open_names (item.Told x ∷ items) (item.Told x ∷ done)
+  writes : {open_names : List Name} {x : Row} {items done : List Item} → first_closed open_names (row_names x) ≡ None
+      → Writes context open_names items done → Writes context open_names (item.Told x ∷ items) (item.Told x ∷ done)
   opens : {open_names : List Name} {x : Row} {items done : List Item} {merge : Name} → first_closed open_names (row_names x) ≡ Some merge
       → Writes context (merge ∷ open_names) (told (merge_rows context merge) ++ item.Told x ∷ items) done
       → Writes context open_names (item.Told x ∷ items) done
@@ -575,7 +600,8 @@ new_row context site i ports (line.Up x k) = row.Up (new_term context site i por
 
 -- the rows of the instance of a scheme by a call of a site
 abbrev pub scheme_rows : Context → ℕ → ℕ → Target → List Row
-scheme_rows context site i (Scheme own lines) = map (new_row context site i (instance_ports own lines 0)) (instance_lines own lines 0)
+scheme_rows context site i (Scheme own lines covered) =
+    map (new_row context site i (instance_ports own lines 0)) (instance_lines own lines 0)
 scheme_rows context site i other = []
 
 abbrev pub target_at : List Linked → ℕ → Target

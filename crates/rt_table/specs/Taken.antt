@@ -1,5 +1,6 @@
 -- How the words of the stack that a procedure takes are found.
-use Rattle.std.specs.Prelude.{◌≡◌, ◌↔◌, ◌⊎◌, ℕ, ℤ, pos, ◌+ℤ◌, ◌&&◌, ◌||◌, Bool, true, false, Option, Some, None, List, Contains, if◌then◌else◌}
+use Rattle.std.specs.Prelude.{◌≡◌, ◌↔◌, ◌⊎◌, ℕ, ℤ, pos, ◌+ℤ◌, ◌&&◌, ◌||◌, Bool, true, false, if◌then◌else◌}
+use Rattle.std.specs.Prelude.{Option, Some, None, List, Contains}
 use Rattle.std.specs.Int.{cast_unsigned, w32}
 use Rattle.std.specs.List.{list_any}
 use Rattle.rt_flow.specs.declared.def.Def.{Def}
@@ -27,7 +28,9 @@ is_passed_byte frame site k byte = list_any (λ (d : Def). is_entry d) (frame.re
 
 -- one of the bytes of the word may be
 abbrev pub is_passed_word : Frame → ℕ → ℤ → Bool
-is_passed_word frame site k = is_passed_byte frame site k 0 || (is_passed_byte frame site k 1 || (is_passed_byte frame site k 2 || is_passed_byte frame site k 3))
+is_passed_word frame site k =
+    is_passed_byte frame site k 0
+    || (is_passed_byte frame site k 1 || (is_passed_byte frame site k 2 || is_passed_byte frame site k 3))
 
 -- an access goes to the frame itself
 abbrev pub is_location : Spot → Bool

@@ -38,7 +38,8 @@ procedure_target outside q =
 -- how a call is told
 abbrev pub target_in : Outside → Call → Target
 target_in outside call =
-    target_by (program_in outside.facts.now) (known_in outside.facts.now) outside.schemes.now outside.members.now.keys call.callee call.is_plain
+    target_by (program_in outside.facts.now) (known_in outside.facts.now) outside.schemes.now outside.members.now.keys
+    call.callee call.is_plain
 
 -- a call, and how it is told
 abbrev pub linked_call : Outside → Call → Linked
@@ -46,7 +47,7 @@ linked_call outside call = record { call = call; target = target_in outside call
 
 abbrev pub target_of : GivenTarget → Target
 target_of (target.Member procedure words) = Member procedure words.now
-target_of (target.Scheme scheme) = Scheme scheme.now.base scheme.now.lines
+target_of (target.Scheme scheme covered) = Scheme scheme.now.base scheme.now.lines covered
 target_of (target.Held register) = Held register
 target_of target.Unknown = Unknown
 

@@ -10,9 +10,10 @@ use crate::context::Context;
 use crate::item::Item;
 use crate::labels::{port_arguments, push_words, register_arguments};
 use crate::receiver::Receiver;
+use crate::results::names_result;
 use crate::side::Side;
 use crate::target::Target;
-use crate::targets::instance_of;
+use crate::targets::ports_of;
 use rt_base::Memory;
 use rt_lattice::Role;
 use rt_lines::Label;
@@ -36,7 +37,7 @@ fn push_place(site: u32, call: u32, target: Target<'_>, items: &mut Vec<Item>) -
     ensures { OnOk result (items.new.items ≡ items.old.items ++ places_of site call (target_of target.entry)) }
 {
     match target {
-        Target::Scheme(_) => {
+        Target::Scheme { .. } => {
             items.push(Item::Instance { site, call })?;
             Ok(())
         }
@@ -56,27 +57,31 @@ impl Context<'_> {
     ) -> Result<(), Memory>
         requires site { site < sites_in self.now.body.now }
         requires words { IsTargetWithin (Member procedure words.now) }
-        ensures { OnOk result (rows.new ≡ rows.old ++ call_rows (context_of self.now) site 0 call.now (Member procedure words.now)) }
+        ensures { OnOk result (rows.new
+            ≡ rows.old ++ call_rows (context_of self.now) site 0 call.now (Member procedure words.now)) }
     {
         let mut labels = register_arguments(self.alloc, call)?;
         push_words(words, &mut labels)?;
         self.passed(site, &Receiver::Member(procedure), &labels, rows)
     }
 
-    // Adds what is passed to the instance of a scheme that a call of a site makes.
+    // Adds what is passed to the instance of a scheme that a call of a site makes, where its signature covers so many argument
+    // registers.
     fn passed_to_instance(
         &self,
         site: u32,
         index: u32,
         call: &Call,
         scheme: &Scheme,
+        covered: Option<u8>,
         rows: &mut Rows,
     ) -> Result<(), Memory>
         requires site { site < sites_in self.now.body.now }
-        ensures { OnOk result (rows.new ≡ rows.old ++ call_rows (context_of self.now) site index call.now (SchemeTarget scheme.now.base scheme.now.lines)) }
+        ensures { OnOk result (rows.new
+            ≡ rows.old ++ call_rows (context_of self.now) site index call.now (SchemeTarget scheme.now.base scheme.now.lines covered)) }
     {
-        let instance = instance_of(self.alloc, scheme)?;
-        let labels = port_arguments(self.alloc, &instance.ports)?;
+        let ports = ports_of(self.alloc, scheme)?;
+        let labels = port_arguments(self.alloc, &ports, covered)?;
         self.passed(site, &Receiver::Instance(index), &labels, rows)
     }
 
@@ -112,13 +117,16 @@ impl Context<'_> {
     ) -> Result<(), Memory>
         requires site { site < sites_in self.now.body.now }
         requires target { IsTargetWithin (target_of target) }
-        ensures { OnOk result (rows.new ≡ rows.old ++ call_rows (context_of self.now) site index call.now (target_of target.entry)) }
+        ensures { OnOk result (rows.new
+            ≡ rows.old ++ call_rows (context_of self.now) site index call.now (target_of target.entry)) }
     {
         match target {
             Target::Member { procedure, words } => {
                 self.member_rows(site, call, procedure, words, rows)
             }
-            Target::Scheme(scheme) => self.passed_to_instance(site, index, call, scheme, rows),
+            Target::Scheme { scheme, covered } => {
+                self.passed_to_instance(site, index, call, scheme, covered, rows)
+            }
             Target::Held(register) => {
                 let held = self.use_side(site, register)?;
                 self.pointer_rows(site, call, held, rows)
@@ -139,14 +147,16 @@ impl Context<'_> {
         requires site { site < sites_in self.now.body.now }
         requires register { HasCallRegister call.now }
         requires result_number { result_number ≤ 1 }
-        ensures { OnOk result (rows.new ≡ rows.old ++ tail_result (context_of self.now) site index (linked_call self.now.outside call.now) result_number) }
+        ensures { OnOk result (rows.new
+            ≡ rows.old ++ tail_result (context_of self.now) site index (linked_call self.now.outside call.now) result_number) }
     {
         if !call.gives_result(result_number) {
             return Ok(());
         }
         let target = self.target(call);
         let held = self.held_side(site, target)?;
-        let side = self.result_by(site, index, result_number, call, target, held)?;
+        let named = names_result(target, result_number);
+        let side = self.result_by(site, index, result_number, call, target, named, held)?;
         let to = Term::port(self.alloc, self.procedure, Label::Out(result_number))?;
         self.flow_or_exists(side, to, rows)
     }
@@ -161,7 +171,8 @@ impl Context<'_> {
     ) -> Result<(), Memory>
         requires site { site < sites_in self.now.body.now }
         requires register { HasCallRegister call.now }
-        ensures { OnOk result (items.new.items ≡ items.old.items ++ told (both_results (context_of self.now) site index (linked_call self.now.outside call.now))) }
+        ensures { OnOk result (items.new.items
+            ≡ items.old.items ++ told (both_results (context_of self.now) site index (linked_call self.now.outside call.now))) }
     {
         let mut rows = Rows::new(self.alloc);
         self.tail_result(site, index, call, 0, &mut rows)?;
@@ -179,7 +190,8 @@ impl Context<'_> {
     ) -> Result<(), Memory>
         requires site { site < sites_in self.now.body.now }
         requires register { HasCallRegister call.now }
-        ensures { OnOk result (items.new.items ≡ items.old.items ++ call_by (context_of self.now) site index call.now (target_in self.now.outside call.now)) }
+        ensures { OnOk result (items.new.items
+            ≡ items.old.items ++ call_by (context_of self.now) site index call.now (target_in self.now.outside call.now)) }
     {
         let target = self.target(call);
         let mut rows = Rows::new(self.alloc);
@@ -205,7 +217,8 @@ impl Context<'_> {
     ) -> Result<(), Memory>
         requires site { site < sites_in self.now.body.now }
         requires register { HasCallRegister call.now }
-        ensures { OnOk result (items.new.items ≡ items.old.items ++ call_items (context_of self.now) site index (linked_call self.now.outside call.now)) }
+        ensures { OnOk result (items.new.items
+            ≡ items.old.items ++ call_items (context_of self.now) site index (linked_call self.now.outside call.now)) }
     {
         self.call_by(site, index, call, items)?;
         if self.comes_back(site, index) {
@@ -217,7 +230,8 @@ impl Context<'_> {
     /// Adds the items of the calls of a site. The error is want of memory.
     pub(crate) fn calls(&self, site: u32, items: &mut Vec<Item>) -> Result<(), Memory>
         requires { site < sites_in self.now.body.now }
-        ensures { OnOk result (items.new.items ≡ items.old.items ++ calls_from (context_of self.now) site 0 (linked_at (context_of self.now) site)) }
+        ensures { OnOk result (items.new.items
+            ≡ items.old.items ++ calls_from (context_of self.now) site 0 (linked_at (context_of self.now) site)) }
     {
         let calls = self.calls_at(site);
         for (index, call) in calls.iter().enumerate() {

@@ -1,5 +1,5 @@
 // Rows of instances: the lines of a scheme, whose existentials are named by the call that the instance is made for.
-ghost use Rattle.std.specs.Prelude.{◌≡◌, [], ◌∷◌, ◌++◌, ℕ, IfOk, OnOk, nat_eq};
+ghost use Rattle.std.specs.Prelude.{◌≡◌, [], ◌∷◌, ◌++◌, ℕ, IfOk, None, OnOk, nat_eq};
 ghost use Rattle.indexmap.specs.IndexMap.{get};
 ghost use Rattle.rt_scheme.specs.Ports.{label_at};
 ghost use Rattle.rt_table.specs.Table.{Scheme as ByScheme, filled, instance_rows, new_name, new_root, new_row, new_term, scheme_rows};
@@ -128,7 +128,8 @@ impl Context<'_> {
         scheme: &Scheme,
         rows: &mut Rows,
     ) -> Result<(), Memory>
-        ensures { OnOk result (rows.new ≡ rows.old ++ scheme_rows (context_of self.now) site call (ByScheme scheme.now.base scheme.now.lines)) }
+        ensures { OnOk result (rows.new
+            ≡ rows.old ++ scheme_rows (context_of self.now) site call (ByScheme scheme.now.base scheme.now.lines None)) }
     {
         let instance = instance_of(self.alloc, scheme)?;
         let labels = Labels::new(self.alloc, instance.ports)?;
@@ -149,7 +150,7 @@ impl Context<'_> {
         ensures { OnOk result (rows.new ≡ rows.old ++ scheme_rows (context_of self.now) site call (target_of target.entry)) }
     {
         match target {
-            Target::Scheme(scheme) => self.push_instance(site, call, scheme, rows),
+            Target::Scheme { scheme, .. } => self.push_instance(site, call, scheme, rows),
             Target::Member { .. } => Ok(()),
             Target::Held(_) => Ok(()),
             Target::Unknown => Ok(()),

@@ -3,7 +3,7 @@ use rt_rows::Row;
 
 /// A row, or the place of the lines of an instance: those of the scheme of a callee, for a call of a site, by its number among the site's calls.
 #[derive(Drop)]
-pub(crate) enum Item {
+pub enum Item {
     Told(Row),
     Instance { site: u32, call: u32 },
 }

@@ -1,10 +1,10 @@
 // The labels of the arguments that callees take.
-ghost use Rattle.std.specs.Prelude.{◌≡◌, ◌++◌, ◌∷◌, [], if◌then◌else◌, All, IfOk, OnOk};
+ghost use Rattle.std.specs.Prelude.{◌≡◌, ◌++◌, ◌∷◌, [], ◌||◌, if◌then◌else◌, All, IfOk, OnOk};
 ghost use Rattle.rt_lines.specs.Words.{IsLabel};
 ghost use Rattle.rt_table.specs.Parts.{IsPassed, port_register_labels};
-ghost use Rattle.rt_table.specs.Table.{port_arguments, port_words, register_arguments, stack_arguments};
+ghost use Rattle.rt_scheme.specs.Ports.{has_port};
+ghost use Rattle.rt_table.specs.Table.{is_covered, port_arguments, port_words, register_arguments, stack_arguments};
 
-use crate::results::has_port;
 use rt_base::Memory;
 use rt_lines::{Label, Loc};
 use rt_liveness::Call;
@@ -45,26 +45,56 @@ pub(crate) fn push_words(offsets: &[u32], labels: &mut Vec<Label>) -> Result<(),
     Ok(())
 }
 
-/// The labels of the arguments among ports, a0 to a7 and then words of the stack, rising.
-pub(crate) fn port_arguments(alloc: Global, ports: &Ports) -> Result<Vec<Label>, Memory>
-    ensures labels { IfOk result (λ labels. labels.items ≡ port_arguments ports.now) }
+// Whether a label has a port.
+fn has_port(ports: &Ports, label: Label) -> bool
+    ensures { result ≡ has_port ports.now label }
+{
+    ports.items().iter().any(|port| port.0 == label)
+}
+
+// Whether the argument register of a number is among the first ones that a signature says that the function takes.
+fn is_covered(covered: Option<u8>, number: u8) -> bool
+    ensures { result ≡ is_covered covered number }
+{
+    match covered {
+        Some(count) => number < count,
+        None => false,
+    }
+}
+
+// Whether the argument register of a number has a port, or is covered.
+fn is_taken(ports: &Ports, covered: Option<u8>, number: u8) -> bool
+    ensures { result ≡ (has_port ports.now (Label.In (Loc.Arg number)) || is_covered covered number) }
+{
+    has_port(ports, Label::In(Loc::Arg(number))) || is_covered(covered, number)
+}
+
+/// The labels of the arguments that a scheme takes, by its ports and how many argument registers its signature covers: a0 to a7
+/// and then words of the stack, ascending. The error is out of memory.
+pub(crate) fn port_arguments(
+    alloc: Global,
+    ports: &Ports,
+    covered: Option<u8>,
+) -> Result<Vec<Label>, Memory>
+    ensures labels { IfOk result (λ labels. labels.items ≡ port_arguments ports.now covered) }
     ensures passed { IfOk result (λ labels. All IsPassed labels.items) }
 {
-    let mut labels = port_registers(alloc, ports)?;
+    let mut labels = port_registers(alloc, ports, covered)?;
     let words = port_words(alloc, ports)?;
     let offsets: Vec<u32> = words.iter().copied().collect(alloc)?;
     push_words(&offsets, &mut labels)?;
     Ok(labels)
 }
 
-// The labels of the arguments in registers among ports.
-fn port_registers(alloc: Global, ports: &Ports) -> Result<Vec<Label>, Memory>
-    ensures { IfOk result (λ labels. labels.items ≡ port_register_labels ports.now) }
+// The labels of the arguments in registers that have ports or are covered.
+fn port_registers(alloc: Global, ports: &Ports, covered: Option<u8>) -> Result<Vec<Label>, Memory>
+    ensures { IfOk result (λ labels. labels.items ≡ port_register_labels ports.now covered) }
 {
     let mut labels = Vec::new(alloc);
     for number in 0..8 {
         let label = Label::In(Loc::Arg(number));
-        push_if(has_port(ports, label), label, &mut labels)?;
+        let takes = is_taken(ports, covered, number);
+        push_if(takes, label, &mut labels)?;
     }
     Ok(labels)
 }

@@ -10,6 +10,7 @@ mod flows;
 mod instances;
 mod item;
 mod labels;
+pub mod laws;
 mod lists;
 mod loads;
 mod merges;
@@ -31,5 +32,9 @@ mod variables;
 mod words;
 
 pub use facts::Facts;
+pub use item::Item;
 pub use lists::{Bodies, lines_of};
+pub use pointer::Pointer;
 pub use preparation::prepare;
+pub use rt_liveness::{Numbers, ends};
+pub use side::Side;

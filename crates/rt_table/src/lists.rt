@@ -1,5 +1,5 @@
 // The lists of lines of procedures.
-ghost use Rattle.std.specs.Prelude.{◌≡◌, ◌<◌, ◌≤◌, ℕ, All, IfOk, length};
+ghost use Rattle.std.specs.Prelude.{◌≡◌, ◌<◌, ◌≤◌, ℕ, [], All, IfOk, get_or, length, map};
 ghost use Rattle.rt_lines.specs.Lines.{HasConstantsBelow};
 ghost use Rattle.rt_lattice.specs.Lattices.{size_of};
 ghost use Rattle.rt_rows.specs.Terms.{IsGroupRow};
@@ -9,8 +9,9 @@ ghost use Rattle.rt_table.specs.Facts.{IsFactsOf};
 ghost use Rattle.rt_body.specs.Registers.{HasRegisters};
 ghost use Rattle.rt_table.specs.Lists.{AreGiven, AreLinesOf, AreRowsOf, HasGlobalsOf, IsContext, is_member, linked_in};
 ghost use Rattle.rt_table.specs.Naming.{AreRowsGiven};
+ghost use Rattle.rt_table.specs.Parts.{named_results};
 ghost use Rattle.rt_table.specs.Table.{AreProcedureRows};
-ghost use Rattle.rt_table.specs.Told.{context_of, known_in, program_in};
+ghost use Rattle.rt_table.specs.Told.{context_of, known_in, linked_of, program_in};
 
 use crate::context::{Context, Outside};
 use crate::facts::Facts;
@@ -18,6 +19,7 @@ use indexmap::IndexSet;
 use rt_base::{Memory, Sequence};
 use rt_lattice::Lattice;
 use rt_lines::Lines;
+use rt_liveness::Call;
 use rt_rows::{Rows, group_lines};
 use rt_scheme::Schemes;
 use rt_sigs::Sigs;
@@ -42,25 +44,30 @@ fn context_at<'a>(
     alloc: Global,
     outside: Outside<'a>,
     number: u32,
+    calls: &'a [Sequence<Call>],
+    named: &'a [[bool; 2]],
     lattice: &'a Lattice,
 ) -> Context<'a>
     requires facts { IsFactsOf outside.facts.now.object.now outside.facts.now.procs.now outside.facts.now.sigs.now outside.facts.now }
     requires within { number < length outside.facts.now.procs.now }
-    ensures is { IsContext (program_in outside.entry.facts.now) (known_in outside.entry.facts.now) lattice.now.roles outside.entry.schemes.now
-        outside.entry.members.now.keys number (context_of result) }
+    requires calls { calls.now ≡ get_or outside.facts.now.calls number [] }
+    requires named { named.now ≡ map named_results (linked_of outside calls.now) }
+    ensures is { IsContext (program_in outside.entry.facts.now) (known_in outside.entry.facts.now) lattice.now.roles
+        outside.entry.schemes.now outside.entry.members.now.keys number (context_of result) }
     ensures linked { (context_of result).linked
-        ≡ linked_in (program_in outside.entry.facts.now) (known_in outside.entry.facts.now) outside.entry.schemes.now outside.entry.members.now.keys result.calls.now }
+        ≡ linked_in (program_in outside.entry.facts.now) (known_in outside.entry.facts.now) outside.entry.schemes.now
+        outside.entry.members.now.keys result.calls.now }
 {
     let place = number as usize;
     let body = &outside.facts.bodies[place];
     let framed = &outside.facts.frames[place];
-    let calls = outside.facts.calls.items()[place].items();
     Context {
         alloc,
         procedure: number,
         body,
         frame: &framed.frame,
         calls,
+        named,
         outside,
         lattice,
     }
@@ -97,7 +104,9 @@ fn rows_of(
 {
     rt_link::laws::symbols();
     let _names = lattice.names();
-    let context = context_at(alloc, outside, number, lattice);
+    let calls = outside.calls(number);
+    let named = outside.named_results(alloc, calls)?;
+    let context = context_at(alloc, outside, number, calls, &named, lattice);
     context.procedure_rows()
 }
 
@@ -118,8 +127,10 @@ pub fn lines_of(
     requires within { All (λ number. number < length facts.now.procs.now) group.now }
     requires enough { length facts.now.procs.now ≤ length schemes.now }
     ensures found { IfOk result (AreLinesOf facts.now.object.now lattice.now.roles facts.now.procs.now sigs.now schemes.now group.now) }
-    ensures constants { AreGiven facts.now.object.now (size_of lattice.now) schemes.now → IfOk result (All (All (HasConstantsBelow (size_of lattice.now)))) }
-    ensures globals { AreGiven facts.now.object.now (size_of lattice.now) schemes.now → IfOk result (All (HasGlobalsOf facts.now.object.now)) }
+    ensures constants { AreGiven facts.now.object.now (size_of lattice.now) schemes.now
+        → IfOk result (All (All (HasConstantsBelow (size_of lattice.now)))) }
+    ensures globals { AreGiven facts.now.object.now (size_of lattice.now) schemes.now
+        → IfOk result (All (HasGlobalsOf facts.now.object.now)) }
     ensures interfaces { IfOk result (All AreInterfaceLines) }
     ensures one_each { IfOk result (λ bodies. length bodies ≡ length group.now) }
 {

@@ -12,7 +12,6 @@ use crate::item::Item;
 use indexmap::IndexSet;
 use rt_base::Memory;
 use rt_rows::{Name, Row, Rows, Term};
-use std::alloc::AllocError;
 
 // Whether a name is that of a merge that isn't open.
 fn is_closed(opened: &IndexSet<Name>, name: Name) -> bool
@@ -85,7 +84,7 @@ impl Context<'_> {
         }
     }
 
-    /// The items, where the rows of a merge stand before the first row that names it. The error is want of memory.
+    /// The items, where the rows of a merge come before the first row that names it. The error is out of memory.
     pub(crate) fn written(&self, items: Vec<Item>) -> Result<Vec<Item>, Memory>
         requires { All (IsItemWithin (sites_in self.now.body.now)) items.items }
         ensures { IfOk result (λ done. Writes (context_of self.now) [] items.items done.items) }
@@ -108,6 +107,8 @@ impl Context<'_> {
                 }
             }
         }
-        Err(AllocError)
+        // Each step added an item to `done` or a merge to `opened`, and no memory has room for so many.
+        let _opened = opened.len();
+        unreachable!()
     }
 }

@@ -3,7 +3,9 @@ ghost use Rattle.std.specs.Prelude.{◌≡◌, None, [], All, IfOk, length};
 ghost use Rattle.rt_link.specs.Checks.{link_fault};
 ghost use Rattle.rt_link.specs.Links.{AreLinksOf};
 ghost use Rattle.rt_proc.specs.Procs.{AreProcs};
+ghost use Rattle.rt_body.specs.Readable.{IsReadable};
 ghost use Rattle.rt_liveness.specs.Calls.{HasCallRegister};
+ghost use Rattle.rt_liveness.specs.Ends.{ends_of};
 ghost use Rattle.rt_table.specs.Facts.{IsFactsOf};
 ghost use Rattle.rt_table.specs.Framing.{AreFramed, AreReadings, IsFramed};
 ghost use Rattle.rt_table.specs.Registers.{HaveRegisters};
@@ -29,10 +31,9 @@ fn bodies_of(
 ) -> Result<Vec<Body>, Memory>
     requires linked { link_fault object.now ≡ None }
     requires links { AreLinksOf object.now links.now }
-    requires procs { AreProcs object.now procs.now }
+    requires readable { All IsReadable procs.now }
     ensures { IfOk result (λ bodies. AreReadings object.now procs.now bodies.items) }
 {
-    rt_body::laws::procs();
     // The relocations are of the object's code and about its symbols, so the bodies can be read.
     let _relocs = object.relocs();
     let symbols = Symbols::of(alloc, object)?;
@@ -66,9 +67,10 @@ fn frames_of(alloc: Global, bodies: &[Body], calls: &[Calls]) -> Result<Vec<Fram
     Ok(frames)
 }
 
-/// What is known of the procedures of an object, where these functions outside have signatures. The error is want of memory.
+/// What is known of the procedures of an object, where these functions outside have signatures. The error is out of memory.
 ///
-/// Condition: the object's relocations were found good, and the links and the procedures are the object's.
+/// Condition: the object's relocations were found good, the links are the object's, and the procedures were found with the list
+/// that [`ends`](crate::ends) gives for the object and these signatures.
 pub fn prepare<'a>(
     alloc: Global,
     object: &'a Object,
@@ -78,9 +80,10 @@ pub fn prepare<'a>(
 ) -> Result<Facts<'a>, Memory>
     requires linked { link_fault object.now ≡ None }
     requires links { AreLinksOf object.now links.now }
-    requires procs { AreProcs object.now procs.now }
+    requires procs { AreProcs object.now (ends_of object.now sigs.now) procs.now }
     ensures { IfOk result (IsFactsOf object.now procs.now sigs.now) }
 {
+    rt_body::laws::procs();
     // The relocations are about the object's symbols.
     let _relocs = object.relocs();
     let bodies = bodies_of(alloc, object, links, procs)?;

@@ -1,9 +1,8 @@
 // The sides of the results of calls.
-ghost use Rattle.std.specs.Prelude.{◌≡◌, ◌<◌, ◌≤◌, ◌&&◌, nat_le, ◌∷◌, [], ℕ, Option, IfOk};
+ghost use Rattle.std.specs.Prelude.{◌≡◌, ◌<◌, ◌≤◌, ◌&&◌, nat_le, ◌∷◌, [], ℕ, Option, IfOk, false, slice_index_or};
 ghost use Rattle.rt_body.specs.Told.{sites_in};
 ghost use Rattle.rt_liveness.specs.Calls.{HasCallRegister};
-ghost use Rattle.rt_scheme.specs.Ports.{has_port};
-ghost use Rattle.rt_table.specs.Parts.{IsOutcome, IsTargetWithin, held_side, result_of_calls, uses_by};
+ghost use Rattle.rt_table.specs.Parts.{IsOutcome, IsTargetWithin, held_side, named_results, names_result, result_of_calls, uses_by};
 ghost use Rattle.rt_table.specs.Table.{def_written, if_first, pointer_result, result_by, unknown_result, written_by, written_side};
 ghost use Rattle.rt_table.specs.Told.{context_of, linked_call, target_in, target_of};
 ghost use Rattle.rt_table.specs.declared.side.Side.{Side as TheSide};
@@ -11,20 +10,31 @@ ghost use Rattle.rt_table.specs.declared.side.Side.{Side as TheSide};
 use crate::context::Context;
 use crate::side::Side;
 use crate::target::Target;
-use crate::targets::instance_of;
 use crate::traced::Traced;
 use rt_base::Memory;
 use rt_lines::Label;
 use rt_liveness::Call;
 use rt_rows::{Name, Term};
-use rt_scheme::Ports;
 use rt_track::Value;
 
-// Whether a label has a port.
-pub(crate) fn has_port(ports: &Ports, label: Label) -> bool
-    ensures { result ≡ has_port ports.now label }
+/// Whether the scheme that a target is names the result of a number.
+pub(crate) fn names_result(target: Target<'_>, result_number: u8) -> bool
+    ensures { result ≡ names_result (target_of target.entry) result_number }
 {
-    ports.items().iter().any(|port| port.0 == label)
+    match target {
+        Target::Scheme { scheme, .. } => scheme.names(Label::Out(result_number)),
+        Target::Member { .. } => false,
+        Target::Held(_) => false,
+        Target::Unknown => false,
+    }
+}
+
+// Of what is said of both results, that of the result of a number.
+fn named_of(named: [bool; 2], result_number: u8) -> bool
+    requires { result_number ≤ 1 }
+    ensures { result ≡ slice_index_or named result_number false }
+{
+    named[usize::from(result_number)]
 }
 
 // Whether a register is that of a result, a0 or a1.
@@ -69,7 +79,8 @@ impl Context<'_> {
         }
     }
 
-    // The result of a number of a call of a site, where the register that the call may go through holds something of this side.
+    // The result of a number of a call of a site, where `named` says whether the scheme that the target may be names it, and the
+    // register that the call may go through holds something of this side.
     pub(crate) fn result_by(
         &self,
         site: u32,
@@ -77,10 +88,13 @@ impl Context<'_> {
         result_number: u8,
         call: &Call,
         target: Target<'_>,
+        named: bool,
         held: Option<Side>,
     ) -> Result<Option<Side>, Memory>
-        requires { result_number ≤ 1 }
-        ensures { IfOk result (λ side. side ≡ result_by (context_of self.now) (λ (s r : ℕ). held) site index result_number call.now (target_of target.entry)) }
+        requires number { result_number ≤ 1 }
+        requires named { named ≡ names_result (target_of target) result_number }
+        ensures { IfOk result (λ side. side
+            ≡ result_by (context_of self.now) (λ (s r : ℕ). held) site index result_number call.now (target_of target.entry)) }
     {
         let label = Label::Out(result_number);
         match target {
@@ -91,9 +105,8 @@ impl Context<'_> {
                 let port = Term::port(self.alloc, procedure, label)?;
                 Ok(Some(Side::Variable(port)))
             }
-            Target::Scheme(scheme) => {
-                let instance = instance_of(self.alloc, scheme)?;
-                if !has_port(&instance.ports, label) {
+            Target::Scheme { .. } => {
+                if !named {
                     return Ok(None);
                 }
                 Ok(Some(Side::Variable(self.port_of(site, index, label))))
@@ -116,43 +129,65 @@ impl Context<'_> {
 
     // What the side of what a site wrote into a register comes to.
     fn traced(&self, site: u32, register: u8) -> Result<Traced, Memory>
-        ensures { IfOk result (IsOutcome (context_of self.now) site (λ (written : ℕ → ℕ → Option TheSide). written_side (context_of self.now) (uses_by (context_of self.now) written) site register)) }
+        ensures { IfOk result (IsOutcome (context_of self.now) site
+            (λ (written : ℕ → ℕ → Option TheSide). written_side (context_of self.now) (uses_by (context_of self.now) written) site
+            register)) }
     {
         if !self.is_call_site(site) {
             let written = Side::Variable(self.definition(site, register));
             return Ok(Traced::Known(Some(written)));
         }
         match self.calls_at(site).first() {
-            Some(call) => self.traced_call(site, register, call),
+            Some(call) => self.traced_call(site, register, call, self.named_at(site)),
             None => Ok(Traced::Known(None)),
         }
     }
 
-    // What the side of what the first call of a site wrote into a register comes to.
-    fn traced_call(&self, site: u32, register: u8, call: &Call) -> Result<Traced, Memory>
+    // What the side of what the first call of a site wrote into a register comes to, where `named` says which results the scheme names
+    // by which the call is told.
+    fn traced_call(
+        &self,
+        site: u32,
+        register: u8,
+        call: &Call,
+        named: [bool; 2],
+    ) -> Result<Traced, Memory>
         requires site { site < sites_in self.now.body.now }
         requires register { HasCallRegister call.now }
-        ensures { IfOk result (IsOutcome (context_of self.now) site (λ (written : ℕ → ℕ → Option TheSide). written_by (context_of self.now) (uses_by (context_of self.now) written) site register (linked_call self.now.outside call.now ∷ []))) }
+        requires named { named ≡ named_results (linked_call self.now.outside call.now ∷ []) }
+        ensures { IfOk result (IsOutcome (context_of self.now) site
+            (λ (written : ℕ → ℕ → Option TheSide). written_by (context_of self.now) (uses_by (context_of self.now) written) site register
+            (linked_call self.now.outside call.now ∷ []))) }
     {
         if is_result(register) {
-            self.traced_result(site, register - 10, call)
+            self.traced_result(site, register - 10, call, named)
         } else {
             Ok(Traced::Known(None))
         }
     }
 
     // What the side of a result of the first call of a site comes to.
-    fn traced_result(&self, site: u32, result_number: u8, call: &Call) -> Result<Traced, Memory>
+    fn traced_result(
+        &self,
+        site: u32,
+        result_number: u8,
+        call: &Call,
+        named: [bool; 2],
+    ) -> Result<Traced, Memory>
         requires site { site < sites_in self.now.body.now }
         requires register { HasCallRegister call.now }
         requires result_number { result_number ≤ 1 }
-        ensures { IfOk result (IsOutcome (context_of self.now) site (λ (written : ℕ → ℕ → Option TheSide). result_by (context_of self.now) (uses_by (context_of self.now) written) site 0 result_number call.now (target_in self.now.outside call.now))) }
+        requires named { named ≡ named_results (linked_call self.now.outside call.now ∷ []) }
+        ensures { IfOk result (IsOutcome (context_of self.now) site
+            (λ (written : ℕ → ℕ → Option TheSide). result_by (context_of self.now) (uses_by (context_of self.now) written) site 0
+            result_number call.now (target_in self.now.outside call.now))) }
     {
         let target = self.target(call);
         match target {
             Target::Held(register) => self.traced_pointer(site, result_number, register),
             _ => {
-                let side = self.result_by(site, 0, result_number, call, target, None)?;
+                let names = named_of(named, result_number);
+                let side = self.result_by(site, 0, result_number, call, target, names, None)?;
                 Ok(Traced::Known(side))
             }
         }
@@ -162,7 +197,9 @@ impl Context<'_> {
     fn traced_pointer(&self, site: u32, result_number: u8, register: u8) -> Result<Traced, Memory>
         requires site { site < sites_in self.now.body.now }
         requires register { register < 32 }
-        ensures { IfOk result (IsOutcome (context_of self.now) site (λ (written : ℕ → ℕ → Option TheSide). if_first result_number (pointer_result (context_of self.now) site 0 (uses_by (context_of self.now) written site register)))) }
+        ensures { IfOk result (IsOutcome (context_of self.now) site
+            (λ (written : ℕ → ℕ → Option TheSide). if_first result_number
+            (pointer_result (context_of self.now) site 0 (uses_by (context_of self.now) written site register)))) }
     {
         if result_number != 0 {
             return Ok(Traced::Known(None));

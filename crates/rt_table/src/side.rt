@@ -3,7 +3,7 @@ use rt_rows::Term;
 
 /// What a value is to a row: a variable, or the constant of code.
 #[derive(Drop)]
-pub(crate) enum Side {
+pub enum Side {
     Variable(Term),
     Code,
 }

@@ -10,5 +10,5 @@ abbrev pub invariant-loop-site : goal.invariant-loop-site
 invariant-loop-site l = record {
   sites : ops_sites l.ops ≡ length l.actions;
   done : (s r : ℕ) → s < l.site → Contains (defined_by (action_at l.actions s)) r → op_in l.ops s r ≡ op_at l.actions s r;
-  ahead : (s r : ℕ) → l.site ≤ s → op_in l.ops s r ≡ Own;
+  own : (s r : ℕ) → (s < l.site → Contains (defined_by (action_at l.actions s)) r → ⊥) → op_in l.ops s r ≡ Own;
 }

@@ -7,5 +7,6 @@ abbrev pub invariant-loop-register : goal.invariant-loop-register
 invariant-loop-register l = record {
   sites : ops_sites l.ops ≡ ops_sites l.fn.ops;
   given : (r : ℕ) → Contains (take l.register-index l.registers) r → op_in l.ops l.site r ≡ l.op;
+  rest : (r : ℕ) → (Contains (take l.register-index l.registers) r → ⊥) → op_in l.ops l.site r ≡ op_in l.fn.ops l.site r;
   others : (s r : ℕ) → (s ≡ l.site → ⊥) → op_in l.ops s r ≡ op_in l.fn.ops s r;
 }

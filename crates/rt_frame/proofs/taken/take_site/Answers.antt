@@ -1,9 +1,10 @@
-use Rattle.std.proofs.Common.{ℕ, ℤ, pos}
+use Rattle.std.proofs.Common.{ℕ, ℤ, Contains, subst}
 use Rattle.std.proofs.lemmas.List.Elements.{All-get_or}
 use Rattle.rt_body.specs.declared.action.Action.TheVariants as action
 use Rattle.rt_body.specs.Readings.{action_at}
-use Rattle.rt_body.specs.Told.{reading_of, sites_in}
-use Rattle.rt_flow.specs.Sources.{defs_in}
+use Rattle.rt_body.specs.Told.{reaching_use, reading_of, sites_in}
+use Rattle.rt_body.proofs.Asked.{reaching_within_body}
+use Rattle.rt_flow.specs.declared.def.Def.TheVariants.{At}
 use Rattle.rt_frame.specs.declared.question.Question.{Question}
 use Rattle.rt_frame.specs.declared.question.Question.TheVariants.{OfUse}
 use Rattle.rt_frame.specs.Frames.{IsOfFrame}
@@ -18,7 +19,7 @@ take_question-requires c =
     let body = c.args.body.now in
     let site = c.args.site in
     let reading = reading_of body in
-    let reached = λ (register : ℕ). within_each (sites_in body) (defs_in body.reach site (pos register)) (λ d in_list. body.within site register d c.requires.site in_list) in
+    let reached = λ (register : ℕ). within_each (sites_in body) (reaching_use body site register) (λ d in_list. body.within site register d c.requires.site (subst (λ defs. Contains defs (At d)) (reaching_within_body body site register c.requires.site) in_list)) in
     let within = questions_within reading (sites_in body) site c.requires.site reached c.args.calls.now (action_at body.actions site) (body.named site action.Pass c.requires.site) c.requires.registers in
     All-get_or (IsQuestionWithin (sites_in body)) c.items-question-items.result.now c.loop-question.question-index (OfUse 0 0) c.loop-question-test.true
     (rw c.loop-question.invariant.items within)

@@ -7,10 +7,9 @@ use Rattle.rt_proc.specs.declared.proc.Proc.{Proc}
 use Rattle.rt_proc.specs.declared.site.Site.{Site}
 use Rattle.rt_proc.specs.Procs.{places_of}
 use Rattle.rt_body.specs.Told.{sites_in}
-use Rattle.rt_liveness.specs.Calls.{AreCallsOf, HasCallRegister}
+use Rattle.rt_liveness.specs.Ends.{ends_of}
 use Rattle.rt_liveness.specs.Found.{AreCallsFound}
 use Rattle.rt_liveness.specs.Interfaces.{IsInterface}
-use Rattle.rt_liveness.specs.Told.{program_of}
 use Rattle.rt_liveness.proofs.Adding.{found_at}
 use Rattle.rt_liveness.proofs.Calling.{site_each_at, calls_are, calls_registers}
 use Rattle.rt_liveness.proofs.calls.calls_of.Goals as goal
@@ -32,7 +31,7 @@ all_calls-requires-clause-each c = λ q proc body less.
 pub all_calls-requires-clause-good : goal.all_calls-requires-clause-good
 all_calls-requires-clause-good c = λ q s proc site at here.
     let object = c.args.object.now in
-    let all = c.places.ensures.sites object c.args.procs.now c.requires.procs in
+    let all = c.places.ensures.sites object (ends_of object c.args.sigs.now) c.args.procs.now c.requires.procs in
     let there = subst (λ (procs : List Proc). All (λ (p : Proc). All (IsGood object) (places_of p.sites)) procs) (sym c.items-procs.ensures) all in
     let places = All-contains (λ (p : Proc). All (IsGood object) (places_of p.sites)) c.items-procs.result.now proc there (found_at c.items-procs.result.now q proc at) in
     All-contains (IsGood object) (places_of proc.sites) site.place places (Contains-map (λ (x : Site). x.place) proc.sites site (found_at proc.sites s site here))
@@ -44,7 +43,7 @@ returns-clause-calls c =
     let bodies = c.args.bodies.now in
     let sigs = c.args.sigs.now in
     let interface = c.in_ok-interface.interface in
-    let laws = c.callees.ensures object procs c.relocs-relocs.ensures.sound.linkable c.requires.procs in
+    let laws = c.callees.ensures object (ends_of object sigs) procs c.relocs-relocs.ensures.sound.linkable c.requires.procs in
     let is = subst (λ (ps : List Proc). IsInterface object ps bodies sigs interface) c.items-procs.ensures c.in_ok-interface.ensures in
     IfOk-weaker c.all_calls.result _ _
     (λ all found. calls_are object procs bodies sigs c.requires.program interface laws is all (subst (λ (ps : List Proc). AreCallsFound object interface ps bodies all) c.items-procs.ensures found))
@@ -57,7 +56,7 @@ returns-clause-registers c =
     let bodies = c.args.bodies.now in
     let sigs = c.args.sigs.now in
     let interface = c.in_ok-interface.interface in
-    let laws = c.callees.ensures object procs c.relocs-relocs.ensures.sound.linkable c.requires.procs in
+    let laws = c.callees.ensures object (ends_of object sigs) procs c.relocs-relocs.ensures.sound.linkable c.requires.procs in
     let is = subst (λ (ps : List Proc). IsInterface object ps bodies sigs interface) c.items-procs.ensures c.in_ok-interface.ensures in
     IfOk-weaker c.all_calls.result _ _
     (λ all found. calls_registers object procs bodies sigs c.requires.program interface laws is all (subst (λ (ps : List Proc). AreCallsFound object interface ps bodies all) c.items-procs.ensures found))

@@ -26,5 +26,5 @@ noted kind l base v slot old new is of updates = record {
 
 pub returns-in_ok-insert : goal.returns-in_ok-insert
 returns-in_ok-insert c =
-    noted c.args.kind c.args.line.now c.args.base c.in-Exist.v c.args.slot (has c.args.index.now) (has c.insert.new.self) c.in-Exist.is (c.is_of_kind.ensures.0 c.if-is_of_kind.true)
+    noted c.args.kind c.args.row.now c.args.base c.in-Exist.v c.args.slot (has c.args.index.now) (has c.insert.new.self) c.in-Exist.is (c.is_of_kind.ensures.0 c.if-is_of_kind.true)
     (λ n i. c.in_ok-insert.ensures.updates.0 (n, i))

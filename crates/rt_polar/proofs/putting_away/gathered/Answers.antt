@@ -1,4 +1,4 @@
-use Rattle.std.proofs.Common.{◌≡◌, [], ◌∷◌, ◌++◌, sym, ap, ◌∙◌}
+use Rattle.std.proofs.Common.{[], ◌∷◌, ◌++◌, sym, ap, ◌∙◌}
 use Rattle.rt_polar.specs.Places.{lines_of}
 use Rattle.rt_polar.proofs.Placing.{lines_of-append}
 use Rattle.rt_polar.proofs.putting_away.gathered.Goals as goal

@@ -1,26 +1,34 @@
+use Rattle.std.proofs.Common.{◌+◌}
 use Rattle.std.specs.BTreeSet.{contains}
-use Rattle.std.specs.HashMap.{get}
 use Rattle.std.specs.Ordering.{nat_cmp}
-use Rattle.rt_lines.specs.Equality.{line_eq}
 use Rattle.rt_polar.specs.Index.{has}
-use Rattle.rt_polar.proofs.Moving.{moved_end, moved_step}
+use Rattle.rt_polar.proofs.Moving.{AreMoved, AreMoved-none, moved_end, moved_step, none_after}
 use Rattle.rt_polar.proofs.putting_away.move_lines.Goals as goal
 
-pub loop-slot-preserved : goal.loop-slot-preserved
-loop-slot-preserved c =
-    let now = c.loop-slot.places in
+pub returns-in_ok-move_line-in-None-clause-moved : goal.returns-in_ok-move_line-in-None-clause-moved
+returns-in_ok-move_line-in-None-clause-moved c =
+    let now = c.args.places.now in
     let next = c.move_line.new.places in
-    let s = c.loop-slot.invariant.places.named.source c.args.v c.in-Some.slot c.in-Some.ensures.1 in
-    record {
-      places = c.in_ok-move_line.ensures.places;
-      moved = moved_step c.args.v c.args.side.now c.args.places.now.slots.items now.slots.items next.slots.items c.loop-slot.from c.in-Some.slot s.0 (has now.naming) (has next.naming) (contains nat_cmp c.args.pending.now) (contains nat_cmp c.loop-slot.pending)
-          (contains nat_cmp c.move_line.new.pending) c.requires.other_base c.requires.own c.loop-slot.invariant.moved c.loop-slot.invariant.places.named c.in_ok-move_line.ensures.places.named c.in-Some.ensures.2 s.1 (c.in_ok-move_line.ensures.moved s.0 s.1)
-          c.in_ok-move_line.ensures.kept (λ n names. c.in_ok-move_line.ensures.added n s.0 s.1 names);
-    }
+    let old = contains nat_cmp c.args.pending.now in
+    let new = contains nat_cmp c.move_line.new.pending in
+    let e = c.in_ok-move_line-in-None.ensures in
+    let s = c.requires.places.named.source c.args.v c.args.first c.requires.names in
+    let step : AreMoved c.args.v c.args.side (c.args.first + 1) now.slots.items next.slots.items (has next.naming) old new =
+    moved_step c.args.v c.args.side now.slots.items now.slots.items next.slots.items 0 c.args.first s.0 (has now.naming) (has next.naming) old old new
+    c.requires.other_base c.requires.own (AreMoved-none c.args.v c.args.side now.slots.items (has now.naming) old) c.requires.places.named e.places.named (λ i le h. c.requires.first i h) s.1 (e.moved s.0 s.1) e.kept (λ n names. e.added n s.0 s.1 names) in
+    moved_end c.args.v c.args.side (c.args.first + 1) now.slots.items next.slots.items (has next.at) (has next.naming) old new step e.places.found e.places.named e.places.plain
+    (none_after c.args.v c.args.side now.slots.items now.slots.items next.slots.items 0 c.args.first s.0 (has now.naming) (has next.naming) old old new
+    c.requires.other_base c.requires.own (AreMoved-none c.args.v c.args.side now.slots.items (has now.naming) old) c.requires.places.named e.places.named (λ i le h. c.requires.first i h) s.1 (e.moved s.0 s.1) e.kept (λ n names. e.added n s.0 s.1 names) c.in-None.ensures)
 
-pub returns-clause-moved : goal.returns-clause-moved
-returns-clause-moved c =
-    let now = c.loop-slot.places in
-    let held = c.loop-slot.invariant.places in
-    moved_end c.args.v c.args.side.now c.loop-slot.from c.args.places.now.slots.items now.slots.items (get line_eq now.at) (has now.naming) (contains nat_cmp c.args.pending.now) (contains nat_cmp c.loop-slot.pending) c.loop-slot.invariant.moved held.found held.named held.plain
-    c.in_default.ensures
+pub returns-in_ok-move_line-in-None-clause-agree : goal.returns-in_ok-move_line-in-None-clause-agree
+returns-in_ok-move_line-in-None-clause-agree c =
+    let now = c.args.places.now in
+    let next = c.move_line.new.places in
+    let old = contains nat_cmp c.args.pending.now in
+    let new = contains nat_cmp c.move_line.new.pending in
+    let e = c.in_ok-move_line-in-None.ensures in
+    let s = c.requires.places.named.source c.args.v c.args.first c.requires.names in
+    let step : AreMoved c.args.v c.args.side (c.args.first + 1) now.slots.items next.slots.items (has next.naming) old new =
+    moved_step c.args.v c.args.side now.slots.items now.slots.items next.slots.items 0 c.args.first s.0 (has now.naming) (has next.naming) old old new
+    c.requires.other_base c.requires.own (AreMoved-none c.args.v c.args.side now.slots.items (has now.naming) old) c.requires.places.named e.places.named (λ i le h. c.requires.first i h) s.1 (e.moved s.0 s.1) e.kept (λ n names. e.added n s.0 s.1 names) in
+    step.agree

@@ -4,11 +4,11 @@ use Rattle.std.specs.Ordering.{is_eq, nat_cmp}
 use Rattle.rt_polar.proofs.Turning.{next_turn_of, none_in, none_pending}
 use Rattle.rt_polar.proofs.putting_away.next_turn.Goals as goal
 
-pub returns-in-Some-2 : goal.returns-in-Some-2
-returns-in-Some-2 c =
-    let t = c.in-Some-2.turn in
-    next_turn_of c.in-Some.v t.existential (contains nat_cmp c.loop-v.pending) (contains nat_cmp c.pop_first.new.self) c.args.places.now.slots.items t.side t.slot (λ q. c.in-Some.ensures.updates.0 q) (λ q h. c.in-Some.ensures.least q h) c.loop-v.invariant
-    (rw c.in-Some-2.is at c.in_ok-turn.ensures)
+pub returns-in-Some-turn_of : goal.returns-in-Some-turn_of
+returns-in-Some-turn_of c =
+    let t = c.in-Some-turn_of.turn in
+    next_turn_of c.in-Some.v t.existential (contains nat_cmp c.loop-v.pending) (contains nat_cmp c.pop_first.new.self) c.args.places.now.slots.items t.slot (λ q. c.in-Some.ensures.updates.0 q) (λ q h. c.in-Some.ensures.least q h) c.loop-v.invariant
+    c.in-Some-turn_of.ensures
 
 pub returns : goal.returns
 returns c =

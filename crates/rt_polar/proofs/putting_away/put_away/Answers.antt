@@ -1,14 +1,12 @@
 use Rattle.std.proofs.Common.{◌≡◌, List, Result, Ok, Err, IfOk, sym, subst}
 use Rattle.std.specs.BTreeSet.{contains}
-use Rattle.std.specs.HashMap.{get}
 use Rattle.std.specs.Ordering.{nat_cmp}
 use Rattle.rt_lines.specs.declared.line.Line.{Line}
-use Rattle.rt_lines.specs.Equality.{line_eq}
 use Rattle.rt_rules.specs.Put.{use_of}
 use Rattle.rt_polar.specs.Places.{Holds, lines_of}
 use Rattle.rt_polar.specs.Puts.{Puts}
 use Rattle.rt_polar.specs.Tidied.{tidied}
-use Rattle.rt_polar.specs.Turns.{IsNextTurn}
+use Rattle.rt_polar.specs.Index.{has}
 use Rattle.rt_polar.proofs.Cuts.{use_has}
 use Rattle.rt_polar.proofs.Falling.{gives_falls}
 use Rattle.rt_polar.proofs.Giving.{turn_step, turns_end}
@@ -20,36 +18,36 @@ if_ok : {E : Type 0} (P : List Line → Type 0) (r : Result (List Line) E) (line
 if_ok P (Ok ls) lines p e = subst P (sym e) p
 if_ok P (Err e) lines p h = tt
 
-pub loop-pending-init : goal.loop-pending-init
-loop-pending-init c = record {
+pub loop-turn-init : goal.loop-turn-init
+loop-turn-init c = record {
   places = c.in_ok-places.ensures.places;
   pending = λ sign n z slot sole.
       c.in_ok-pending.ensures slot n (use_of sign n z) (subst (λ slots. Holds slots slot (use_of sign n z)) (sym c.deref.ensures.value) sole.holds) (use_names sign n (use_of sign n z) (use_has sign n z));
   puts = λ left p. subst (Puts left) c.in_ok-places.ensures.lines p;
 }
 
-pub loop-pending-smaller : goal.loop-pending-smaller
-loop-pending-smaller c =
+pub loop-turn-smaller : goal.loop-turn-smaller
+loop-turn-smaller c =
     let t = c.in-Some.turn in
-    let slots = c.loop-pending.places.slots.items in
-    let next : IsNextTurn t.existential t.side t.slot slots (contains nat_cmp c.next_turn.new.pending) = rw c.in-Some.is at c.in_ok-turn.ensures in
-    gives_falls t.existential t.side t.slot slots (contains nat_cmp c.next_turn.new.pending) (lines_of c.give_away.new.places.slots.items) next c.in_ok-give_away.ensures.gives
+    let slots = c.loop-turn.places.slots.items in
+    let g = c.in_ok-give_away.ensures.gives in
+    gives_falls t.existential g.0 t.slot slots (contains nat_cmp c.next_turn.new.pending) (lines_of c.give_away.new.places.slots.items) g.1 g.2
 
-pub loop-pending-preserved : goal.loop-pending-preserved
-loop-pending-preserved c =
+pub loop-turn-preserved : goal.loop-turn-preserved
+loop-turn-preserved c =
     let t = c.in-Some.turn in
-    let slots = c.loop-pending.places.slots.items in
-    let next : IsNextTurn t.existential t.side t.slot slots (contains nat_cmp c.next_turn.new.pending) = rw c.in-Some.is at c.in_ok-turn.ensures in
+    let slots = c.loop-turn.places.slots.items in
+    let g = c.in_ok-give_away.ensures.gives in
     record {
       places = c.in_ok-give_away.ensures.places;
       pending = c.in_ok-give_away.ensures.pending;
-      puts = λ left p. c.loop-pending.invariant.puts left
-          (turn_step t.existential t.side t.slot slots (get line_eq c.loop-pending.places.at) (contains nat_cmp c.next_turn.new.pending) (lines_of c.give_away.new.places.slots.items) left c.loop-pending.invariant.places.found next c.in_ok-give_away.ensures.gives p);
+      puts = λ left p. c.loop-turn.invariant.puts left
+          (turn_step t.existential g.0 t.slot slots (has c.loop-turn.places.at) (contains nat_cmp c.next_turn.new.pending) (lines_of c.give_away.new.places.slots.items) left c.loop-turn.invariant.places.found g.1 g.2 p);
     }
 
 pub returns : goal.returns
 returns c =
-    let slots = c.loop-pending.places.slots.items in
+    let slots = c.loop-turn.places.slots.items in
     if_ok (λ left. Puts left (tidied c.args.lines)) c.gathered.result (lines_of slots)
-    (c.loop-pending.invariant.puts (lines_of slots) (turns_end slots (get line_eq c.loop-pending.places.at) c.loop-pending.invariant.places.found (rw c.in_default.is at c.in_ok-turn.ensures)))
+    (c.loop-turn.invariant.puts (lines_of slots) (turns_end slots (has c.loop-turn.places.at) c.loop-turn.invariant.places.found c.in_default.ensures))
     c.gathered.ensures

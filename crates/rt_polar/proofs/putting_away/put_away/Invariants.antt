@@ -8,12 +8,12 @@ use Rattle.rt_polar.specs.Tidied.{tidied}
 use Rattle.rt_polar.proofs.Falling.{sub_count}
 use Rattle.rt_polar.proofs.putting_away.put_away.Given as goal
 
-abbrev pub invariant-loop-pending : goal.invariant-loop-pending
-invariant-loop-pending l = record {
+abbrev pub invariant-loop-turn : goal.invariant-loop-turn
+invariant-loop-turn l = record {
   places : ArePlaces l.places;
   pending : ArePending (contains nat_cmp l.pending) l.places.slots.items;
   puts : (left : List Line) → Puts left (lines_of l.places.slots.items) → Puts left (tidied l.fn.lines);
 }
 
-abbrev pub decreases-loop-pending : goal.decreases-loop-pending
-decreases-loop-pending l = sub_count (lines_of l.places.slots.items)
+abbrev pub decreases-loop-turn : goal.decreases-loop-turn
+decreases-loop-turn l = sub_count (lines_of l.places.slots.items)

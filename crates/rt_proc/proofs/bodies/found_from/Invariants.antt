@@ -7,7 +7,7 @@ use Rattle.rt_proc.proofs.bodies.found_from.Given as goal
 
 abbrev pub invariant-loop-index : goal.invariant-loop-index
 invariant-loop-index l = record {
-  walking : IsWalking (λ (p : Place). p ≡ l.own) (StepsTo l.code.object.now l.own) (λ (p : Place). Unit {0}) l.found.places.items l.index;
+  walking : IsWalking (λ (p : Place). p ≡ l.own) (StepsTo l.code.source.object.now l.code.source.ends.now l.own) (λ (p : Place). Unit {0}) l.found.places.items l.index;
   kept : HasFound l.found;
 }
 

@@ -12,5 +12,5 @@ returns-clause-same c =
     c.deref-2.ensures.value ∙ c.in_ok-extend_from_slice.ensures.items
     ∙ (λ i. c.in_ok-entries.ensures.items_if_clones_equal (λ x y e. e) i ++ c.deref.ensures.value i) in
     IfOk-weaker c.in_order.result _ _
-    (λ entries same. either c.args.code.now.object.now c.deref-2.result.now functions called entries.items (IsCalledFrom c.args.code.now.object.now c.args.reached.now) all c.in_ok-called_from_any.ensures same)
+    (λ entries same. either c.args.code.now.source.object.now c.args.code.now.source.ends.now c.deref-2.result.now functions called entries.items (IsCalledFrom c.args.code.now.source.object.now c.args.code.now.source.ends.now c.args.reached.now) all c.in_ok-called_from_any.ensures same)
     c.in_order.ensures.same

@@ -12,6 +12,6 @@ returns-clause-found c =
     record {
       name = c.in_ok-name.ensures ∙ ap (λ (o : Option (List ℕ)). unwrap_or o []) (c.requires.names c.args.own);
       rising = subst AreRising (sym same) c.in_ok-body.ensures.rising;
-      body = λ place. subst (λ (ps : List Place). Contains ps place ↔ IsInBody c.args.code.now.object.now c.args.own place) (sym same) (c.in_ok-body.ensures.found place);
+      body = λ place. subst (λ (ps : List Place). Contains ps place ↔ IsInBody c.args.code.now.source.object.now c.args.code.now.source.ends.now c.args.own place) (sym same) (c.in_ok-body.ensures.found place);
       sites = c.in_ok-sites.ensures.found;
     }

@@ -16,19 +16,19 @@ proc_at-requires-clause-entry c =
 pub returns-in_err-proc_at-clause-bad : goal.returns-in_err-proc_at-clause-bad
 returns-in_err-proc_at-clause-bad c =
     let fault : CodeFault = c.in_err-proc_at.field-0.0 in
-    let first : IsFaultOf c.args.code.now.object.now fault =
-    first-body c.args.code.now.object.now c.args.entries.now c.requires.entries c.loop-entry.entry-index _ fault c.requires.symbols c.loop-entry-test.true c.loop-entry.invariant.sound c.in_err-proc_at.ensures.bad in
+    let first : IsFaultOf c.args.code.now.source.object.now c.args.code.now.source.ends.now fault =
+    first-body c.args.code.now.source.object.now c.args.code.now.source.ends.now c.args.entries.now c.requires.entries c.loop-entry.entry-index _ fault c.requires.symbols c.loop-entry-test.true c.loop-entry.invariant.sound c.in_err-proc_at.ensures.bad in
     search rules
 
 pub loop-entry-preserved : goal.loop-entry-preserved
 loop-entry-preserved c =
-    first-more c.args.code.now.object.now c.args.entries.now c.requires.entries c.loop-entry.entry-index _ c.loop-entry.procs c.push.new.self c.in_ok-proc_at.field-0
+    first-more c.args.code.now.source.object.now c.args.code.now.source.ends.now c.args.entries.now c.requires.entries c.loop-entry.entry-index _ c.loop-entry.procs c.push.new.self c.in_ok-proc_at.field-0
     c.loop-entry-test.true c.in_ok-push.ensures.ok c.in_ok-proc_at.ensures.entry c.in_ok-proc_at.ensures.found c.in_ok-proc_at.ensures.sound c.loop-entry.invariant
 
 pub returns-clause-none : goal.returns-clause-none
 returns-clause-none c =
-    no-faults c.args.code.now.object.now c.args.entries.now c.requires.entries c.loop-entry.entry-index c.loop-entry.procs c.loop-entry-test.false c.loop-entry.invariant c.requires.symbols
+    no-faults c.args.code.now.source.object.now c.args.code.now.source.ends.now c.args.entries.now c.requires.entries c.loop-entry.entry-index c.loop-entry.procs c.loop-entry-test.false c.loop-entry.invariant c.requires.symbols
 
 pub returns-clause-found : goal.returns-clause-found
 returns-clause-found c =
-    are_procs c.args.code.now.object.now c.args.entries.now c.requires.entries c.loop-entry.entry-index c.loop-entry.procs c.loop-entry-test.false c.loop-entry.invariant
+    are_procs c.args.code.now.source.object.now c.args.code.now.source.ends.now c.args.entries.now c.requires.entries c.loop-entry.entry-index c.loop-entry.procs c.loop-entry-test.false c.loop-entry.invariant

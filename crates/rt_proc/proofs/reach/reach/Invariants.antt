@@ -8,8 +8,8 @@ use Rattle.rt_proc.proofs.reach.reach.Given as goal
 
 abbrev pub invariant-loop-index : goal.invariant-loop-index
 invariant-loop-index l = record {
-  walking : IsWalking (IsFunction l.object) (LeadsTo l.object) (IsGood l.object) l.found.places.items l.index;
-  looks : AreLooksAt l.object l.looks (take l.index l.found.places.items);
+  walking : IsWalking (IsFunction l.source.object.now) (LeadsTo l.source.object.now l.source.ends.now) (IsGood l.source.object.now) l.found.places.items l.index;
+  looks : AreLooksAt l.source.object.now l.source.ends.now l.looks (take l.index l.found.places.items);
   kept : HasFound l.found;
 }
 

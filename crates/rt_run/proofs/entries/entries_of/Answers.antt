@@ -7,7 +7,7 @@ use Rattle.rt_run.proofs.entries.entries_of.Goals as goal
 pub loop-place-init : goal.loop-place-init
 loop-place-init c =
     subst (λ entries. AreBegun c.args.content c.args.analysis.now 0 entries c.in_ok-lists.lists.items) (sym c.new-entries.ensures)
-    (begun_none c.args.content c.args.analysis.now c.in_ok-lists.lists.items c.in_ok-lists.ensures.long c.in_ok-lists.ensures.lists)
+    (begun_none c.args.content c.args.analysis.now c.in_ok-lists.lists.items c.in_ok-lists.ensures.long c.in_ok-lists.ensures.lists c.in_ok-lists.ensures.full)
 
 pub loop-place-preserved : goal.loop-place-preserved
 loop-place-preserved c =

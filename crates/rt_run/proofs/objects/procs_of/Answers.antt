@@ -4,7 +4,6 @@ use Rattle.rt_run.proofs.objects.procs_of.Goals as goal
 
 pub returns-in-Err-Bad-clause-refused : goal.returns-in-Err-Bad-clause-refused
 returns-in-Err-Bad-clause-refused c = (
-  c.args.object.now,
-  c.requires.is_linked,
-  subst (IsFaultOf c.args.object.now) c.in-Err-Bad.field-0-is c.in-Err-Bad.ensures.bad,
+  c.requires.linked,
+  subst (IsFaultOf c.args.object.now c.args.ends.now) c.in-Err-Bad.field-0-is c.in-Err-Bad.ensures.bad,
 )

@@ -13,8 +13,8 @@ globals_of-requires c =
 
 pub returns : goal.returns
 returns c =
-    right_text c.args.content c.args.object.now.bytes c.args.object.now c.args.procs.now c.args.lattice.now c.args.sigs.now c.names.result.now c.in_ok-analysis.analysis
+    right_text c.args.content c.args.program.now.object c.args.program.now.procs c.args.lattice.now c.args.sigs.now c.names.result.now c.in_ok-analysis.analysis
     (record { globals = c.in_ok-globals.globals; entries = c.in_ok-entries.entries }) (λ text. text.items) c.print_report.result
-    c.requires.is_analysed c.in_ok-analysis.ensures.is_analysis c.in_ok-analysis.ensures.object c.in_ok-analysis.ensures.procs c.in_ok-analysis.ensures.signatures c.in_ok-analysis.ensures.lattice
-    c.in_ok-entries.ensures.entries (subst (λ entries. AreGlobals c.args.object.now entries c.in_ok-globals.globals) c.items.ensures c.in_ok-globals.ensures)
+    c.requires.in_profile c.in_ok-analysis.ensures.is_analysis c.in_ok-analysis.ensures.object c.in_ok-analysis.ensures.procs c.in_ok-analysis.ensures.signatures c.in_ok-analysis.ensures.lattice
+    c.in_ok-entries.ensures.entries (subst (λ entries. AreGlobals c.args.program.now.object entries c.in_ok-globals.globals) c.items.ensures c.in_ok-globals.ensures)
     c.names.ensures.names c.print_report.ensures

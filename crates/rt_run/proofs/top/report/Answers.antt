@@ -1,4 +1,4 @@
-use Rattle.std.proofs.Common.{◌∙◌, arith, option_copied, refl}
+use Rattle.std.proofs.Common.{[], ◌∷◌, ◌∙◌, arith, option_copied, refl}
 use Rattle.rt_run.specs.Words.{Command, Report}
 use Rattle.rt_run.specs.Meant.{options_of}
 use Rattle.rt_run.specs.Status.{AreInputs, IsInputRefused}
@@ -25,10 +25,10 @@ returns-in-Err-content_of g c =
     are_inputs command (g.F.Files.content c.args.files.now) (g.F.Files.content c.lattice_for.new.files) c.in-Ok.lattice c.names.result.now c.in-Ok-signatures_for.sigs
     c.in-Ok.ensures.same c.names.ensures.names c.in-Ok.ensures.lattice c.in-Ok-signatures_for.ensures.signatures in
     stops_at_input command (g.F.Files.content c.args.files.now) (g.F.Files.content c.signatures_for.new.files)
-    (g.F.Files.faults c.args.files.now) (g.F.Files.faults c.signatures_for.new.files) (g.F.Files.faults c.content_of.new.files) c.in-Ok.lattice c.in-Ok-signatures_for.sigs c.in-Err-content_of.stop
-    (λ n. c.in-Ok-signatures_for.ensures.same n ∙ c.in-Ok.ensures.same n) (λ n. omega (arith, c.in-Ok-signatures_for.ensures.counted n, c.in-Ok.ensures.counted n)) inputs
-    (stops_with _ (IsInputRefused command c.in-Ok.lattice) (g.F.Files.content c.signatures_for.new.files) (g.F.Files.faults c.signatures_for.new.files) (g.F.Files.faults c.content_of.new.files) c.args.object.now
-    c.in-Err-content_of.stop object_too_large c.in-Err-content_of.ensures.stopped)
+    (g.F.Files.faults c.args.files.now) (g.F.Files.faults c.signatures_for.new.files) (g.F.Files.faults c.content_of.new.files) c.in-Ok.lattice c.in-Ok-signatures_for.sigs c.args.object.now
+    c.in-Err-content_of.stop refl (λ n. c.in-Ok-signatures_for.ensures.same n ∙ c.in-Ok.ensures.same n) (λ n. omega (arith, c.in-Ok-signatures_for.ensures.counted n, c.in-Ok.ensures.counted n)) inputs
+    (stops_with _ (λ bytes. IsInputRefused command c.in-Ok.lattice c.in-Ok-signatures_for.sigs (bytes ∷ [])) (g.F.Files.content c.signatures_for.new.files) (g.F.Files.faults c.signatures_for.new.files) (g.F.Files.faults c.content_of.new.files) c.args.object.now
+    c.in-Err-content_of.stop (object_too_large c.in-Ok-signatures_for.sigs) c.in-Err-content_of.ensures.stopped)
 
 pub returns : goal.returns
 returns g c =
@@ -37,5 +37,5 @@ returns g c =
     are_inputs command (g.F.Files.content c.args.files.now) (g.F.Files.content c.lattice_for.new.files) c.in-Ok.lattice c.names.result.now c.in-Ok-signatures_for.sigs
     c.in-Ok.ensures.same c.names.ensures.names c.in-Ok.ensures.lattice c.in-Ok-signatures_for.ensures.signatures in
     stops_for command (g.F.Files.content c.args.files.now) (g.F.Files.content c.signatures_for.new.files) (g.F.Files.faults c.args.files.now) (g.F.Files.faults c.content_of.new.files)
-    c.in-Ok.lattice c.in-Ok-signatures_for.sigs c.in-Ok-content_of.bytes.items c.as_slice.result.now c.in-Err-report_text.why c.stop_of.result
-    (λ n. c.in-Ok-signatures_for.ensures.same n ∙ c.in-Ok.ensures.same n) inputs c.in-Ok-content_of.ensures.found c.as_slice.ensures.value c.in-Err-report_text.ensures.refused c.stop_of.ensures
+    c.in-Ok.lattice c.in-Ok-signatures_for.sigs c.args.object.now c.in-Ok-content_of.bytes.items c.as_slice.result.now c.in-Err-report_text.why c.stop_of.result
+    refl (λ n. c.in-Ok-signatures_for.ensures.same n ∙ c.in-Ok.ensures.same n) inputs c.in-Ok-content_of.ensures.found c.as_slice.ensures.value c.in-Err-report_text.ensures.refused c.stop_of.ensures

@@ -1,4 +1,4 @@
-use Rattle.std.proofs.Common.{get_or, subst}
+use Rattle.std.proofs.Common.{◌<◌, length, get_or, subst, arith}
 use Rattle.std.proofs.lemmas.List.Elements.{Contains-get_or}
 use Rattle.rt_sat.specs.Searches.{IsOffered}
 use Rattle.rt_sat.proofs.Searching.{follows_other, follows_edge, differ, agree}
@@ -24,3 +24,8 @@ loop-index-preserved c =
     (agree edge.from c.args.state c.ne.result c.ne.ensures c.if-ne.false)
     (subst (IsOffered c.loop-index.found.entries c.offer.new.found.entries c.loop-index.next.items c.offer.new.next.items edge.to) c.in_ok-sum.ensures c.in_ok-offer.ensures)
     c.loop-index.invariant
+
+pub offset_bounds-edges-index : goal.offset_bounds-edges-index
+offset_bounds-edges-index c =
+    let within : get_or c.args.leaving.now c.loop-index.index-index 0 < length c.args.edges.now = c.requires (get_or c.args.leaving.now c.loop-index.index-index 0) (Contains-get_or c.args.leaving.now c.loop-index.index-index 0 c.loop-index-test.true) in
+    omega arith

@@ -10,4 +10,4 @@ returns-clause-passed c =
     let words = c.deref.result.now in
     subst (All IsPassed) (sym c.in_ok-push_words.ensures)
     (All-append IsPassed c.in_ok-labels.labels.items (stack_arguments words)
-    (subst (All IsPassed) (sym c.in_ok-labels.ensures) (registers-passed c.args.ports.now)) (words-passed words))
+    (subst (All IsPassed) (sym c.in_ok-labels.ensures) (registers-passed c.args.ports.now c.args.covered)) (words-passed words))

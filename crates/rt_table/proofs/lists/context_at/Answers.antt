@@ -1,4 +1,4 @@
-use Rattle.std.proofs.Common.{◌≡◌, ◌<◌, ◌∙◌, ap, get_or, length, refl, sym, subst, arith}
+use Rattle.std.proofs.Common.{◌≡◌, ◌<◌, ◌∙◌, [], ap, get_or, length, refl, sym, subst, arith}
 use Rattle.std.specs.Prelude.{All}
 use Rattle.std.proofs.lemmas.List.{length-map}
 use Rattle.rt_body.specs.Told.{reading_of, sites_in}
@@ -13,12 +13,11 @@ invariant_of-result c =
     let facts = c.args.outside.facts.now in
     let bodies : length facts.bodies.items ≡ length facts.procs.now = sym (length-map facts.bodies.items reading_of) ∙ c.requires.facts.are_known.is_program.one_each in
     let less : c.args.number < length facts.bodies.items = omega (arith, c.requires.within) in
-    let calls = c.items-calls.ensures ∙ c.index-items-place.is ∙ ap (λ all. get_or all c.args.number c.index-items-place.result) c.items.ensures in
     record {
       of_one = maps-at (λ (framed : Framed). frame_sites framed.frame) sites_in facts.frames.items facts.bodies.items c.args.number c.index-framed.result.now c.index-body.result.now
           facts.of_one (omega (arith, facts.bodies_each)) less c.index-framed.ensures c.index-body.ensures;
-      registers = subst (All (All HasCallRegister)) (sym calls)
-          (facts.registers c.args.number c.index-items-place.result (omega (arith, facts.bodies_each, facts.calls_each)));
+      registers = subst (All (All HasCallRegister)) (sym c.requires.calls) (facts.registers c.args.number [] (omega (arith, facts.bodies_each, facts.calls_each)));
+      results = c.requires.named;
     }
 
 pub returns-clause-is : goal.returns-clause-is
@@ -26,12 +25,11 @@ returns-clause-is c =
     let facts = c.args.outside.facts.now in
     let bodies : length facts.bodies.items ≡ length facts.procs.now = sym (length-map facts.bodies.items reading_of) ∙ c.requires.facts.are_known.is_program.one_each in
     let less : c.args.number < length facts.bodies.items = omega (arith, c.requires.within) in
-    let calls = c.items-calls.ensures ∙ c.index-items-place.is ∙ ap (λ all. get_or all c.args.number c.index-items-place.result) c.items.ensures in
     record {
       procedure = refl;
-      knowledge = known_by c.index-body.result.now c.items-calls.result.now c.index-framed.result.now;
-      is_known = knowledge-here facts.bodies.items facts.calls facts.frames.items c.args.number c.index-body.result.now c.items-calls.result.now c.index-items-place.result
-          c.index-framed.result.now less (facts.calls_each ∙ sym facts.bodies_each) (sym facts.bodies_each) c.index-body.ensures calls c.index-framed.ensures;
+      knowledge = known_by c.index-body.result.now c.args.calls.now c.index-framed.result.now;
+      is_known = knowledge-here facts.bodies.items facts.calls facts.frames.items c.args.number c.index-body.result.now c.args.calls.now []
+          c.index-framed.result.now less (facts.calls_each ∙ sym facts.bodies_each) (sym facts.bodies_each) c.index-body.ensures c.requires.calls c.index-framed.ensures;
       reading = refl;
       frame = refl;
       linked = refl;

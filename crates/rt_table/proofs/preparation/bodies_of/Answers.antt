@@ -13,7 +13,7 @@ read-requires-clause-readable c =
     let i = c.loop-proc.proc-index in
     let proc = c.proc-item.result in
     subst IsReadable (sym (c.proc-item.is ∙ ap (λ procs. get_or procs i proc) c.items-proc-items.ensures))
-    (c.procs.ensures c.args.object.now c.args.procs.now c.relocs-relocs.ensures.sound.linkable c.requires.procs i proc (omega (arith, ap length c.items-proc-items.ensures)))
+    (c.requires.readable i proc (omega (arith, ap length c.items-proc-items.ensures)))
 
 pub loop-proc-preserved : goal.loop-proc-preserved
 loop-proc-preserved c = record {

@@ -2,6 +2,7 @@ use Rattle.std.proofs.Common.{◌≡◌, ◌∙◌, List, refl, sym, subst}
 use Rattle.rt_body.specs.declared.body.Body.{Body}
 use Rattle.rt_body.specs.Told.{sites_in}
 use Rattle.rt_liveness.specs.Calls.{AreCallsOf}
+use Rattle.rt_liveness.specs.Ends.{ends_of}
 use Rattle.rt_liveness.specs.Programs.{IsProgram}
 use Rattle.rt_liveness.specs.Told.{program_of}
 use Rattle.rt_frame.specs.Told.{frame_sites}
@@ -10,6 +11,10 @@ use Rattle.rt_table.specs.Framing.{AreFramed}
 use Rattle.rt_table.specs.Registers.{HaveRegisters}
 use Rattle.rt_table.proofs.Framings.{are-known, maps-same, readings-program}
 use Rattle.rt_table.proofs.preparation.prepare.Goals as goal
+
+pub bodies_of-requires-clause-readable : goal.bodies_of-requires-clause-readable
+bodies_of-requires-clause-readable c =
+    c.procs.ensures c.args.object.now (ends_of c.args.object.now c.args.sigs.now) c.args.procs.now c.relocs-relocs.ensures.sound.linkable c.requires.procs
 
 pub calls_of-requires-clause-program : goal.calls_of-requires-clause-program
 calls_of-requires-clause-program c =

@@ -32,4 +32,5 @@ returns c =
     let of = rw (c.items.ensures, c.items-2.ensures) at c.in_ok-reach.ensures.of in
     let told = rw (c.items.ensures, c.items-2.ensures) at c.in_ok-reach.ensures.told in
     let same = rw c.items-3.ensures at c.in_ok-ops.ensures.same in
-    is_reading actions c.in_ok-actions.entry c.in_ok-actions.edges c.args.object.now c.args.proc.now c.in_ok-reach.reach c.in_ok-ops.ops c.in_ok-values.values c.in_ok-actions.ensures.parts of told same c.in_ok-values.ensures
+    let rest = rw c.items-3.ensures at c.in_ok-ops.ensures.rest in
+    is_reading _ c.args.object.now c.args.proc.now c.in_ok-ops.ops c.in_ok-actions.ensures.parts of told same rest c.in_ok-values.ensures

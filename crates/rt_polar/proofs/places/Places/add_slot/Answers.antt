@@ -1,6 +1,4 @@
 use Rattle.std.proofs.Common.{sym, subst}
-use Rattle.std.specs.HashMap.{get}
-use Rattle.rt_lines.specs.Equality.{line_eq}
 use Rattle.rt_polar.specs.Index.{has}
 use Rattle.rt_polar.specs.Places.{AreHeld}
 use Rattle.rt_polar.proofs.Placing.{held_pushed}
@@ -9,5 +7,5 @@ use Rattle.rt_polar.proofs.places.Places.add_slot.Goals as goal
 pub returns-clause-places : goal.returns-clause-places
 returns-clause-places c =
     let old = c.args.self.now in
-    subst (λ items. AreHeld items (get line_eq old.at) (has old.naming) (has old.defining) (has old.consuming)) (sym c.in_ok-push.ensures.items)
-    (held_pushed old.slots.items (get line_eq old.at) (has old.naming) (has old.defining) (has old.consuming) c.requires)
+    subst (λ items. AreHeld items (has old.at) (has old.naming) (has old.defining) (has old.consuming)) (sym c.in_ok-push.ensures.items)
+    (held_pushed old.slots.items (has old.at) (has old.naming) (has old.defining) (has old.consuming) c.requires)

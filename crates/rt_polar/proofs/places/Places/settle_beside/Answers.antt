@@ -1,17 +1,16 @@
-use Rattle.std.proofs.Common.{◌≡◌, ◌≢◌, ℕ, ◌<◌, ◌≤◌, List, Option, Some, None, get_or, refl, sym, ap, subst, ◌∙◌, arith}
+use Rattle.std.proofs.Common.{◌≡◌, ◌≢◌, ℕ, ◌<◌, ◌≤◌, List, Bool, Option, Some, None, get_or, refl, sym, ap, subst, ◌∙◌, arith}
 use Rattle.std.proofs.Math.ListN.{set}
-use Rattle.std.specs.HashMap.{get}
 use Rattle.indexmap.proofs.MapLemmas.{OnOk-map}
 use Rattle.rt_lines.specs.declared.line.Line.{Line}
-use Rattle.rt_lines.specs.Equality.{line_eq}
 use Rattle.rt_polar.specs.Places.{Holds, IsFound, Settles}
 use Rattle.rt_polar.specs.Places.Settles.{stands_before, moves}
+use Rattle.rt_polar.specs.Index.{has}
 use Rattle.rt_polar.proofs.Slots.{cleared_source}
 use Rattle.rt_polar.proofs.Soles.{one_slot}
 use Rattle.rt_polar.proofs.places.Places.settle_beside.Goals as goal
 
 -- the cleared slot alone held the line
-absent : (slots : List (Option Line)) (at : Line → Option ℕ) (other : ℕ) (l : Line) → IsFound slots at → Holds slots other l → (i : ℕ) → Holds (set slots other None) i l → ⊥
+absent : (slots : List (Option Line)) (at : ℕ → ℕ → Bool) (other : ℕ) (l : Line) → IsFound slots at → Holds slots other l → (i : ℕ) → Holds (set slots other None) i l → ⊥
 absent slots at other l found held i h = let s = cleared_source slots other i l h in s.0 (one_slot slots at found i other l s.1 held)
 
 -- an empty slot is not the one that holds the line
@@ -26,11 +25,11 @@ returns-then-other-slot-clause-settles c = stands_before c.args.other c.if-other
 
 pub fill-requires-clause-absent : goal.fill-requires-clause-absent
 fill-requires-clause-absent c = λ i h.
-    absent c.args.self.now.slots.items (get line_eq c.args.self.now.at) c.args.other c.args.line c.requires.places.found c.requires.held i (subst (λ slots. Holds slots i c.args.line) c.clear.ensures.slots h)
+    absent c.args.self.now.slots.items (has c.args.self.now.at) c.args.other c.args.row c.requires.places.found c.requires.held i (subst (λ slots. Holds slots i c.args.row) c.clear.ensures.slots h)
 
 pub returns-clause-settles : goal.returns-clause-settles
 returns-clause-settles c =
     let slots = c.args.self.now.slots.items in
-    OnOk-map c.fill.result (c.fill.new.self.slots.items ≡ set c.clear.new.self.slots.items c.args.slot (Some c.args.line)) (Settles slots c.args.slot c.args.line c.fill.new.self.slots.items)
-    (λ e. moves c.args.other (behind slots c.args.other c.args.slot c.args.line c.requires.held c.requires.empty c.if-other-slot.false) c.requires.held (e ∙ ap (λ s. set s c.args.slot (Some c.args.line)) c.clear.ensures.slots))
+    OnOk-map c.fill.result (c.fill.new.self.slots.items ≡ set c.clear.new.self.slots.items c.args.slot (Some c.args.row)) (Settles slots c.args.slot c.args.row c.fill.new.self.slots.items)
+    (λ e. moves c.args.other (behind slots c.args.other c.args.slot c.args.row c.requires.held c.requires.empty c.if-other-slot.false) c.requires.held (e ∙ ap (λ s. set s c.args.slot (Some c.args.row)) c.clear.ensures.slots))
     c.fill.ensures.slots

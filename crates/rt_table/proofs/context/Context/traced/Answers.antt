@@ -1,7 +1,11 @@
 use Rattle.std.proofs.Common.{◌≡◌, ◌∙◌, sym, true}
 use Rattle.std.proofs.lemmas.Result.{IfOk-weaker}
-use Rattle.rt_table.proofs.Tracing.{outcome-first, outcome-none}
+use Rattle.rt_table.proofs.Tracing.{named-one, outcome-first, outcome-none}
 use Rattle.rt_table.proofs.context.Context.traced.Goals as goal
+
+pub traced_call-requires-clause-named : goal.traced_call-requires-clause-named
+traced_call-requires-clause-named c =
+    c.named_at.ensures ∙ named-one c.args.self.now c.args.site c.calls_at.result.now c.in-Some.call.now c.calls_at.ensures.calls (sym c.in-Some.ensures.value)
 
 pub returns-in-Some : goal.returns-in-Some
 returns-in-Some c =

@@ -1,0 +1,5 @@
+pub mod Places
+pub mod Leaving
+pub mod Firsts
+pub mod Keys
+pub mod Falling

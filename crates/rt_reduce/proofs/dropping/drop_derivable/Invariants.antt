@@ -1,0 +1,16 @@
+use Rattle.std.proofs.Common.{◌≤◌, All, length}
+use Rattle.rt_lines.specs.Lines.{HasConstantsBelow}
+use Rattle.rt_lines.specs.OrderFacts.{IsOrder}
+use Rattle.rt_reduce.proofs.Leaving.{AreLeft}
+use Rattle.rt_reduce.proofs.dropping.drop_derivable.Given as goal
+
+abbrev pub invariant-loop-place : goal.invariant-loop-place
+invariant-loop-place l = record {
+  within : l.place ≤ length l.left.items;
+  inside : l.place ≤ length l.lines;
+  constants : All (HasConstantsBelow l.order.count) l.left.items;
+  are_left : IsOrder l.order → AreLeft l.order l.lines l.place l.left.items;
+}
+
+abbrev pub decreases-loop-place : goal.decreases-loop-place
+decreases-loop-place l = l.place

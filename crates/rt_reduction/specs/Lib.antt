@@ -1,0 +1,9 @@
+pub mod Before
+pub mod Drops
+pub mod Twins
+pub mod Simplifies
+pub mod Merges
+pub mod Emits
+pub mod Rounds
+pub mod Constants
+pub mod Laws

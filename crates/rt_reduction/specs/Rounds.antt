@@ -1,0 +1,51 @@
+-- Rounds of what reduces lines, until nothing is left to do.
+use Rattle.std.specs.Prelude.{ℕ, ◌<◌, ◌⊎◌, List, [], Contains}
+use Rattle.rt_lines.specs.declared.label.Variance.{Variance}
+use Rattle.rt_lines.specs.declared.label.Variance.TheVariants.{Co, Contra}
+use Rattle.rt_lines.specs.declared.variable.Base.TheVariants.{Exist}
+use Rattle.rt_lines.specs.declared.line.Line.{Line}
+use Rattle.rt_lines.specs.Orders.{Below}
+use Rattle.rt_rules.specs.Laws.{NamesBase}
+use Rattle.rt_rules.specs.Put.{HasUse}
+use Rattle.rt_polar.specs.Polar.{HasCandidate}
+use Rattle.rt_polar.specs.Tidied.{tidied}
+use Rattle.rt_reduction.specs.Drops.{Drops}
+use Rattle.rt_reduction.specs.Emits.{IsAnchored, IsEmitted}
+use Rattle.rt_reduction.specs.Merges.{Merges}
+use Rattle.rt_reduction.specs.Simplifies.{HasNoTwins, Simplifies}
+use Rattle.rt_reduction.specs.Twins.{AreTwins}
+
+-- one round: places are given away, the shape is written anew, equals become one, and what the other lines derive is dropped
+pub record IsRound (order : Below) (lines after : List Line) : Type 0 where
+  pub simple : List Line
+  pub emitted : List Line
+  pub merged : List Line
+  pub is_simple : Simplifies simple lines
+  pub is_emitted : IsEmitted order simple emitted
+  pub is_merged : Merges order merged emitted
+  pub is_dropped : Drops order [] merged after
+
+-- nothing is left for another round
+pub record IsDone (lines : List Line) : Type 0 where
+  pub no_candidate : (n : ℕ) → HasCandidate n lines → ⊥
+  pub no_twins : HasNoTwins Co lines × HasNoTwins Contra lines
+  pub used : (n : ℕ) → NamesBase lines (Exist n) → (l : Line) × Contains lines l × (HasUse Co n l ⊎ HasUse Contra n l)
+  pub joined : (n : ℕ) → NamesBase lines (Exist n) → IsAnchored lines (Exist n)
+
+-- something is left for another round
+pub data IsUnfinished (lines : List Line) : Type 0 where
+  of_candidate : (n : ℕ) → HasCandidate n lines → IsUnfinished lines
+  of_twins : (sign : Variance) (v w : ℕ) → v < w → AreTwins sign lines v w → IsUnfinished lines
+  of_unused : (n : ℕ) → NamesBase lines (Exist n) → ((l : Line) → Contains lines l → HasUse Co n l ⊎ HasUse Contra n l → ⊥) →
+      IsUnfinished lines
+  of_unjoined : (n : ℕ) → NamesBase lines (Exist n) → (IsAnchored lines (Exist n) → ⊥) → IsUnfinished lines
+
+-- rounds until nothing is left
+pub data Reduces (order : Below) (reduced : List Line) : List Line → Type 0 where
+  done : (lines : List Line) → IsRound order lines reduced → IsDone reduced → Reduces order reduced lines
+  again : (lines between : List Line) → IsRound order lines between → (IsDone between → ⊥) → Reduces order reduced between →
+      Reduces order reduced lines
+
+-- The reduced form of lines, as they are left by the rounds: existentials have the numbers that they had, and lines the places.
+abbrev pub IsReducedForm : Below → List Line → List Line → Type 0
+IsReducedForm order lines form = Reduces order form (tidied lines)

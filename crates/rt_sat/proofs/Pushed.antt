@@ -1,0 +1,180 @@
+-- Edges more, and what is pushed to children.
+use Rattle.std.proofs.Common.{◌≡◌, ℕ, ◌<◌, ◌≤◌, ◌⊎◌, inl, inr, Bool, true, false, List, [], length, get_or, Contains, refl, sym, ap, subst, ◌∙◌, arith}
+use Rattle.rt_lines.specs.declared.label.Label.{Label}
+use Rattle.rt_lines.specs.declared.label.Variance.{Variance}
+use Rattle.rt_lines.specs.declared.label.Variance.TheVariants.{Co, Contra}
+use Rattle.rt_lines.specs.declared.variable.Base.{Base}
+use Rattle.rt_lines.specs.declared.variable.Dtv.{Dtv}
+use Rattle.rt_lines.specs.Words.{label_variance, times}
+use Rattle.rt_rules.specs.Rules.{longer}
+use Rattle.rt_bridge.specs.Growing.{Var, at, dot, dv, vd}
+use Rattle.rt_bridge.proofs.Growing.{dv-vd, vd-longer}
+use Rattle.rt_sat.specs.declared.state.State.{State}
+use Rattle.rt_sat.specs.declared.state.Edge.{Edge}
+use Rattle.rt_sat.specs.Numbered.{sign_of, is_contra, at_number, AreDistinct}
+use Rattle.rt_sat.specs.Pushes.{IsChildOf, AreChildren, PushBy, IsPushed, IsPushedTo, IsPushedOn, IsDoneAt, IsDoneTo, IsDoneOn, IsGrown, IsClosedFrom, flip_at}
+use Rattle.rt_sat.specs.Searches.{state_eq, IsKnown, IsWithin, IsSearch}
+use Rattle.rt_sat.proofs.Searching.{state_equal}
+use Rattle.std.specs.Prelude.{slice_get, Option, Some}
+use Rattle.std.proofs.lemmas.Option.{slice_get_within}
+use Rattle.std.proofs.lemmas.List.{get_or_default}
+use Rattle.std.proofs.lemmas.Map.Entries.{place_from_lookup}
+use Rattle.rt_sat.proofs.Numbered.{sign_contra, contra_sign, sign_one, number_one}
+
+pub grown_more : (P Q R : Edge → Type 0) (a b c : List Edge) → ((e : Edge) → P e → R e) → ((e : Edge) → Q e → R e) → IsGrown P a b → IsGrown Q b c → IsGrown R a c
+grown_more P Q R a b c f g p q = record {
+  only = λ e h. (elim (q.only e h) [
+    | inl i ↦ elim (p.only e i) [ inl j ↦ inl j | inr j ↦ inr (f e j) ]
+    | inr i ↦ inr (g e i)
+  ]);
+  kept = λ h. p.kept (q.kept h);
+}
+
+pub grown_none : (P : Edge → Type 0) (a : List Edge) → IsGrown P a a
+grown_none P a = record { only = λ e h. inl h; kept = λ h. h }
+
+pub grown_as : (P R : Edge → Type 0) (a b : List Edge) → ((e : Edge) → P e → R e) → IsGrown P a b → IsGrown R a b
+grown_as P R a b f p = record { only = λ e h. (elim (p.only e h) [ inl i ↦ inl i | inr i ↦ inr (f e i) ]); kept = p.kept }
+
+pub last_letter : (x y : Dtv) (l m : Label) → longer x l ≡ longer y m → (x ≡ y) × (l ≡ m)
+last_letter x y l m e =
+    let h : dot (vd x) l ≡ dot (vd y) m = sym (vd-longer x l) ∙ ap vd e ∙ vd-longer y m in
+    let p : vd x ≡ vd y = cc in
+    let q : l ≡ m = cc in
+    (sym (dv-vd x) ∙ ap (λ (z : Var). dv z) p ∙ dv-vd y, q)
+
+pub no_base : (x : Dtv) (l : Label) (b : Base) → longer x l ≡ record { base = b; word = [] } → ⊥
+no_base x l b e = let h : dot (vd x) l ≡ at b = sym (vd-longer x l) ∙ ap vd e in cc
+
+pub times_twice : (s v : Variance) → times s (times s v) ≡ v
+times_twice Co v = refl
+times_twice Contra Co = refl
+times_twice Contra Contra = refl
+
+-- what a letter says of the sign of a child
+pub sign_child : (s : Variance) (child parent : Bool) → times s (sign_of child) ≡ sign_of parent → child ≡ is_contra (times s (sign_of parent))
+sign_child s child parent e = sym (contra_sign child) ∙ ap is_contra (sym (times_twice s (sign_of child)) ∙ ap (times s) e)
+
+pub child_sign : (s : Variance) (parent : Bool) → times s (sign_of (is_contra (times s (sign_of parent)))) ≡ sign_of parent
+child_sign s parent = ap (times s) (sign_contra (times s (sign_of parent))) ∙ times_twice s (sign_of parent)
+
+-- a variable is the child of one alone, by one letter
+pub parent_one : (known : List Dtv) → AreDistinct known → (child parent : State) (l : Label) (v : ℕ) (m : Label) → v < length known → at_number known child.variable ≡ longer (at_number known v) m → IsChildOf known child parent l → (parent.variable ≡ v) × (l ≡ m)
+parent_one known apart child parent l v m h e c =
+    let p : (at_number known parent.variable ≡ at_number known v) × (l ≡ m) = last_letter (at_number known parent.variable) (at_number known v) l m (sym c.is ∙ e) in
+    (number_one known apart parent.variable v c.above h p.0, p.1)
+
+pub push_less : (flip : Bool) (l m : Label) (d n : ℕ) (a b : Variance) (k : ℕ) → n ≤ d → PushBy flip l m d a b k → (j : ℕ) × PushBy flip l m n a b j × (j ≤ k)
+push_less flip l m d n a b k h (inl p) = (k, inl (record { flips = p.flips; left = p.left; right = p.right; enough = omega (arith, p.enough); parity = p.parity }), omega arith)
+push_less flip l m d n a b k h (inr p) = (n, inr (p.0, refl), omega (arith, p.1))
+
+pub child_of : (known : List Dtv) (child other : State) (parent : ℕ) (m : Label) → child.variable < length known → parent < child.variable → at_number known child.variable ≡ longer (at_number known parent) m → parent ≡ other.variable →
+    child.contra ≡ is_contra (times (label_variance m) (sign_of other.contra)) → IsChildOf known child other m
+child_of known child other parent m h less e f s = record {
+  within = h;
+  above = omega (arith, less, f, h);
+  is = e ∙ ap (λ n. longer (at_number known n) m) f;
+  sign = ap (λ b. times (label_variance m) (sign_of b)) s ∙ child_sign (label_variance m) other.contra;
+}
+
+-- a parent's child of one number is one state
+pub child_one : (known : List Dtv) → AreDistinct known → (end target other : State) (m l : Label) → end.variable ≡ target.variable → IsChildOf known target other l → IsChildOf known end other m → (target ≡ end) × (l ≡ m)
+child_one known apart end target other m l e c d =
+    let f : at_number known end.variable ≡ longer (at_number known other.variable) l = ap (at_number known) e ∙ c.is in
+    let p : (other.variable ≡ other.variable) × (m ≡ l) = parent_one known apart end other m other.variable l c.above f d in
+    let s : end.contra ≡ target.contra = sign_child (label_variance m) end.contra other.contra d.sign ∙ ap (λ (k : Label). is_contra (times (label_variance k) (sign_of other.contra))) p.1 ∙ sym (sign_child (label_variance l) target.contra other.contra c.sign) in
+    (λ i. record { variable = sym e i; contra = sym s i }, sym p.1)
+
+module _ (known : List Dtv) (flip : Bool) (first : Label) (source other : State) (count : ℕ) (found : List (State × ℕ)) where
+  pub child_grown : (target : State) (second : Label) (old new : List Edge) → IsChildOf known target other second →
+      IsGrown (λ (e : Edge). (e.from ≡ source) × (e.to ≡ target) × PushBy flip first second count (sign_of source.contra) (sign_of target.contra) e.count) old new →
+      IsGrown (λ (e : Edge). (e.from ≡ source) × IsPushedTo known flip first other count (sign_of source.contra) e.to e.count) old new
+  child_grown target second old new c g =
+      grown_as (λ (e : Edge). (e.from ≡ source) × (e.to ≡ target) × PushBy flip first second count (sign_of source.contra) (sign_of target.contra) e.count) (λ (e : Edge). (e.from ≡ source) × IsPushedTo known flip first other count (sign_of source.contra) e.to e.count) old new
+      (λ e p. (p.0, (second, subst (λ t. IsChildOf known t other second) (sym p.1) c, subst (λ (t : State). PushBy flip first second count (sign_of source.contra) (sign_of t.contra) e.count) (sym p.1) p.2))) g
+
+  pub child_done : AreDistinct known → (target : State) (second : Label) → IsChildOf known target other second →
+      ((k : ℕ) → PushBy flip first second count (sign_of source.contra) (sign_of target.contra) k → IsWithin found target k) →
+      IsDoneAt known flip first other count (sign_of source.contra) found target.variable
+  child_done apart target second c d end m k e h p =
+      let o : (target ≡ end) × (second ≡ m) = child_one known apart end target other m second e c h in
+      let q : PushBy flip first second count (sign_of source.contra) (sign_of target.contra) k = subst (λ (t : State). PushBy flip first second count (sign_of source.contra) (sign_of t.contra) k) (sym o.0) (subst (λ l. PushBy flip first l count (sign_of source.contra) (sign_of end.contra) k) (sym o.1) p) in
+      subst (λ t. IsWithin found t k) o.0 (d k q)
+
+  -- no child of this parent
+  pub child_other : AreDistinct known → (number parent : ℕ) (m : Label) → number < length known → parent < number → at_number known number ≡ longer (at_number known parent) m → (parent ≡ other.variable → ⊥) →
+      IsDoneAt known flip first other count (sign_of source.contra) found number
+  child_other apart number parent m h less e n end l k f c p =
+      let q : (other.variable ≡ parent) × (l ≡ m) = parent_one known apart end other l parent m (omega (arith, less, h)) (ap (at_number known) f ∙ e) c in
+      absurd (n (sym q.0))
+
+  pub child_bare : (number : ℕ) (b : Base) → at_number known number ≡ record { base = b; word = [] } → IsDoneAt known flip first other count (sign_of source.contra) found number
+  child_bare number b e end l k f c p = absurd (no_base (at_number known other.variable) l b (sym c.is ∙ ap (at_number known) f ∙ e))
+
+  -- all children
+  pub children_done : (children : List (List ℕ)) (numbers : List ℕ) → AreChildren known children → numbers ≡ get_or children other.variable [] →
+      ((i : ℕ) → i < length numbers → IsDoneAt known flip first other count (sign_of source.contra) found (get_or numbers i 0)) → IsDoneTo known flip first other count (sign_of source.contra) found
+  children_done children numbers are e d end m k c p =
+      let h : Contains numbers end.variable = subst (λ xs. Contains xs end.variable) (sym e) (are.all other.variable end.variable m c.above c.within c.is) in
+      d h.0 h.1 end m k (sym (get_or_default numbers h.0 0 end.variable h.1 ∙ h.2)) c p
+
+-- walks of one parent, and what is known along pushed edges from its child
+module _ (known : List Dtv) (flips : List Bool) (edges pushed : List Edge) (source parent : State) (first : Label) (child : IsChildOf known source parent first) (reached found : List (State × ℕ)) (search : IsSearch edges parent reached) (back : IsSearch pushed source found) where
+  pub from_grown : (old new : List Edge) →
+      IsGrown (λ (e : Edge). (e.from ≡ source) × IsPushedOn known (flip_at flips parent.variable) first (sign_of source.contra) reached e.to e.count) old new → IsGrown (IsPushed known flips edges) old new
+  from_grown old new g =
+      grown_as (λ (e : Edge). (e.from ≡ source) × IsPushedOn known (flip_at flips parent.variable) first (sign_of source.contra) reached e.to e.count) (IsPushed known flips edges) old new
+      (λ e p. record {
+        parent = parent;
+        other = p.1.0;
+        first = first;
+        second = p.1.3.0;
+        count = p.1.1;
+        left = subst (λ t. IsChildOf known t parent first) (sym p.0) child;
+        right = p.1.3.1;
+        walk = search.sound p.1.0 p.1.1 p.1.2;
+        push = subst (λ (t : State). PushBy (flip_at flips parent.variable) first p.1.3.0 p.1.1 (sign_of t.contra) (sign_of e.to.contra) e.count) (sym p.0) p.1.3.2;
+      }) g
+
+  pub from_done : IsDoneOn known (flip_at flips parent.variable) first (sign_of source.contra) reached found → IsClosedFrom known flips edges pushed source parent first
+  from_done d end other m n k c w p =
+      let r : IsWithin reached other n = search.complete other n w in
+      let q : (j : ℕ) × PushBy (flip_at flips parent.variable) first m r.0 (sign_of source.contra) (sign_of end.contra) j × (j ≤ k) = push_less (flip_at flips parent.variable) first m n r.0 (sign_of source.contra) (sign_of end.contra) k r.2 p in
+      let i : IsWithin found end q.0 = d other r.0 r.1 end m q.0 c q.1 in
+      (i.0, back.sound end i.0 i.1, omega (arith, i.2, q.2))
+
+-- what is known has an entry
+pub known_entry : (found : List (State × ℕ)) (s : State) (k : ℕ) → IsKnown found s k → (i : ℕ) × (i < length found) × (slice_get found i ≡ Some (s, k))
+known_entry found s k h =
+    let p : (i : ℕ) × (t : State) × (slice_get found i ≡ Some (t, k)) × (state_eq s t ≡ true) = place_from_lookup (state_eq s) found k h in
+    (p.0, slice_get_within found p.0 (p.1, k) p.2, p.2 ∙ ap (λ (t : State). Some (t, k)) (sym (state_equal s p.1 p.3)))
+
+-- a state has one parent, by one letter
+pub source_one : (known : List Dtv) → AreDistinct known → (child parent other : State) (l m : Label) → IsChildOf known child parent l → IsChildOf known child other m → (parent ≡ other) × (l ≡ m)
+source_one known apart child parent other l m c d =
+    let p : (parent.variable ≡ other.variable) × (l ≡ m) = parent_one known apart child parent l other.variable m d.above d.is c in
+    let s : parent.contra ≡ other.contra = sign_one parent.contra other.contra (sym c.sign ∙ ap (λ (k : Label). times (label_variance k) (sign_of child.contra)) p.1 ∙ d.sign) in
+    (λ i. record { variable = p.0 i; contra = s i }, p.1)
+
+pub state_done : (known : List Dtv) (flips : List Bool) (edges pushed : List Edge) → AreDistinct known → (source above : State) (first : Label) → IsChildOf known source above first → IsClosedFrom known flips edges pushed source above first →
+    (child other : State) (l : Label) → child.variable ≡ source.variable → child.contra ≡ source.contra → IsChildOf known child other l → IsClosedFrom known flips edges pushed child other l
+state_done known flips edges pushed apart source above first own done child other l e f k =
+    let s : source ≡ child = (λ i. record { variable = sym e i; contra = sym f i }) in
+    let o : (above ≡ other) × (first ≡ l) = source_one known apart source above other first l own (subst (λ z. IsChildOf known z other l) (sym s) k) in
+    subst (λ z. IsClosedFrom known flips edges pushed z other l) s (subst (λ z. IsClosedFrom known flips edges pushed source z l) o.0 (subst (λ m. IsClosedFrom known flips edges pushed source above m) o.1 done))
+
+pub state_child : (known : List Dtv) (number parent : ℕ) (contra turned : Bool) (m : Label) → number < length known → parent < number → at_number known number ≡ longer (at_number known parent) m → turned ≡ is_contra (times (label_variance m) (sign_of contra)) →
+    IsChildOf known (record { variable = number; contra = contra }) (record { variable = parent; contra = turned }) m
+state_child known number parent contra turned m h less e f = record {
+  within = h;
+  above = omega (arith, less, h);
+  is = e;
+  sign = sym (ap sign_of f ∙ sign_contra (times (label_variance m) (sign_of contra)));
+}
+
+pub two_signs : (b : Bool) → (b ≡ false) ⊎ (b ≡ true)
+two_signs false = inl refl
+two_signs true = inr refl
+
+pub entry_one : (s t : State) (j k : ℕ) → ◌≡◌ {A = Option (State × ℕ)} (Some (s, j)) (Some (t, k)) → (s ≡ t) × (j ≡ k)
+entry_one s t j k e = let p : ◌≡◌ {A = State × ℕ} (s, j) (t, k) = cc in (ap (λ (z : State × ℕ). z.0) p, ap (λ (z : State × ℕ). z.1) p)

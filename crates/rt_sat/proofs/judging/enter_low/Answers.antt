@@ -1,0 +1,28 @@
+use Rattle.std.proofs.Common.{◌≡◌, true, [], ◌∷◌, ◌++◌, sym, subst, ◌∙◌}
+use Rattle.rt_lines.specs.declared.line.Line.{Line}
+use Rattle.rt_lines.specs.Orders.{IsAtOrBelow}
+use Rattle.rt_sat.specs.Tables.{AreLows}
+use Rattle.rt_sat.proofs.Bounded.{lows_more, lows_other}
+use Rattle.rt_sat.proofs.judging.enter_low.Goals as goal
+
+pub returns-in_ok-push-in-Low : goal.returns-in_ok-push-in-Low
+returns-in_ok-push-in-Low c = λ before are.
+    subst (λ (l : Line). AreLows c.args.order.now (before ++ l ∷ []) c.args.named.now c.args.k c.push.new.self.items) (sym c.in-Low.is)
+    (lows_more c.args.order.now c.args.named.now c.args.k before c.in-Low.bound c.in-Low.x _ c.args.numbers.now.items c.push.new.self.items (c.le.ensures.0 c.if-le.true) c.number.ensures c.in_ok-push-in-Low.ensures.items are)
+
+pub returns-else-le : goal.returns-else-le
+returns-else-le c = λ before are. lows_other c.args.order.now c.args.named.now c.args.k before c.args.line.now c.args.numbers.now.items
+    (λ b z e h. (let f = e ∙ c.in-Low.is in let g : b ≡ c.in-Low.bound = cc in
+    let t : c.le.result ≡ true = c.le.ensures.1 (subst (λ n. IsAtOrBelow c.args.order.now c.args.k n) g h) in cc)) are
+
+pub returns-in-Var : goal.returns-in-Var
+returns-in-Var c = λ before are. lows_other c.args.order.now c.args.named.now c.args.k before c.args.line.now c.args.numbers.now.items (λ b z e h. (let f = e ∙ c.in-Var.is in cc)) are
+
+pub returns-in-Same : goal.returns-in-Same
+returns-in-Same c = λ before are. lows_other c.args.order.now c.args.named.now c.args.k before c.args.line.now c.args.numbers.now.items (λ b z e h. (let f = e ∙ c.in-Same.is in cc)) are
+
+pub returns-in-Sub : goal.returns-in-Sub
+returns-in-Sub c = λ before are. lows_other c.args.order.now c.args.named.now c.args.k before c.args.line.now c.args.numbers.now.items (λ b z e h. (let f = e ∙ c.in-Sub.is in cc)) are
+
+pub returns-in-Up : goal.returns-in-Up
+returns-in-Up c = λ before are. lows_other c.args.order.now c.args.named.now c.args.k before c.args.line.now c.args.numbers.now.items (λ b z e h. (let f = e ∙ c.in-Up.is in cc)) are

@@ -1,0 +1,6 @@
+use Rattle.std.proofs.Common.{take}
+use Rattle.rt_sat.specs.Tables.{AreUps}
+use Rattle.rt_sat.proofs.judging.ups.Given as goal
+
+abbrev pub invariant-loop-line : goal.invariant-loop-line
+invariant-loop-line l = AreUps l.order (take l.line-index l.lines) l.named l.k l.numbers.items

@@ -1,0 +1,5 @@
+use Rattle.rt_sat.proofs.Frames.{AreNodesTo}
+use Rattle.rt_sat.proofs.nodes.flips.Given as goal
+
+abbrev pub invariant-loop-number : goal.invariant-loop-number
+invariant-loop-number l = AreNodesTo l.shape l.named l.number l.nodes.items l.flips.items

@@ -1,0 +1,11 @@
+use Rattle.std.proofs.Common.{◌≡◌, ℕ, ◌<◌, [], get_or}
+use Rattle.rt_sat.specs.declared.state.Edge.{Edge}
+use Rattle.rt_sat.specs.Numbered.{sign_of}
+use Rattle.rt_sat.specs.Pushes.{IsGrown, IsPushedTo, IsDoneAt}
+use Rattle.rt_sat.proofs.pushing.push_to.Given as goal
+
+abbrev pub invariant-loop-child : goal.invariant-loop-child
+invariant-loop-child l = record {
+  grown : IsGrown (λ (e : Edge). (e.from ≡ l.source) × IsPushedTo l.frame.named l.flip l.first l.other l.count (sign_of l.source.contra) e.to e.count) l.fn.fresh.items l.fresh.items;
+  done : l.fresh.items ≡ [] → (i : ℕ) → i < l.child-index → IsDoneAt l.frame.named l.flip l.first l.other l.count (sign_of l.source.contra) l.known.entries (get_or l.child-items i 0);
+}

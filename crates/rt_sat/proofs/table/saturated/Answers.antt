@@ -1,0 +1,8 @@
+use Rattle.rt_sat.proofs.Frames.{named_distinct, side_named}
+use Rattle.rt_sat.proofs.table.saturated.Goals as goal
+
+pub line_edges-requires : goal.line_edges-requires
+line_edges-requires c = side_named c.args.lines.now c.args.extra.now c.in_ok-named.named c.in_ok-named.ensures
+
+pub closed-requires-clause-distinct : goal.closed-requires-clause-distinct
+closed-requires-clause-distinct c = named_distinct c.args.lines.now c.args.extra.now c.in_ok-named.named c.in_ok-named.ensures

@@ -1,0 +1,112 @@
+-- What is pushed from ways between parents to edges between children, by numbers.
+use Rattle.std.specs.Prelude.{◌≡◌, ℕ, ◌+◌, ◌<◌, ◌≤◌, ◌⊎◌, ◌↔◌, List, [], Contains, Bool, true, false, length, drop, slice_index_or}
+use Rattle.rt_lines.specs.declared.label.Label.{Label}
+use Rattle.rt_lines.specs.declared.label.Variance.{Variance}
+use Rattle.rt_lines.specs.declared.variable.Dtv.{Dtv}
+use Rattle.rt_lines.specs.Words.{label_variance, times}
+use Rattle.rt_rules.specs.Rules.{longer}
+use Rattle.rt_bridge.specs.Growing.{Var, Given, V, Der, HasSub, vd}
+use Rattle.rt_bridge.specs.Counted.{bit, differ, IsEven, IsPointer, Bridge, Flip}
+use Rattle.rt_bridge.specs.Laws.{Named}
+use Rattle.rt_sat.specs.declared.state.State.{State}
+use Rattle.rt_sat.specs.declared.state.Edge.{Edge}
+use Rattle.rt_sat.specs.Deciding.{is_among}
+use Rattle.rt_sat.specs.Numbered.{sign_of, at_number, state_of, AreWithin}
+use Rattle.rt_sat.specs.Searches.{Walk, IsKnown, IsWithin}
+
+-- the child's variable is the parent's with the letter, and its sign with the letter's is the parent's
+pub record IsChildOf (known : List Dtv) (child parent : State) (l : Label) : Type 0 where
+  pub within : child.variable < length known
+  pub above : parent.variable < length known
+  pub is : at_number known child.variable ≡ longer (at_number known parent.variable) l
+  pub sign : times (label_variance l) (sign_of child.contra) ≡ sign_of parent.contra
+
+-- the children of variables, by their numbers
+pub record AreChildren (known : List Dtv) (children : List (List ℕ)) : Type 0 where
+  pub within : (v j : ℕ) → Contains (slice_index_or children v []) j → j < length known
+  pub all : (v j : ℕ) (l : Label) → v < length known → j < length known → at_number known j ≡ longer (at_number known v) l → Contains (slice_index_or children v []) j
+
+-- a half push, where the parent can be read and written through
+pub record IsHalf (flip : Bool) (l m : Label) (d : ℕ) (a b : Variance) (k : ℕ) : Type 0 where
+  pub flips : flip ≡ true
+  pub left : IsPointer l
+  pub right : IsPointer m
+  pub enough : d + bit (times (label_variance l) a) ≤ (k + k) + bit (times (label_variance m) b)
+  pub parity : IsEven (k + differ a b)
+
+-- the count between children with these letters and signs that a count between their parents gives: half of it, or the same under one letter
+abbrev pub PushBy : Bool → Label → Label → ℕ → Variance → Variance → ℕ → Type 0
+PushBy flip l m d a b k = IsHalf flip l m d a b k ⊎ ((l ≡ m) × (d ≡ k))
+
+-- whether a number's variable can be read and written through
+abbrev pub flip_at : List Bool → ℕ → Bool
+flip_at flips n = slice_index_or flips n false
+
+-- an edge that is pushed from a way
+pub record IsPushed (known : List Dtv) (flips : List Bool) (edges : List Edge) (e : Edge) : Type 0 where
+  pub parent : State
+  pub other : State
+  pub first : Label
+  pub second : Label
+  pub count : ℕ
+  pub left : IsChildOf known e.from parent first
+  pub right : IsChildOf known e.to other second
+  pub walk : Walk edges parent other count
+  pub push : PushBy (flip_at flips parent.variable) first second count (sign_of e.from.contra) (sign_of e.to.contra) e.count
+
+-- a walk of at most a count
+abbrev pub HasWalk : List Edge → State → State → ℕ → Type 0
+HasWalk edges s t k = (n : ℕ) × Walk edges s t n × (n ≤ k)
+
+-- whatever is pushed from ways of a child's parent has a walk along the pushed edges
+abbrev pub IsClosedFrom : List Dtv → List Bool → List Edge → List Edge → State → State → Label → Type 0
+IsClosedFrom known flips edges pushed child parent l =
+    (end other : State) (m : Label) (d k : ℕ) → IsChildOf known end other m → Walk edges parent other d →
+    PushBy (flip_at flips parent.variable) l m d (sign_of child.contra) (sign_of end.contra) k → HasWalk pushed child end k
+
+-- whatever is pushed from ways along edges has a walk along the pushed ones
+abbrev pub IsClosedBy : List Dtv → List Bool → List Edge → List Edge → Type 0
+IsClosedBy known flips edges pushed = (child parent : State) (l : Label) → IsChildOf known child parent l → IsClosedFrom known flips edges pushed child parent l
+
+-- edges more, of each of which something holds
+pub record IsGrown (P : Edge → Type 0) (old new : List Edge) : Type 0 where
+  pub only : (e : Edge) → Contains new e → Contains old e ⊎ P e
+  pub kept : new ≡ [] → old ≡ []
+
+-- the variables exist, and it is known which can be read and written through
+pub record IsFrame (L : Given) (known : List Dtv) (flips : List Bool) : Type 0 where
+  pub there : (n : ℕ) → n < length known → Der L (V (vd (at_number known n)))
+  pub flip : (n : ℕ) → n < length known → (flip_at flips n ≡ true) ↔ Flip L (vd (at_number known n))
+
+-- the edges are counted judgements
+abbrev pub AreSound : Given → List Dtv → List Edge → Type 0
+AreSound L known edges = (e : Edge) → Contains edges e → Bridge L (Named (is_among known)) (state_of known e.from) (state_of known e.to) e.count
+
+-- an end and its count are pushed from a count to its parent
+abbrev pub IsPushedTo : List Dtv → Bool → Label → State → ℕ → Variance → State → ℕ → Type 0
+IsPushedTo known flip first other count a end k = (m : Label) × IsChildOf known end other m × PushBy flip first m count a (sign_of end.contra) k
+
+-- what is pushed from a count to a parent, to a child of a number, is known to be no farther
+abbrev pub IsDoneAt : List Dtv → Bool → Label → State → ℕ → Variance → List (State × ℕ) → ℕ → Type 0
+IsDoneAt known flip first other count a found number =
+    (end : State) (m : Label) (k : ℕ) → end.variable ≡ number → IsChildOf known end other m → PushBy flip first m count a (sign_of end.contra) k → IsWithin found end k
+
+-- what is pushed from a count to a parent is known to be no farther
+abbrev pub IsDoneTo : List Dtv → Bool → Label → State → ℕ → Variance → List (State × ℕ) → Type 0
+IsDoneTo known flip first other count a found = (end : State) (m : Label) (k : ℕ) → IsChildOf known end other m → PushBy flip first m count a (sign_of end.contra) k → IsWithin found end k
+
+-- an end and its count are pushed from one of the known counts
+abbrev pub IsPushedOn : List Dtv → Bool → Label → Variance → List (State × ℕ) → State → ℕ → Type 0
+IsPushedOn known flip first a reached end k = (other : State) × (count : ℕ) × IsKnown reached other count × IsPushedTo known flip first other count a end k
+
+-- what is pushed from the known counts is known to be no farther
+abbrev pub IsDoneOn : List Dtv → Bool → Label → Variance → List (State × ℕ) → List (State × ℕ) → Type 0
+IsDoneOn known flip first a reached found = (other : State) (count : ℕ) → IsKnown reached other count → IsDoneTo known flip first other count a found
+
+-- edges with all that is pushed from their ways behind them
+pub record IsClosing (known : List Dtv) (flips : List Bool) (lines edges : List Edge) : Type 0 where
+  pub lines_stay : (e : Edge) → Contains lines e → Contains edges e
+  pub pushed_in : (e : Edge) → Contains (drop (length lines) edges) e → Contains edges e
+  pub closed : IsClosedBy known flips edges (drop (length lines) edges)
+  pub within : AreWithin known lines → AreWithin known edges
+  pub sound : (L : Given) → IsFrame L known flips → ((x y : Var) → HasSub L x y → Named (is_among known) x × Named (is_among known) y) → AreSound L known lines → AreSound L known edges

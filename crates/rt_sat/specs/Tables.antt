@@ -1,0 +1,97 @@
+-- Which named variable lies below which, by numbered edges.
+use Rattle.std.specs.Prelude.{◌≡◌, ℕ, ◌<◌, ◌↔◌, ◌⊎◌, List, Contains, Bool, false, Option, Some, None, length, slice_get, slice_index_or}
+use Rattle.rt_lines.specs.declared.label.Label.{Label}
+use Rattle.rt_lines.specs.declared.variable.Dtv.{Dtv}
+use Rattle.rt_lines.specs.declared.line.Line.{Line}
+use Rattle.rt_lines.specs.declared.line.Line.TheVariants.{Var, Sub, Low, Up}
+use Rattle.rt_lines.specs.Orders.{Below, IsAtOrBelow}
+use Rattle.rt_rules.specs.Rules.{Derivable}
+use Rattle.rt_bridge.specs.Growing.{Given}
+use Rattle.rt_shape.specs.Graphs.{Graph, node_of, step_of, bare}
+use Rattle.rt_shape.specs.Shapes.{IsShapeOf}
+use Rattle.rt_named.specs.declared.origin.Origin.{Origin}
+use Rattle.rt_named.specs.declared.origin.Origin.TheVariants.{Bare, Longer}
+use Rattle.rt_named.specs.Naming.{named}
+use Rattle.rt_sat.specs.declared.state.State.{State}
+use Rattle.rt_sat.specs.declared.state.Edge.{Edge}
+use Rattle.rt_sat.specs.Deciding.{flips_at}
+use Rattle.rt_sat.specs.Numbered.{at_number}
+use Rattle.rt_sat.specs.Pushes.{flip_at, IsFrame, IsClosing}
+use Rattle.rt_sat.specs.Closings.{AreLineEdges}
+use Rattle.rt_sat.specs.Searches.{Walk}
+
+-- the node after a node, where there is one
+abbrev pub stepped : Graph → Option ℕ → Label → Option ℕ
+stepped graph None l = None
+stepped graph (Some n) l = step_of graph n l
+
+-- the node of a variable that is made of an earlier one, by the nodes of those
+abbrev pub node_made : Graph → List (Option ℕ) → Origin → Option ℕ
+node_made graph nodes (Bare b) = node_of graph (bare b)
+node_made graph nodes (Longer n l) = stepped graph (slice_index_or nodes n None) l
+
+-- the flags say of each variable whether its node has a load and a store
+abbrev pub AreFlagged : Graph → List Dtv → List Bool → Type 0
+AreFlagged graph known flips = (n : ℕ) → n < length known → flip_at flips n ≡ flips_at graph (node_of graph (at_number known n))
+
+-- each of the variables exists
+abbrev pub AreThere : List Line → List Dtv → Type 0
+AreThere lines extra = (order : Below) (x : Dtv) → Contains extra x → Derivable order lines (Var x)
+
+-- what lines and existing variables name, with the flags of its nodes, is a frame
+abbrev pub FrameLaw : Type 0
+FrameLaw =
+    (L : Given) (extra : List Dtv) (graph : Graph) (flips : List Bool) → IsShapeOf L.lines graph → AreThere L.lines extra → AreFlagged graph (named L.lines extra) flips → IsFrame L (named L.lines extra) flips
+
+-- the edges of the lines with all that is pushed from their ways, between the variables that the lines and others name
+pub record IsTableOf (lines : List Line) (extra known : List Dtv) (edges : List Edge) : Type 0 where
+  pub graph : Graph
+  pub flips : List Bool
+  pub first : List Edge
+  pub is_named : known ≡ named lines extra
+  pub shape : IsShapeOf lines graph
+  pub flagged : AreFlagged graph known flips
+  pub extra_there : AreThere lines extra
+  pub entered : AreLineEdges lines known first
+  pub closing : IsClosing known flips first edges
+
+-- the state of a number that turns nothing round
+abbrev pub place : ℕ → State
+place n = record { variable = n; contra = false }
+
+-- in a table a way of count nought leads from one variable to another exactly if the first lies below the second
+abbrev pub BelowLaw : Type 0
+BelowLaw =
+    (order : Below) (lines : List Line) (extra known : List Dtv) (edges : List Edge) → IsTableOf lines extra known edges → (i j : ℕ) → i < length known → j < length known →
+    Derivable order lines (Sub (at_number known i) (at_number known j)) ↔ Walk edges (place i) (place j) 0
+
+-- one of the variables lies below one of the others
+abbrev pub HasBelow : Below → List Line → List Dtv → List ℕ → List ℕ → Type 0
+HasBelow order lines known sources targets =
+    (s : ℕ) × (t : ℕ) × Contains sources s × Contains targets t × Derivable order lines (Sub (at_number known s) (at_number known t))
+
+-- a way of count nought leads from one of the numbers to one of the others
+abbrev pub HasNought : List Edge → List ℕ → List ℕ → Type 0
+HasNought edges sources targets = (s : ℕ) × (t : ℕ) × Contains sources s × Contains targets t × Walk edges (place s) (place t) 0
+
+-- an edge from a new number to a source
+pub record IsSourceEdge (number source : ℕ) (e : Edge) : Type 0 where
+  pub start : e.from ≡ place number
+  pub end : e.to ≡ place source
+  pub none : e.count ≡ 0
+
+-- the edges, and one from a new number to each source
+pub record AreSourced (number : ℕ) (sources : List ℕ) (edges all : List Edge) : Type 0 where
+  pub kept : (e : Edge) → Contains edges e → Contains all e
+  pub each : (s : ℕ) → Contains sources s → (e : Edge) × Contains all e × IsSourceEdge number s e
+  pub only : (e : Edge) → Contains all e → Contains edges e ⊎ ((s : ℕ) × Contains sources s × IsSourceEdge number s e)
+
+-- the numbers of the variables of lower bounds at or above a constant
+pub record AreLows (order : Below) (lines : List Line) (known : List Dtv) (k : ℕ) (numbers : List ℕ) : Type 0 where
+  pub only : (n : ℕ) → Contains numbers n → (bound : ℕ) × (z : Dtv) × Contains lines (Low bound z) × IsAtOrBelow order k bound × (slice_get known n ≡ Some z)
+  pub all : (bound : ℕ) (z : Dtv) → Contains lines (Low bound z) → IsAtOrBelow order k bound → (n : ℕ) × Contains numbers n × (slice_get known n ≡ Some z)
+
+-- the numbers of the variables of upper bounds at or below a constant
+pub record AreUps (order : Below) (lines : List Line) (known : List Dtv) (k : ℕ) (numbers : List ℕ) : Type 0 where
+  pub only : (n : ℕ) → Contains numbers n → (bound : ℕ) × (z : Dtv) × Contains lines (Up z bound) × IsAtOrBelow order bound k × (slice_get known n ≡ Some z)
+  pub all : (bound : ℕ) (z : Dtv) → Contains lines (Up z bound) → IsAtOrBelow order bound k → (n : ℕ) × Contains numbers n × (slice_get known n ≡ Some z)

@@ -1,0 +1,12 @@
+pub mod Mapping
+pub mod Finding
+pub mod Widening
+pub mod Instancing
+pub mod Instances
+pub mod NameNumbers
+pub mod InstanceRows
+pub mod OneNumbering
+pub mod Filling
+pub mod Unfolding
+pub mod Labels
+pub mod There

@@ -1,0 +1,4 @@
+pub mod Instances
+pub mod Unfolded
+pub mod Labels
+pub mod There
