@@ -38,20 +38,20 @@ use Rattle.rt_sat.proofs.Bounded.{lows_within, ups_within}
 use Rattle.rt_sat.proofs.Sources.{sourced_walk, walk_sourced}
 
 module _ (order : Below) (lines : List Line) (extra known : List Dtv) (edges : List Edge) (table : IsTableOf lines extra known edges) where
-  abbrev L : Given
+  abbrev pub L : Given
   L = record { order = order; lines = lines }
 
-  distinct : AreDistinct known
+  pub distinct : AreDistinct known
   distinct = named_distinct lines extra known table.is_named
 
-  named_all : AreNamed L (is_among known)
+  pub named_all : AreNamed L (is_among known)
   named_all = subst (λ xs. AreNamed L (is_among xs)) (sym table.is_named) (are_named L extra table.graph table.shape)
 
-  frame : IsFrame L known table.flips
+  pub frame : IsFrame L known table.flips
   frame = subst (λ xs. IsFrame L xs table.flips) (sym table.is_named)
       (frame_law L extra table.graph table.flips table.shape table.extra_there (subst (λ xs. AreFlagged table.graph xs table.flips) table.is_named table.flagged))
 
-  within : AreWithin known edges
+  pub within : AreWithin known edges
   within = table.closing.within table.entered.within
 
   variables : (i j : ℕ) → i < length known → j < length known → Der L (S (vd (at_number known i)) (vd (at_number known j))) ↔ Way (EdgeOf (edges_of known edges)) (st (vd (at_number known i)) Co) (st (vd (at_number known j)) Co) 0
@@ -60,7 +60,7 @@ module _ (order : Below) (lines : List Line) (extra known : List Dtv) (edges : L
       (closing_law L known table.flips table.first edges named_all distinct frame table.entered table.closing)
       (vd (at_number known i)) (vd (at_number known j)) (name_at known i h) (name_at known j k) (frame.there i h)
 
-  to_der : (x y : Dtv) → Derivable order lines (Sub x y) → Der L (S (vd x) (vd y))
+  pub to_der : (x y : Dtv) → Derivable order lines (Sub x y) → Der L (S (vd x) (vd y))
   to_der x y d = der L (S (vd x) (vd y)) (subst (λ z. Derivable order lines (Sub z (dv (vd y)))) (sym (dv-vd x)) (subst (λ z. Derivable order lines (Sub x z)) (sym (dv-vd y)) d))
 
   from_der : (x y : Dtv) → Der L (S (vd x) (vd y)) → Derivable order lines (Sub x y)

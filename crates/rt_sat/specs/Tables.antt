@@ -55,6 +55,11 @@ pub record IsTableOf (lines : List Line) (extra known : List Dtv) (edges : List 
   pub entered : AreLineEdges lines known first
   pub closing : IsClosing known flips first edges
 
+-- a table, and how many of its edges, the first ones, are those of the lines
+pub record IsLayered (lines : List Line) (extra known : List Dtv) (edges : List Edge) (count : ℕ) : Type 0 where
+  pub table : IsTableOf lines extra known edges
+  pub counted : count ≡ length table.first
+
 -- the state of a number that turns nothing round
 abbrev pub place : ℕ → State
 place n = record { variable = n; contra = false }

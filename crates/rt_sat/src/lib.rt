@@ -19,3 +19,4 @@ mod table;
 pub use count::Count;
 pub use judging::derives;
 pub use state::{Edge, State};
+pub use table::{Table, saturated};

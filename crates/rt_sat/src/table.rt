@@ -3,7 +3,7 @@ ghost use Rattle.std.specs.Prelude.{◌≡◌, ◌∷◌, ℕ, ◌<◌, ◌↔�
 ghost use Rattle.rt_shape.specs.Shapes.{IsShapeOf};
 ghost use Rattle.rt_sat.specs.Numbered.{AreWithin};
 ghost use Rattle.rt_sat.specs.Searches.{IsKnown};
-ghost use Rattle.rt_sat.specs.Tables.{AreSourced, AreThere, HasNought, IsTableOf, place};
+ghost use Rattle.rt_sat.specs.Tables.{AreSourced, AreThere, HasNought, IsLayered, place};
 
 use crate::closing::{children, closed};
 use crate::count::Count;
@@ -20,15 +20,19 @@ use rt_named::Named;
 use rt_shape::Shape;
 use std::alloc::Global;
 
-// Named variables, and edges between their numbers.
+/// Named variables, and edges between their numbers: those of the lines, and behind them what is pushed from ways.
 #[derive(Drop)]
-pub(crate) struct Table {
-    pub(crate) named: Named,
-    pub(crate) edges: Vec<Edge>,
+pub struct Table {
+    /// The variables.
+    pub named: Named,
+    /// The edges.
+    pub edges: Vec<Edge>,
+    /// How many of the edges are those of lines.
+    pub lines: usize,
 }
 
-// The table of the lines, between the variables that they and more variables name.
-pub(crate) fn saturated(
+/// The table of the lines, between the variables that they and more variables name. The error is want of memory.
+pub fn saturated(
     alloc: Global,
     lines: &[Line],
     shape: &Shape,
@@ -36,12 +40,13 @@ pub(crate) fn saturated(
 ) -> Result<Table, Memory>
     requires shape { IsShapeOf lines.now shape.now }
     requires there { AreThere lines.now extra.now }
-    ensures { IfOk result (λ t. IsTableOf lines.now extra.now t.named t.edges.items) }
+    ensures { IfOk result (λ t. IsLayered lines.now extra.now t.named t.edges.items t.lines) }
 {
     let named = Named::of(alloc, lines, extra)?;
     let flips = flips(alloc, &named, shape)?;
     let children = children(alloc, &named)?;
     let first = line_edges(alloc, &named, lines)?;
+    let count = first.len();
     let frame = Frame {
         named,
         flips,
@@ -49,7 +54,11 @@ pub(crate) fn saturated(
     };
     let edges = closed(alloc, &frame, first)?;
     let Frame { named, .. } = frame;
-    Ok(Table { named, edges })
+    Ok(Table {
+        named,
+        edges,
+        lines: count,
+    })
 }
 
 // Whether a way of count nought leads from one of the sources to one of the targets.
@@ -64,7 +73,7 @@ pub(crate) fn meets(
     requires targets { (t : ℕ) → Contains targets.now t → t < length table.named }
     ensures { IfOk result (λ yes. IsTrue yes ↔ HasNought table.edges.items sources.now targets.now) }
 {
-    let Table { named, edges } = table;
+    let Table { named, edges, .. } = table;
     let number = named.len() as u32;
     let all = with_sources(alloc, edges, number, sources)?;
     let leaving = indexed(alloc, &all)?;

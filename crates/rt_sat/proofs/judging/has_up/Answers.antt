@@ -14,13 +14,13 @@ returns-then-not-is_there c = λ is. (
 
 pub number-left-requires : goal.number-left-requires
 number-left-requires c =
-    extra_named c.args.lines.now c.deref.result.now c.in_ok-table.table.named c.in_ok-table.ensures.is_named c.args.x.now (first_in c.args.x.now _ c.deref.result.now (c.deref.ensures.value ∙ c.in_ok-extra.ensures))
+    extra_named c.args.lines.now c.deref.result.now c.in_ok-table.table.named c.in_ok-table.ensures.table.is_named c.args.x.now (first_in c.args.x.now _ c.deref.result.now (c.deref.ensures.value ∙ c.in_ok-extra.ensures))
 
 pub ups-requires-clause-named : goal.ups-requires-clause-named
-ups-requires-clause-named c = side_named c.args.lines.now c.deref.result.now c.in_ok-table.table.named c.in_ok-table.ensures.is_named
+ups-requires-clause-named c = side_named c.args.lines.now c.deref.result.now c.in_ok-table.table.named c.in_ok-table.ensures.table.is_named
 
 pub meets-requires-clause-within : goal.meets-requires-clause-within
-meets-requires-clause-within c = table_within c.args.lines.now c.deref.result.now c.in_ok-table.table.named c.in_ok-table.table.edges.items c.in_ok-table.ensures
+meets-requires-clause-within c = table_within c.args.lines.now c.deref.result.now c.in_ok-table.table.named c.in_ok-table.table.edges.items c.in_ok-table.ensures.table
 
 pub meets-requires-clause-sources : goal.meets-requires-clause-sources
 meets-requires-clause-sources c = one_within c.in_ok-table.table.named c.args.x.now c.number-left.result c.deref-2.result.now c.number-left.ensures (c.deref-2.ensures.value ∙ c.in_ok-sources.ensures)
@@ -33,7 +33,7 @@ meets-requires-clause-targets c =
 pub returns : goal.returns
 returns c = λ is.
     up_derived c.args.order.now c.args.lines.now c.args.x.now c.args.k c.in_ok-yes.yes is c.requires.constants c.requires.constant
-    (up_whole c.args.lines.now c.deref.result.now c.in_ok-table.table.named c.in_ok-table.table.edges.items c.in_ok-table.ensures c.args.order.now c.args.x.now c.args.k c.number-left.result
+    (up_whole c.args.lines.now c.deref.result.now c.in_ok-table.table.named c.in_ok-table.table.edges.items c.in_ok-table.ensures.table c.args.order.now c.args.x.now c.args.k c.number-left.result
     c.deref-2.result.now c.deref-3.result.now c.in_ok-yes.yes
     (subst (λ (xs : List ℕ). AreUps c.args.order.now c.args.lines.now c.in_ok-table.table.named c.args.k xs) (sym c.deref-3.ensures.value) c.in_ok-targets.ensures)
     c.number-left.ensures (c.deref-2.ensures.value ∙ c.in_ok-sources.ensures) c.in_ok-yes.ensures)

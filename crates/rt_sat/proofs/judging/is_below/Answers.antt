@@ -16,14 +16,14 @@ saturated-requires-clause-there c =
 
 pub number-left-requires : goal.number-left-requires
 number-left-requires c =
-    extra_named c.args.lines.now c.deref.result.now c.in_ok-table.table.named c.in_ok-table.ensures.is_named c.args.x.now (first_in c.args.x.now _ c.deref.result.now (c.deref.ensures.value ∙ c.in_ok-extra.ensures))
+    extra_named c.args.lines.now c.deref.result.now c.in_ok-table.table.named c.in_ok-table.ensures.table.is_named c.args.x.now (first_in c.args.x.now _ c.deref.result.now (c.deref.ensures.value ∙ c.in_ok-extra.ensures))
 
 pub number-right-requires : goal.number-right-requires
 number-right-requires c =
-    extra_named c.args.lines.now c.deref.result.now c.in_ok-table.table.named c.in_ok-table.ensures.is_named c.args.y.now (second_in c.args.x.now c.args.y.now _ c.deref.result.now (c.deref.ensures.value ∙ c.in_ok-extra.ensures))
+    extra_named c.args.lines.now c.deref.result.now c.in_ok-table.table.named c.in_ok-table.ensures.table.is_named c.args.y.now (second_in c.args.x.now c.args.y.now _ c.deref.result.now (c.deref.ensures.value ∙ c.in_ok-extra.ensures))
 
 pub meets-requires-clause-within : goal.meets-requires-clause-within
-meets-requires-clause-within c = table_within c.args.lines.now c.deref.result.now c.in_ok-table.table.named c.in_ok-table.table.edges.items c.in_ok-table.ensures
+meets-requires-clause-within c = table_within c.args.lines.now c.deref.result.now c.in_ok-table.table.named c.in_ok-table.table.edges.items c.in_ok-table.ensures.table
 
 pub meets-requires-clause-sources : goal.meets-requires-clause-sources
 meets-requires-clause-sources c = one_within c.in_ok-table.table.named c.args.x.now c.number-left.result c.deref-2.result.now c.number-left.ensures (c.deref-2.ensures.value ∙ c.in_ok-sources.ensures)
@@ -33,6 +33,6 @@ meets-requires-clause-targets c = one_within c.in_ok-table.table.named c.args.y.
 
 pub returns : goal.returns
 returns c = λ order.
-    below_whole c.args.lines.now c.deref.result.now c.in_ok-table.table.named c.in_ok-table.table.edges.items c.in_ok-table.ensures c.args.x.now c.args.y.now c.number-left.result c.number-right.result
+    below_whole c.args.lines.now c.deref.result.now c.in_ok-table.table.named c.in_ok-table.table.edges.items c.in_ok-table.ensures.table c.args.x.now c.args.y.now c.number-left.result c.number-right.result
     c.deref-2.result.now c.deref-3.result.now c.in_ok-yes.yes c.number-left.ensures c.number-right.ensures (c.deref-2.ensures.value ∙ c.in_ok-sources.ensures) (c.deref-3.ensures.value ∙ c.in_ok-targets.ensures)
     c.in_ok-yes.ensures order

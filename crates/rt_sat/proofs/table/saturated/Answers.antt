@@ -1,3 +1,4 @@
+use Rattle.std.proofs.Common.{rules}
 use Rattle.rt_sat.proofs.Frames.{named_distinct, side_named}
 use Rattle.rt_sat.proofs.table.saturated.Goals as goal
 
@@ -6,3 +7,19 @@ line_edges-requires c = side_named c.args.lines.now c.args.extra.now c.in_ok-nam
 
 pub closed-requires-clause-distinct : goal.closed-requires-clause-distinct
 closed-requires-clause-distinct c = named_distinct c.args.lines.now c.args.extra.now c.in_ok-named.named c.in_ok-named.ensures
+
+pub returns : goal.returns
+returns c = record {
+  table = record {
+    graph = c.args.shape.now;
+    flips = c.in_ok-flips.flips.items;
+    first = c.in_ok-first.first.items;
+    is_named = c.in_ok-named.ensures;
+    shape = c.requires.shape;
+    flagged = c.in_ok-flips.ensures;
+    extra_there = c.requires.there;
+    entered = c.in_ok-first.ensures;
+    closing = c.in_ok-edges.ensures;
+  };
+  counted = search rules;
+}

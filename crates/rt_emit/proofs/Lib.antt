@@ -1,0 +1,11 @@
+pub mod Rising
+pub mod Longer
+pub mod Wordings
+pub mod Turning
+pub mod KeptBases
+pub mod Lettering
+pub mod Queueing
+pub mod FirstOnes
+pub mod Turns
+pub mod Joining
+pub mod Emitted

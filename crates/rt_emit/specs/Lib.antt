@@ -1,0 +1,6 @@
+pub mod Keys
+pub mod Queues
+pub mod Letters
+pub mod Bases
+pub mod Writing
+pub mod Joins

@@ -1,0 +1,5 @@
+pub mod Ranks
+pub mod Uses
+pub mod Numbers
+pub mod Twins
+pub mod Laws

@@ -1,0 +1,13 @@
+//! Existentials that give their places away, and twins that become one, in turn (PLDI 2016, section 5): the first part of
+//! what reduces schemes.
+#![tactic(auto)]
+
+pub mod laws;
+mod merging;
+mod peers;
+mod ranks;
+mod simplifying;
+mod twins;
+mod uses;
+
+pub use simplifying::simplify;
