@@ -109,6 +109,18 @@ module _ (p q : ℕ → Bool) (fewer : (n : ℕ) → q n ≡ true → p n ≡ tr
         by (inl e) rest = sum_less (cond (q n) 1 0) (cond (p n) 1 0) (count q ns) (count p ns) (falls_here n e) (count_le ns)
         by (inr d) rest = sum_less_right (cond (q n) 1 0) (cond (p n) 1 0) (count q ns) (count p ns) (one n) (rest d)
 
+-- fewer are named, where one isn't named any more
+pub named_falls : (start lines after : List Line) → ((n : ℕ) → NamesBase after (Exist n) → NamesBase lines (Exist n)) → (n : ℕ)
+    → Contains (numbers start) n → NamesBase lines (Exist n) → (NamesBase after (Exist n) → ⊥)
+    → named_count start after < named_count start lines
+named_falls start lines after fewer n c had gone =
+    count_less (names lines) (names after) (λ m e. names_true lines m (fewer m (true_names after m e))) n (names_true lines n had)
+    (by (names after n) refl) (numbers start) c
+  where
+    by : (b : Bool) → names after n ≡ b → names after n ≡ false
+    by false e = e
+    by true e = absurd (gone (true_names after n e))
+
 -- lines that name only existentials of others
 abbrev pub AreOfNumbers : List Line → List Line → Type 0
 AreOfNumbers start now = (n : ℕ) → NamesBase now (Exist n) → Contains (numbers start) n
@@ -121,7 +133,7 @@ module _ (lines : List Line) (n : ℕ) (z : Dtv) (pair : IsNamedPair lines n z) 
   names_after = names_chain lines (put_lines n z lines) after (λ x s. by x (put_source lines n z x s)) (names_tidied (put_lines n z lines))
     where
       by : (x : Dtv) → (x.base ≡ z.base) ⊎ ((x.base ≢ Exist n) × NamesBase lines x.base) → NamesBase lines x.base
-      by x (inl e) = subst (NamesBase lines) (sym e) pair.side
+      by x (inl e) = let (l, c, h) = pair.side in (l, z, c, h, sym e)
       by x (inr (apart, h)) = h
 
   gone_after : NamesBase after (Exist n) → ⊥

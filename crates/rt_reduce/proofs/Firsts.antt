@@ -23,7 +23,7 @@ use Rattle.rt_reduction.specs.Before.{comes_before}
 use Rattle.rt_reduction.specs.Merges.{IsEqualTo, HasEqual, IsMerge}
 use Rattle.rt_reduction.proofs.Before.{before_chain, not_before_self}
 use Rattle.rt_reduction.proofs.Naming.{base_named}
-use Rattle.rt_reduce.specs.Merging.{IsEarlier, IsFirstAmong, IsFirstEqual, IsLike}
+use Rattle.rt_reduce.specs.Merging.{IsEarlier, IsFirstAmong, IsFirstEqual, IsLike, IsSide}
 
 pub taken_more : {X : Type 0} (xs : List X) (i : ℕ) (x : X) → i < length xs → x ≡ get_or xs i x → take (i + 1) xs ≡ take i xs ++ x ∷ []
 taken_more xs i x h e = take_more xs i x h ∙ ap (λ y. take i xs ++ y ∷ []) (sym e)
@@ -42,13 +42,13 @@ more_cases xs i x y h e c =
     by (inl d) = inl d
     by (inr d) = at (Contains-cons_cases x [] y d)
 
--- a side of lines has a base that they name
-pub side_named : (lines : List Line) (all : List Dtv) (i : ℕ) (x : Dtv) → all ≡ flat_map sides lines → i < length all → x ≡ get_or all i x →
-    NamesBase lines x.base
-side_named lines all i x e h f =
+-- one of the sides of lines is a side of a line
+pub is_side : (lines : List Line) (all : List Dtv) (i : ℕ) (x : Dtv) → all ≡ flat_map sides lines → i < length all → x ≡ get_or all i x →
+    IsSide lines x
+is_side lines all i x e h f =
     let c : Contains (flat_map sides lines) x = subst (λ xs. Contains xs x) e (i, h, sym f) in
     let s : (l : Line) × Contains lines l × Contains (sides l) x = Contains-flat_map_source sides lines x c in
-    (s.0, x, s.1, HasSide-in_sides s.0 x s.2, refl)
+    (s.0, s.1, HasSide-in_sides s.0 x s.2)
 
 -- an existential that has an equal is the base of a side
 pub equal_side : (order : Below) (lines : List Line) (n : ℕ) → HasEqual order lines n →

@@ -1,7 +1,9 @@
 -- Lines dropped one after another, from the end.
-use Rattle.std.proofs.Common.{◌≡◌, ℕ, suc, ◌+◌, ◌<◌, ◌≤◌, ◌⊎◌, inl, inr, List, [], ◌∷◌, ◌++◌, take, drop, get_or, length, All}
+use Rattle.std.proofs.Common.{◌≡◌, ℕ, suc, ◌+◌, ◌<◌, ◌≤◌, ◌⊎◌, inl, inr, List, [], ◌∷◌, ◌++◌, take, drop, get_or, length, All, Contains}
 use Rattle.std.proofs.Common.{sym, ap, subst, ◌∙◌, append_assoc, drop-cons, arith}
 use Rattle.std.specs.List.{remove}
+use Rattle.std.proofs.lemmas.List.Elements.{All-contains}
+use Rattle.rt_base.proofs.Lists.{All-from_contains}
 use Rattle.std.proofs.lemmas.List.Edits.{length-remove}
 use Rattle.std.proofs.lemmas.List.{append-nil, take_more, take_all, drop_all, length-take-le}
 use Rattle.rt_lines.specs.declared.line.Line.{Line}
@@ -104,6 +106,10 @@ left_long left now place h (inr e) =
 pub left_below : (P : Line → Type 0) (left now : List Line) (place : ℕ) → All P left → IsKeptOrGone left place now → All P now
 left_below P left now place h (inl e) = subst (All P) (sym e) h
 left_below P left now place h (inr e) = subst (All P) (sym e) (All-removed P left place h)
+
+pub left_stood : (left now : List Line) (place : ℕ) → IsKeptOrGone left place now → (l : Line) → Contains now l → Contains left l
+left_stood left now place h l c =
+    All-contains (Contains left) now l (left_below (Contains left) left now place (All-from_contains (Contains left) left (λ m d. d)) h) c
 
 -- after the last step
 pub AreLeft-none : (order : Below) (lines left : List Line) (place : ℕ) → place ≡ 0 → AreLeft order lines place left →

@@ -3,3 +3,4 @@ pub mod Leaving
 pub mod Firsts
 pub mod Keys
 pub mod Falling
+pub mod Keeping

@@ -5,17 +5,21 @@ use Rattle.rt_lines.specs.declared.variable.Dtv.{Dtv}
 use Rattle.rt_lines.specs.declared.line.Line.{Line}
 use Rattle.rt_lines.specs.declared.line.Line.TheVariants.{Sub}
 use Rattle.rt_lines.specs.Orders.{Below}
-use Rattle.rt_rules.specs.Rules.{Derivable}
+use Rattle.rt_rules.specs.Rules.{HasSide, Derivable}
 use Rattle.rt_rules.specs.Laws.{NamesBase}
 use Rattle.rt_rules.specs.Put.{exist}
 use Rattle.rt_reduction.specs.Before.{comes_before}
 use Rattle.rt_reduction.specs.Merges.{IsEqualTo}
 
--- the variable is of another base than the existential, and the lines name both bases
+-- the variable is a side of a line
+abbrev pub IsSide : List Line → Dtv → Type 0
+IsSide lines z = (l : Line) × Contains lines l × HasSide l z
+
+-- the variable is a side of another base than the existential, which the lines name
 pub record IsNamedPair (lines : List Line) (n : ℕ) (z : Dtv) : Type 0 where
   pub other_base : z.base ≢ Exist n
   pub own : NamesBase lines (Exist n)
-  pub side : NamesBase lines z.base
+  pub side : IsSide lines z
 
 -- a variable of another base and the existential lie below each other
 pub record IsLike (order : Below) (lines : List Line) (n : ℕ) (z : Dtv) : Type 0 where

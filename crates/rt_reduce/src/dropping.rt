@@ -1,5 +1,6 @@
 // Lines that others derive, dropped from the end.
-ghost use Rattle.std.specs.Prelude.{◌≡◌, ◌<◌, [], All, OnOk, IfOk, length};
+ghost use Rattle.std.specs.Prelude.{◌≡◌, ◌<◌, [], All, Contains, OnOk, IfOk, length};
+ghost use Rattle.rt_lines.specs.declared.line.Line.{Line as Given};
 ghost use Rattle.rt_lines.specs.Lines.{HasConstantsBelow};
 ghost use Rattle.rt_lines.specs.OrderFacts.{IsOrder};
 ghost use Rattle.rt_reduction.specs.Drops.{Drops};
@@ -15,7 +16,8 @@ use std::alloc::Global;
 /// behind it derive with the order of constants. The error is want of memory.
 pub fn drop_derivable(alloc: Global, lines: &[Line], order: &Order) -> Result<Lines, Memory>
     requires { All (HasConstantsBelow order.now.count) lines.now }
-    ensures { IfOk result (λ left. IsOrder order.now → Drops order.now [] lines.now left) }
+    ensures drops { IfOk result (λ left. IsOrder order.now → Drops order.now [] lines.now left) }
+    ensures stood { IfOk result (λ left. (l : Given) → Contains left l → Contains lines.now l) }
 {
     let mut left = copies(alloc, lines)?;
     let mut place = left.len();

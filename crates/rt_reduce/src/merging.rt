@@ -11,8 +11,9 @@ ghost use Rattle.rt_lines.specs.Sides.{sides as sides_of};
 ghost use Rattle.rt_rules.specs.Laws.{NamesBase};
 ghost use Rattle.rt_rules.specs.Put.{put_lines};
 ghost use Rattle.rt_polar.specs.Tidied.{tidied};
+ghost use Rattle.rt_reduction.specs.Emits.{AreOfScheme};
 ghost use Rattle.rt_reduction.specs.Merges.{HasEqual, IsMerge, Merges};
-ghost use Rattle.rt_reduce.specs.Merging.{IsEarlier, IsFirstAmong, IsFirstEqual, IsLike, IsNamedPair};
+ghost use Rattle.rt_reduce.specs.Merging.{IsEarlier, IsFirstAmong, IsFirstEqual, IsLike, IsNamedPair, IsSide};
 ghost use Rattle.rt_shape.specs.Shapes.{IsShapeOf};
 
 use crate::before::comes_before;
@@ -33,11 +34,14 @@ struct Merge {
 }
 
 /// What is left of the lines when each existential that equals a side of another base gave its place to the first of its
-/// equals, the least such existential first, again and again until none has one; the lines are tidied each time. The error
-/// is want of memory.
+/// equals, the least such existential first, again and again until none has one; the lines are tidied each time. Each side
+/// is one of the lines, with letters more, and each existential is one of them. The error is want of memory.
 pub fn merge_equal(alloc: Global, lines: &[Line], order: &Order) -> Result<Lines, Memory>
     requires { All (HasConstantsBelow order.now.count) lines.now }
-    ensures { IfOk result (λ left. IsOrder order.now → Merges order.now left lines.now) }
+    ensures merges { IfOk result (λ left. IsOrder order.now → Merges order.now left lines.now) }
+    ensures scheme { IfOk result (λ left. AreOfScheme lines.now → AreOfScheme left) }
+    ensures constants { IfOk result (λ left. All (HasConstantsBelow order.now.count) left) }
+    ensures named { IfOk result (λ left. (n : ℕ) → NamesBase left (Existential n) → NamesBase lines.now (Existential n)) }
 {
     let start = copies(alloc, lines)?;
     let mut now = Sequence::from_vec(start);
@@ -186,7 +190,7 @@ fn first_with(
 ) -> Result<Option<Dtv>, Memory>
     requires constants { All (HasConstantsBelow order.now.count) lines.now }
     requires shape { IsShapeOf lines.now shape.now }
-    requires side { NamesBase lines.now side.now.base }
+    requires side { IsSide lines.now side.now }
     requires named { IfSome first (λ known. IsNamedPair lines.now existential known) }
     ensures named { IfOk result (λ now. IfSome now (λ known. IsNamedPair lines.now existential known)) }
     ensures first { IfOk result (λ now. IsOrder order.now → (seen : List Variable) → IsFirstAmong order.now lines.now existential seen first → IsFirstAmong order.now lines.now existential (seen ++ side.now ∷ []) now) }

@@ -1,4 +1,5 @@
-use Rattle.std.proofs.Common.{◌≤◌, All, length}
+use Rattle.std.proofs.Common.{◌≤◌, All, Contains, length}
+use Rattle.rt_lines.specs.declared.line.Line.{Line}
 use Rattle.rt_lines.specs.Lines.{HasConstantsBelow}
 use Rattle.rt_lines.specs.OrderFacts.{IsOrder}
 use Rattle.rt_reduce.proofs.Leaving.{AreLeft}
@@ -9,6 +10,7 @@ invariant-loop-place l = record {
   within : l.place ≤ length l.left.items;
   inside : l.place ≤ length l.lines;
   constants : All (HasConstantsBelow l.order.count) l.left.items;
+  stood : (m : Line) → Contains l.left.items m → Contains l.lines m;
   are_left : IsOrder l.order → AreLeft l.order l.lines l.place l.left.items;
 }
 

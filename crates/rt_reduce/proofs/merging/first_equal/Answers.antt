@@ -2,12 +2,12 @@ use Rattle.std.proofs.Common.{List, subst}
 use Rattle.std.proofs.lemmas.List.{take_all}
 use Rattle.rt_lines.specs.declared.variable.Dtv.{Dtv}
 use Rattle.rt_reduce.specs.Merging.{IsFirstAmong}
-use Rattle.rt_reduce.proofs.Firsts.{first_of_sides, side_named}
+use Rattle.rt_reduce.proofs.Firsts.{first_of_sides, is_side}
 use Rattle.rt_reduce.proofs.merging.first_equal.Goals as goal
 
 pub first_with-requires-clause-side : goal.first_with-requires-clause-side
 first_with-requires-clause-side c =
-    side_named c.args.lines.now c.args.sides.now c.loop-side.side-index c.side-item.result c.requires.sides
+    is_side c.args.lines.now c.args.sides.now c.loop-side.side-index c.side-item.result c.requires.sides
     c.loop-side-test.true c.side-item.is
 
 pub returns-clause-first : goal.returns-clause-first

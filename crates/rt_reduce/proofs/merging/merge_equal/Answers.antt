@@ -5,11 +5,13 @@ use Rattle.rt_lines.specs.declared.variable.Base.TheVariants.{Exist}
 use Rattle.rt_rules.specs.Laws.{NamesBase}
 use Rattle.rt_rules.specs.Put.{put_lines}
 use Rattle.rt_polar.specs.Tidied.{tidied}
+use Rattle.rt_reduction.specs.Emits.{AreOfScheme}
 use Rattle.rt_reduction.specs.Merges.{HasEqual, IsMerge, Merges}
 use Rattle.rt_reduction.specs.Merges.Merges.{none_left, merges}
 use Rattle.rt_reduce.specs.declared.merging.Merge.{Merge}
 use Rattle.rt_reduce.specs.Merging.{IsNamedPair}
-use Rattle.rt_reduce.proofs.Falling.{AreOfNumbers, merge_falls, merge_numbers, named_count, number_of, put-below}
+use Rattle.rt_reduce.proofs.Falling.{AreOfNumbers, merge_falls, merge_numbers, named_by, named_count, number_of, put-below}
+use Rattle.rt_reduce.proofs.Keeping.{put_scheme}
 use Rattle.rt_reduce.proofs.merging.merge_equal.Goals as goal
 
 pub loop-now-init : goal.loop-now-init
@@ -18,6 +20,7 @@ loop-now-init c =
     let e : c.from_vec-now.result ≡ lines = c.from_vec-now.ensures ∙ c.in_ok-start.ensures in
     record {
       constants = subst (All (HasConstantsBelow c.args.order.now.count)) (sym e) c.requires;
+      scheme = λ h. subst AreOfScheme (sym e) h;
       numbers = λ n h. number_of lines n (subst (λ (ls : List Line). NamesBase ls (Exist n)) e h);
       merges = λ is left m. subst (Merges c.args.order.now left) e m;
     }
@@ -51,6 +54,7 @@ loop-now-preserved c =
     c.in_ok-merge.ensures.named) in
     record {
       constants = subst (All (HasConstantsBelow order.count)) (sym e) (put-below order.count n z now inv.constants);
+      scheme = λ h. subst AreOfScheme (sym e) (put_scheme now n z pair.side (inv.scheme h));
       numbers = subst (AreOfNumbers lines) (sym e) (merge_numbers now n z pair lines inv.numbers);
       merges = λ is left m. inv.merges is left (merges n z now
           (subst (λ (ls : List Line). IsMerge order ls n z) c.items.ensures
@@ -59,8 +63,11 @@ loop-now-preserved c =
           (subst (Merges order left) e m));
     }
 
-pub returns : goal.returns
-returns c = λ is.
+pub returns-clause-named : goal.returns-clause-named
+returns-clause-named c = λ n h. named_by c.args.lines.now n (c.loop-now.invariant.numbers n h)
+
+pub returns-clause-merges : goal.returns-clause-merges
+returns-clause-merges c = λ is.
     let order = c.args.order.now in
     let none : (k : ℕ) → HasEqual order c.items.result.now k → ⊥ =
     subst (λ (o : Option Merge). MatchOption o ((k : ℕ) → HasEqual order c.items.result.now k → ⊥)

@@ -1,0 +1,34 @@
+// Rounds of the steps.
+ghost use Rattle.std.specs.Prelude.{All, IfOk};
+ghost use Rattle.rt_lines.specs.Lines.{HasConstantsBelow};
+ghost use Rattle.rt_lines.specs.OrderFacts.{IsOrder};
+ghost use Rattle.rt_polar.specs.Tidied.{tidied};
+ghost use Rattle.rt_reduction.specs.Emits.{AreOfScheme};
+ghost use Rattle.rt_reduction.specs.Rounds.{IsRound};
+ghost use Rattle.rt_reduce.specs.Rounds.{IsBegun};
+
+use crate::dropping::drop_derivable;
+use crate::merging::merge_equal;
+use rt_base::Memory;
+use rt_emit::emit_shape;
+use rt_lines::{Lines, Order};
+use rt_simplify::simplify;
+use std::alloc::Global;
+
+/// One round over the tidied lines: existentials give their places away and twins become one, the shape is written anew,
+/// existentials that equal a side give their places to it, and each line goes that the others derive. The error is want of
+/// memory.
+pub fn round(alloc: Global, lines: Lines, order: &Order) -> Result<Lines, Memory>
+    requires scheme { AreOfScheme lines }
+    requires constants { All (HasConstantsBelow order.now.count) lines }
+    ensures round { IfOk result (λ after. IsOrder order.now → IsRound order.now (tidied lines) after) }
+    ensures begun { IfOk result (IsBegun (tidied lines)) }
+    ensures scheme { IfOk result (λ after. AreOfScheme after) }
+    ensures constants { IfOk result (λ after. All (HasConstantsBelow order.now.count) after) }
+{
+    let simple = simplify(alloc, lines)?;
+    let emitted = emit_shape(alloc, simple.items())?;
+    let merged = merge_equal(alloc, emitted.items(), order)?;
+    let after = drop_derivable(alloc, merged.items(), order)?;
+    Ok(after)
+}
