@@ -3,7 +3,6 @@ use Rattle.std.specs.Prelude.{◌≡◌, ℕ, ◌↔◌, List, Bool, IsTrue, len
 use Rattle.rt_lines.specs.declared.line.Judge.{Judge}
 use Rattle.rt_lines.specs.declared.line.Line.{Line}
 use Rattle.rt_lines.specs.Orders.{Below}
-use Rattle.rt_lines.specs.OrderFacts.{IsOrder}
 use Rattle.rt_texts.specs.Goods.{IsJudge}
 use Rattle.rt_texts.specs.Readings.{IsNoText}
 use Rattle.rt_texts.specs.Texts.{judge_text}
@@ -26,4 +25,4 @@ pub record IsAnswer (order : Below) (names : List (List ℕ)) (text judgement : 
   pub judge : Judge
   pub good : IsJudge (length names) judge
   pub is_judgement : judge_text names judge ≡ judgement
-  pub exact : IsOrder order → IsTrue yes ↔ Derivable order lines (line_of judge)
+  pub exact : IsTrue yes ↔ Derivable order lines (line_of judge)

@@ -1,7 +1,7 @@
 // Orders of constants.
 ghost use Rattle.std.specs.Prelude.{◌≡◌, ℕ, ◌+◌, ◌*◌, ◌<◌, ◌⊎◌, ◌↔◌, IsTrue, IfOk, length};
 ghost use Rattle.rt_lines.specs.Orders.{IsAtOrBelow};
-ghost use Rattle.rt_lines.specs.OrderFacts.{order_of, IsTransitive, IsFlat, PutsBelow};
+ghost use Rattle.rt_lines.specs.OrderFacts.{order_of, IsOrder, IsFlat, PutsBelow};
 
 use std::alloc::{AllocError, Global};
 use std::marker::Model;
@@ -40,7 +40,7 @@ impl Order {
     /// How many numbers there are.
     pub fn count(&self) -> u16
         ensures count { result ≡ self.now.count }
-        ensures transitive { IsTransitive self.now }
+        ensures order { IsOrder self.now }
     {
         self.count
     }

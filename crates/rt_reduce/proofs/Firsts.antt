@@ -1,21 +1,22 @@
 -- The first of several variables.
 use Rattle.std.proofs.Common.{◌≡◌, ℕ, ◌+◌, ◌<◌, ◌≤◌, length, take, get_or, ◌⊎◌, inl, inr, List, [], ◌∷◌, ◌++◌, Contains, Option, Some}
-use Rattle.std.proofs.Common.{None, Bool, true, false, MatchOption}
+use Rattle.std.proofs.Common.{None, Bool, true, false, cond, MatchOption}
 use Rattle.std.proofs.Common.{refl, sym, ap, subst, ◌∙◌, arith}
 use Rattle.std.specs.List.{flat_map}
-use Rattle.std.specs.Ordering.{is_gt, nat_cmp}
+use Rattle.std.specs.Ordering.{is_eq, is_gt, nat_cmp}
+use Rattle.std.specs.declared.cmp.Ordering.{Ordering}
+use Rattle.std.specs.declared.cmp.Ordering.TheVariants.{Less, Equal, Greater}
 use Rattle.std.proofs.lemmas.List.{take_more}
 use Rattle.std.proofs.lemmas.Map.Keys.{le_from_not_gt}
+use Rattle.std.proofs.lemmas.Map.Lookups.{exact_unsigned}
 use Rattle.std.proofs.lemmas.List.Elements.{Contains-append_cases, Contains-append_left, Contains-append_right}
 use Rattle.rt_base.proofs.Lists.{Contains-none, Contains-here, Contains-cons_cases, Contains-flat_map, Contains-flat_map_source}
 use Rattle.rt_lines.specs.declared.variable.Base.TheVariants.{Exist}
 use Rattle.rt_lines.specs.declared.variable.Dtv.{Dtv}
 use Rattle.rt_lines.specs.declared.line.Line.{Line}
-use Rattle.rt_lines.specs.declared.line.Line.TheVariants.{Same, Sub}
-use Rattle.rt_lines.specs.declared.label.Label.{Label}
+use Rattle.rt_lines.specs.declared.line.Line.TheVariants.{Sub}
 use Rattle.rt_lines.specs.Orders.{Below}
 use Rattle.rt_lines.specs.Sides.{sides}
-use Rattle.rt_rules.specs.Rules.{Derivable}
 use Rattle.rt_rules.specs.Laws.{NamesBase}
 use Rattle.rt_rules.specs.Put.{exist}
 use Rattle.rt_rules.proofs.LineSides.{Contains-sides, HasSide-in_sides}
@@ -23,7 +24,7 @@ use Rattle.rt_reduction.specs.Before.{comes_before}
 use Rattle.rt_reduction.specs.Merges.{IsEqualTo, HasEqual, IsMerge}
 use Rattle.rt_reduction.proofs.Before.{before_chain, not_before_self}
 use Rattle.rt_reduction.proofs.Naming.{base_named}
-use Rattle.rt_reduce.specs.Merging.{IsEarlier, IsFirstAmong, IsFirstEqual, IsLike, IsSide}
+use Rattle.rt_reduce.specs.Merging.{IsEarlier, IsFirstAmong, IsFirstEqual, IsLike}
 
 pub taken_more : {X : Type 0} (xs : List X) (i : ℕ) (x : X) → i < length xs → x ≡ get_or xs i x → take (i + 1) xs ≡ take i xs ++ x ∷ []
 taken_more xs i x h e = take_more xs i x h ∙ ap (λ y. take i xs ++ y ∷ []) (sym e)
@@ -42,14 +43,6 @@ more_cases xs i x y h e c =
     by (inl d) = inl d
     by (inr d) = at (Contains-cons_cases x [] y d)
 
--- one of the sides of lines is a side of a line
-pub is_side : (lines : List Line) (all : List Dtv) (i : ℕ) (x : Dtv) → all ≡ flat_map sides lines → i < length all → x ≡ get_or all i x →
-    IsSide lines x
-is_side lines all i x e h f =
-    let c : Contains (flat_map sides lines) x = subst (λ xs. Contains xs x) e (i, h, sym f) in
-    let s : (l : Line) × Contains lines l × Contains (sides l) x = Contains-flat_map_source sides lines x c in
-    (s.0, s.1, HasSide-in_sides s.0 x s.2)
-
 -- an existential that has an equal is the base of a side
 pub equal_side : (order : Below) (lines : List Line) (n : ℕ) → HasEqual order lines n →
     (x : Dtv) × Contains (flat_map sides lines) x × (x.base ≡ Exist n)
@@ -57,9 +50,6 @@ equal_side order lines n (z, equal) = by (base_named order lines (Sub (exist n) 
   where
     by : NamesBase lines (Exist n) → (x : Dtv) × Contains (flat_map sides lines) x × (x.base ≡ Exist n)
     by (l, x, c, h, e) = (x, Contains-flat_map sides lines l x c (Contains-sides l x h), e)
-
-pub own_is : (n : ℕ) (w : List Label) → w ≡ [] → record { base = Exist n; word = w } ≡ exist n
-own_is n w e = λ i. record { base = Exist n; word = e i }
 
 -- a variable before another comes before what the other comes before, or is not after it
 not_after : (z k y : Dtv) → comes_before z k ≡ true → comes_before y k ≡ false → comes_before y z ≡ false
@@ -156,7 +146,7 @@ module _ (order : Below) (lines : List Line) (n : ℕ) where
         below = like.below;
       }
 
-  side_of : (z : Dtv) → IsEqualTo order lines n z → Contains (flat_map sides lines) z
+  pub side_of : (z : Dtv) → IsEqualTo order lines n z → Contains (flat_map sides lines) z
   side_of z e = Contains-flat_map sides lines e.line z e.stands (Contains-sides e.line z e.is_side)
 
   like_of : (z : Dtv) → IsEqualTo order lines n z → IsLike order lines n z
@@ -171,12 +161,6 @@ module _ (order : Below) (lines : List Line) (n : ℕ) where
     first = λ y is. first.2 y (subst (λ xs. Contains xs y) (sym e) (side_of y is)) (like_of y is);
   }
 
--- an existential of the shape of a variable is named
-pub own_named : (order : Below) (lines : List Line) (n : ℕ) (own z : Dtv) → own ≡ exist n → Derivable order lines (Same own z) →
-    NamesBase lines (Exist n)
-own_named order lines n own z e d =
-    subst (NamesBase lines) (ap (λ x. x.base) e) (base_named order lines (Same own z) d own (inl refl))
-
 -- the least existential that has an equal, where each that has one was pending
 pub merge_of : (order : Below) (lines : List Line) (v : ℕ) (z : Dtv) (old : ℕ → Bool) → IsFirstEqual order lines v z →
     ((m : ℕ) → HasEqual order lines m → old m ≡ true) → ((q : ℕ) → old q ≡ true → is_gt (nat_cmp v q) ≡ false) → IsMerge order lines v z
@@ -188,3 +172,20 @@ merge_of order lines v z old is pending least = record {
   where
     apart : (m : ℕ) → m < v → v ≤ m → ⊥
     apart m h g = omega (arith, h, g)
+
+equal_number : (v q : ℕ) → is_eq (nat_cmp v q) ≡ true → v ≡ q
+equal_number v q e = by (nat_cmp v q) refl e
+  where
+    by : (o : Ordering) → nat_cmp v q ≡ o → is_eq o ≡ true → v ≡ q
+    by Less f g = absurd (cc)
+    by Equal f g = exact_unsigned v q f
+    by Greater f g = absurd (cc)
+
+-- what was pending is pending still, but for one that was taken out
+pub still_pending : (v m : ℕ) (old new : ℕ → Bool) → ((q : ℕ) → new q ≡ cond (is_eq (nat_cmp v q)) false (old q)) → old m ≡ true →
+    (v ≡ m → ⊥) → new m ≡ true
+still_pending v m old new updates h apart = by (is_eq (nat_cmp v m)) refl
+  where
+    by : (b : Bool) → is_eq (nat_cmp v m) ≡ b → new m ≡ true
+    by true e = absurd (apart (equal_number v m e))
+    by false e = updates m ∙ ap (λ t. cond t false (old m)) e ∙ h

@@ -4,3 +4,11 @@ pub mod Firsts
 pub mod Keys
 pub mod Falling
 pub mod Keeping
+pub mod Joined
+pub mod Leftover
+pub mod Between
+pub mod Flags
+pub mod Telling
+pub mod Bounding
+pub mod Numbering
+pub mod Noting

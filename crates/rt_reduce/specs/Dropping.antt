@@ -1,5 +1,5 @@
 -- One line that goes or stays.
-use Rattle.std.specs.Prelude.{◌≡◌, ℕ, ◌⊎◌, List, slice_index_or}
+use Rattle.std.specs.Prelude.{◌≡◌, ℕ, ◌⊎◌, List, Bool, true, false, slice_index_or, slice_set}
 use Rattle.std.specs.List.{remove}
 use Rattle.rt_lines.specs.declared.line.Line.{Line}
 use Rattle.rt_lines.specs.Orders.{Below}
@@ -14,3 +14,9 @@ abbrev pub Decides : Below → List Line → ℕ → List Line → Type 0
 Decides order lines place left =
     (l : Line) → l ≡ slice_index_or lines place l →
     (Derivable order (remove lines place) l × (left ≡ remove lines place)) ⊎ ((Derivable order (remove lines place) l → ⊥) × (left ≡ lines))
+
+-- the line at the place is gone and its flag cleared, or the line is there, its flag set
+abbrev pub IsMoved : List Line → List Bool → ℕ → List Line → List Bool → Type 0
+IsMoved lines stands place left flags =
+    ((left ≡ remove lines place) × (flags ≡ slice_set stands place false)) ⊎
+    ((left ≡ lines) × (flags ≡ slice_set (slice_set stands place false) place true))

@@ -1,3 +1,7 @@
+pub mod Deciding
+pub mod Alike
+pub mod Bases
 pub mod Dropping
 pub mod Merging
 pub mod Rounds
+pub mod Settling

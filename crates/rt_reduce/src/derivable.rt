@@ -4,7 +4,6 @@ ghost use Rattle.rt_lines.specs.declared.line.Line.{Line as Given};
 ghost use Rattle.rt_lines.specs.declared.line.Line.TheVariants.{Low as Lower, Same, Sub as Subtype, Up as Upper, Var as Exists};
 ghost use Rattle.rt_lines.specs.Lines.{HasConstantsBelow};
 ghost use Rattle.rt_lines.specs.Orders.{Below};
-ghost use Rattle.rt_lines.specs.OrderFacts.{IsOrder};
 ghost use Rattle.rt_rules.specs.Rules.{Derivable};
 ghost use Rattle.rt_shape.specs.Shapes.{IsShapeOf};
 
@@ -23,7 +22,7 @@ pub fn derives_line(
 ) -> Result<bool, Memory>
     requires constants { All (HasConstantsBelow order.now.count) lines.now }
     requires constant { HasConstantsBelow order.now.count line.now }
-    ensures { IfOk result (λ yes. IsOrder order.now → IsTrue yes ↔ Derivable order.now lines.now line.now) }
+    ensures { IfOk result (λ yes. IsTrue yes ↔ Derivable order.now lines.now line.now) }
 {
     match line {
         Line::Var(x) => {
@@ -75,7 +74,7 @@ pub fn is_below(
     y: &Dtv,
 ) -> Result<bool, Memory>
     requires { All (HasConstantsBelow order.now.count) lines.now }
-    ensures { IfOk result (λ yes. IsOrder order.now → IsTrue yes ↔ Derivable order.now lines.now (Subtype x.now y.now)) }
+    ensures { IfOk result (λ yes. IsTrue yes ↔ Derivable order.now lines.now (Subtype x.now y.now)) }
 {
     let judge = Judge::Sub(x.copy()?, y.copy()?);
     let yes = derives(alloc, lines, order, &judge)?;
@@ -86,7 +85,7 @@ pub fn is_below(
 fn has_low(alloc: Global, lines: &[Line], order: &Order, k: u16, x: &Dtv) -> Result<bool, Memory>
     requires constants { All (HasConstantsBelow order.now.count) lines.now }
     requires constant { k < order.now.count }
-    ensures { IfOk result (λ yes. IsOrder order.now → IsTrue yes ↔ Derivable order.now lines.now (Lower k x.now)) }
+    ensures { IfOk result (λ yes. IsTrue yes ↔ Derivable order.now lines.now (Lower k x.now)) }
 {
     let judge = Judge::Low(k, x.copy()?);
     let yes = derives(alloc, lines, order, &judge)?;
@@ -97,7 +96,7 @@ fn has_low(alloc: Global, lines: &[Line], order: &Order, k: u16, x: &Dtv) -> Res
 fn has_up(alloc: Global, lines: &[Line], order: &Order, x: &Dtv, k: u16) -> Result<bool, Memory>
     requires constants { All (HasConstantsBelow order.now.count) lines.now }
     requires constant { k < order.now.count }
-    ensures { IfOk result (λ yes. IsOrder order.now → IsTrue yes ↔ Derivable order.now lines.now (Upper x.now k)) }
+    ensures { IfOk result (λ yes. IsTrue yes ↔ Derivable order.now lines.now (Upper x.now k)) }
 {
     let judge = Judge::Up(x.copy()?, k);
     let yes = derives(alloc, lines, order, &judge)?;

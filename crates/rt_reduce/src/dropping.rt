@@ -1,45 +1,96 @@
 // Lines that others derive, dropped from the end.
-ghost use Rattle.std.specs.Prelude.{◌≡◌, ◌<◌, [], All, Contains, OnOk, IfOk, length};
+ghost use Rattle.std.specs.Prelude.{◌≡◌, ◌+◌, ◌<◌, ◌↔◌, [], All, Contains, IsTrue, OnOk, IfOk, IfSome, length};
 ghost use Rattle.rt_lines.specs.declared.line.Line.{Line as Given};
 ghost use Rattle.rt_lines.specs.Lines.{HasConstantsBelow};
-ghost use Rattle.rt_lines.specs.OrderFacts.{IsOrder};
 ghost use Rattle.rt_reduction.specs.Drops.{Drops};
-ghost use Rattle.rt_reduce.specs.Dropping.{Decides, IsKeptOrGone};
+ghost use Rattle.rt_reduction.specs.Emits.{is_flow as is_flow_line};
+ghost use Rattle.rt_reduce.specs.Deciding.{AreStanding, IsOwnTable};
+ghost use Rattle.rt_reduce.specs.Dropping.{Decides, IsKeptOrGone, IsMoved};
 
 use crate::copying::copies;
-use crate::derivable::derives_line;
+use crate::deciding::is_derivable;
 use rt_base::{Memory, Sequence};
 use rt_lines::{Line, Lines, Order};
+use rt_standing::Table;
 use std::alloc::Global;
 
 /// What stays of the lines when, from the last to the first, each line goes that the lines before it and those that stayed
-/// behind it derive with the order of constants. The error is want of memory.
+/// behind it derive with the order of constants. One table tells of most lines whether they are derivable; where it
+/// doesn't, the others are saturated. The error is want of memory.
 pub fn drop_derivable(alloc: Global, lines: &[Line], order: &Order) -> Result<Lines, Memory>
     requires { All (HasConstantsBelow order.now.count) lines.now }
-    ensures drops { IfOk result (λ left. IsOrder order.now → Drops order.now [] lines.now left) }
+    ensures drops { IfOk result (λ left. Drops order.now [] lines.now left) }
     ensures stood { IfOk result (λ left. (l : Given) → Contains left l → Contains lines.now l) }
 {
+    let made = table_of(alloc, lines)?;
+    let table = made.as_ref();
+    let mut stands = vec![in alloc; true; lines.len()]?;
     let mut left = copies(alloc, lines)?;
     let mut place = left.len();
     while place > 0 {
         place -= 1;
-        drop_at(alloc, &mut left, order, place)?;
+        drop_at(alloc, table, &mut stands, &mut left, order, place)?;
     }
     Ok(Sequence::from_vec(left))
 }
 
+// A table of the lines, if there is a `<=` line or a bound among them.
+fn table_of(alloc: Global, lines: &[Line]) -> Result<Option<Table>, Memory>
+    ensures { IfOk result (λ table. IfSome table (IsOwnTable lines.now)) }
+{
+    if !has_flow(lines) {
+        return Ok(None);
+    }
+    let table = Table::of(alloc, lines, &[])?;
+    Ok(Some(table))
+}
+
+// Whether there is a `<=` line or a bound among the lines.
+fn has_flow(lines: &[Line]) -> bool
+    ensures { IsTrue result ↔ ((l : Given) × Contains lines.now l × IsTrue (is_flow_line l)) }
+{
+    for line in lines {
+        if is_flow(line) {
+            return true;
+        }
+    }
+    false
+}
+
+// Whether the line is a `<=` line or a bound.
+fn is_flow(line: &Line) -> bool
+    ensures { result ≡ is_flow_line line.now }
+{
+    match line {
+        Line::Var(_) | Line::Same(_, _) => false,
+        Line::Sub(_, _) | Line::Low(_, _) | Line::Up(_, _) => true,
+    }
+}
+
 // Takes out the line at the place, if the others derive it.
-fn drop_at(alloc: Global, left: &mut Vec<Line>, order: &Order, place: usize) -> Result<(), Memory>
+fn drop_at(
+    alloc: Global,
+    table: Option<&Table>,
+    stands: &mut Vec<bool>,
+    left: &mut Vec<Line>,
+    order: &Order,
+    place: usize,
+) -> Result<(), Memory>
     requires within { place < length left.old.items }
+    requires flags { place < length stands.old.items }
     requires constants { All (HasConstantsBelow order.now.count) left.old.items }
+    requires standing { IfSome table (λ t. AreStanding left.old.items stands.old.items (place + 1) t.now) }
     ensures lines { OnOk result (IsKeptOrGone left.old.items place left.new.items) }
-    ensures decides { OnOk result (IsOrder order.now → Decides order.now left.old.items place left.new.items) }
+    ensures decides { OnOk result (Decides order.now left.old.items place left.new.items) }
+    ensures moved { OnOk result (IsMoved left.old.items stands.old.items place left.new.items stands.new.items) }
 {
     let line = left.remove(place);
-    let derived = derives_line(alloc, left, order, &line)?;
+    stands[place] = false;
+    let derived = is_derivable(alloc, table, stands, left, order, &line)?;
     if derived {
         return Ok(());
     }
     left.insert(place, line)?;
+    stands[place] = true;
     Ok(())
 }

@@ -1,7 +1,6 @@
 // Rounds of the steps.
 ghost use Rattle.std.specs.Prelude.{All, IfOk};
 ghost use Rattle.rt_lines.specs.Lines.{HasConstantsBelow};
-ghost use Rattle.rt_lines.specs.OrderFacts.{IsOrder};
 ghost use Rattle.rt_polar.specs.Tidied.{tidied};
 ghost use Rattle.rt_reduction.specs.Emits.{AreOfScheme};
 ghost use Rattle.rt_reduction.specs.Rounds.{IsRound};
@@ -21,7 +20,7 @@ use std::alloc::Global;
 pub fn round(alloc: Global, lines: Lines, order: &Order) -> Result<Lines, Memory>
     requires scheme { AreOfScheme lines }
     requires constants { All (HasConstantsBelow order.now.count) lines }
-    ensures round { IfOk result (λ after. IsOrder order.now → IsRound order.now (tidied lines) after) }
+    ensures round { IfOk result (λ after. IsRound order.now (tidied lines) after) }
     ensures begun { IfOk result (IsBegun (tidied lines)) }
     ensures scheme { IfOk result (λ after. AreOfScheme after) }
     ensures constants { IfOk result (λ after. All (HasConstantsBelow order.now.count) after) }

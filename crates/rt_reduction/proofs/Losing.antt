@@ -44,13 +44,13 @@ pub round_names_lem : RoundNamesLaw
 round_names_lem order lines after r b names = named_from lines after (names_round order lines after r) b names
 
 -- an existential that is named before and not after
-abbrev Loses : List Line → List Line → Type 0
+abbrev pub Loses : List Line → List Line → Type 0
 Loses lines after = (n : ℕ) × NamesBase lines (Exist n) × (NamesBase after (Exist n) → ⊥)
 
-loses_before : (first second third : List Line) → Loses first second → NamesFrom second third → Loses first third
+pub loses_before : (first second third : List Line) → Loses first second → NamesFrom second third → Loses first third
 loses_before first second third (n, names, gone) from = (n, names, λ h. gone (named_from second third from (Exist n) h))
 
-loses_after : (first second third : List Line) → NamesFrom first second → Loses second third → Loses first third
+pub loses_after : (first second third : List Line) → NamesFrom first second → Loses second third → Loses first third
 loses_after first second third from (n, names, gone) = (n, named_from first second from (Exist n) names, gone)
 
 put_gone : (lines : List Line) (n : ℕ) (z : Dtv) → z.base ≢ Exist n → NamesBase (tidied (put_lines n z lines)) (Exist n) → ⊥
@@ -64,7 +64,7 @@ put_gone lines n z other names =
     by : NamesBase (put_lines n z lines) (Exist n) → ⊥
     by (l, x, c, h, e) = at x e (put_source lines n z x (l, c, h))
 
-exchange_loses : (n : ℕ) (lines after : List Line) → Exchanges n lines after → Loses lines after
+pub exchange_loses : (n : ℕ) (lines after : List Line) → Exchanges n lines after → Loses lines after
 exchange_loses n lines _ (goes sign place left z before after is cut names) =
     (n, cut_own lines before after sign n z cut, put_gone (before ++ after) n z (candidate_only is).other_base)
 exchange_loses n lines _ (exists_still sign place left z before after is cut unnamed) = (n, cut_own lines before after sign n z cut, gone)
@@ -81,12 +81,12 @@ exchange_loses n lines _ (exists_still sign place left z before after is cut unn
         (Exist n) names)
 
 -- putting changes nothing, or loses an existential
-puts_lose : (left start : List Line) → Puts left start → (start ≡ left) ⊎ Loses start left
+pub puts_lose : (left start : List Line) → Puts left start → (start ≡ left) ⊎ Loses start left
 puts_lose left start (none_left none) = inl refl
 puts_lose left start (puts n now between least exchanged rest) =
     inr (loses_before now between left (exchange_loses n now between exchanged) (names_puts left between rest))
 
-twins_lose : (lines : List Line) (sign : Variance) (place : ℕ → Option Dtv) (w : ℕ) (z : Dtv) → AreTwinned sign lines place
+pub twins_lose : (lines : List Line) (sign : Variance) (place : ℕ → Option Dtv) (w : ℕ) (z : Dtv) → AreTwinned sign lines place
     → place w ≡ Some z → Loses lines (twinned_lines place lines)
 twins_lose lines sign place w z are e = (w, named_w, gone)
   where
@@ -116,15 +116,15 @@ twins_lose lines sign place w z are e = (w, named_w, gone)
         (names_tidied (map (map_line (put_each place)) lines)) (Exist w) names)
 
 -- so does simplifying, and where it changes nothing there are no candidates and no twins
-record IsSimple (lines : List Line) : Type 0 where
-  no_candidate : (n : ℕ) → HasCandidate n lines → ⊥
-  no_twins : (sign : Variance) → HasNoTwins sign lines
+pub record IsSimple (lines : List Line) : Type 0 where
+  pub no_candidate : (n : ℕ) → HasCandidate n lines → ⊥
+  pub no_twins : (sign : Variance) → HasNoTwins sign lines
 
-no_twins_at : (lines : List Line) → HasNoTwins Co lines → HasNoTwins Contra lines → (sign : Variance) → HasNoTwins sign lines
+pub no_twins_at : (lines : List Line) → HasNoTwins Co lines → HasNoTwins Contra lines → (sign : Variance) → HasNoTwins sign lines
 no_twins_at lines a b Co = a
 no_twins_at lines a b Contra = b
 
-simple_loses : (left start : List Line) → Simplifies left start → ((start ≡ left) × IsSimple left) ⊎ Loses start left
+pub simple_loses : (left start : List Line) → Simplifies left start → ((start ≡ left) × IsSimple left) ⊎ Loses start left
 simple_loses left start (simple _ p none none') = by (puts_lose left start p)
   where
     by : (start ≡ left) ⊎ Loses start left → ((start ≡ left) × IsSimple left) ⊎ Loses start left
@@ -137,11 +137,11 @@ simple_loses left start (twins_go _ between sign place w z p turn are e rest) =
 
 -- variables of one shape are joined
 module _ (order : Below) (lines : List Line) where
-  chain_on : {a b c : Base} → IsJoined lines a b → IsJoined lines b c → IsJoined lines a c
+  pub chain_on : {a b c : Base} → IsJoined lines a b → IsJoined lines b c → IsJoined lines a c
   chain_on joined_self k = k
   chain_on (joined_line l c j rest) k = joined_line l c j (chain_on rest k)
 
-  back_joins : (l : Line) (a b : Base) → Joins l a b → Joins l b a
+  pub back_joins : (l : Line) (a b : Base) → Joins l a b → Joins l b a
   back_joins (Var x) a b j = j
   back_joins (Same x y) a b (inl (e, f)) = inr (e, f)
   back_joins (Same x y) a b (inr (e, f)) = inl (e, f)
@@ -150,7 +150,7 @@ module _ (order : Below) (lines : List Line) where
   back_joins (Low k x) a b j = j
   back_joins (Up x k) a b j = j
 
-  chain_back : {a b : Base} → IsJoined lines a b → IsJoined lines b a
+  pub chain_back : {a b : Base} → IsJoined lines a b → IsJoined lines b a
   chain_back joined_self = joined_self
   chain_back (joined_line {a = a} {b = m} l c j rest) = chain_on (chain_back rest) (joined_line l c (back_joins l a m j) joined_self)
 
@@ -161,7 +161,7 @@ module _ (order : Below) (lines : List Line) where
   AreJoined (Low k x) = Unit {0}
   AreJoined (Up x k) = Unit {0}
 
-  are_joined : {j : Line} → Derivable order lines j → AreJoined j
+  pub are_joined : {j : Line} → Derivable order lines j → AreJoined j
   are_joined (named (Var y) c h) = tt
   are_joined (named (Same y z) c h) = tt
   are_joined (named (Sub y z) c h) = tt

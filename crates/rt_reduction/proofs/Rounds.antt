@@ -174,6 +174,4 @@ module _ (order : Below) (own : ℕ) (form : List Line) (owned : (n : ℕ) → N
   }
 
 pub form_reduced_lem : FormReducedLaw
-form_reduced_lem order own lines form scheme owned r =
-    nothing_to_spare order own form (λ n names. owned n (from_procedure lines form (from_form order lines form r) n names))
-    (last_round order form (tidied lines) r)
+form_reduced_lem order own lines form owned r = nothing_to_spare order own form owned (last_round order form (tidied lines) r)

@@ -128,10 +128,10 @@ FormSidesLaw =
     (order : Below) (lines form : List Line) → AreOfScheme lines → IsReducedForm order lines form →
     AreOfScheme form × ((n : ℕ) → NamesBase form (Proc n) → NamesBase lines (Proc n))
 
--- the reduced form of lines of one procedure has nothing to spare
+-- a reduced form that names one procedure at most has nothing to spare
 abbrev pub FormReducedLaw : Type 0
 FormReducedLaw =
-    (order : Below) (own : ℕ) (lines form : List Line) → AreOfScheme lines → ((n : ℕ) → NamesBase lines (Proc n) → n ≡ own) →
+    (order : Below) (own : ℕ) (lines form : List Line) → ((n : ℕ) → NamesBase form (Proc n) → n ≡ own) →
     IsReducedForm order lines form → IsReduced order (Proc own) form
 
 -- each constant of the reduced form stands in the lines

@@ -28,8 +28,8 @@ pub record IsAnalysis (analysis : Analysis) : Type 0 where
   pub same : analysis.sigs.now ≡ analysis.facts.sigs.now
   pub signatures : AreSignatures (size_of analysis.lattice.now) analysis.sigs.now
   pub groups : AreGroupsOf (procs_in analysis) analysis.groups
-  pub solved : AreSolved (object_in analysis) analysis.lattice.now.roles (procs_in analysis) analysis.sigs.now analysis.groups
-      analysis.schemes
+  pub solved : AreSolved (object_in analysis) analysis.lattice.now.roles analysis.lattice.now.order (procs_in analysis) analysis.sigs.now
+      analysis.groups analysis.schemes
   pub given : AreGiven (object_in analysis) (size_of analysis.lattice.now) analysis.schemes
 
 -- lines of which constants are below a count and globals are symbols

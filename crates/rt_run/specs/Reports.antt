@@ -18,14 +18,14 @@ use Rattle.rt_run.specs.declared.content.Content.TheVariants.{Constraints, Schem
 use Rattle.rt_run.specs.Objects.{IsInProfile, IsReadAs}
 use Rattle.rt_run.specs.Globals.{AreGlobals}
 
--- The schemes of an object's procedures: in each group of procedures that call each other, each member's scheme gives whoever calls it the
--- same as the lists of the group's members together, where callees outside the group have these same schemes and functions outside their
--- signatures.
+-- The schemes of an object's procedures: in each group of procedures that call each other, each member's scheme is reduced (nothing in it is
+-- to spare) and gives whoever calls it, under the order of the lattice, the same as the lists of the group's members together, where callees
+-- outside the group have these same schemes and functions outside their signatures.
 pub record AreSchemes (object : Object) (order : NamedOrder) (signatures : List Signature) (procs : List Proc)
     (schemes : List (Option Scheme)) : Type 0 where
   pub groups : List (List ℕ)
   pub are_groups : AreGroupsOf procs groups
-  pub are_solved : AreSolved object order.roles procs signatures groups schemes
+  pub are_solved : AreSolved object order.roles order.order procs signatures groups schemes
 
 -- the lines of the procedure of a number, by the table, with such schemes of its callees
 pub record AreConstraints (object : Object) (order : NamedOrder) (signatures : List Signature) (procs : List Proc)

@@ -5,6 +5,6 @@
 pub enum Content {
     /// The lines of its instructions.
     Constraints,
-    /// A scheme: lines that tell whoever calls it the same.
+    /// A scheme: lines that tell whoever calls it the same, with nothing to spare.
     Schemes,
 }

@@ -176,9 +176,10 @@ fn tell_unread<E: Sink>(alloc: Global, name: &str, err: &mut E) -> u8
 /// aren't of the grammar, 3 a read failed, 4 a write failed, 5 no memory. At each status but 0 one line on `err` tells why.
 ///
 /// `constraints OBJECT` writes, for each procedure of the object, the lines of its instructions, and `schemes OBJECT` a scheme
-/// that tells whoever calls it the same. `entail FILE JUDGEMENT` writes whether the judgement is derivable from the lines of the file. The option
-/// `--lattice FILE` gives the constants, and `--signatures FILE`, which `entail` has not, what functions outside the object take and give. Before
-/// its own file a command reads and checks the lattice, and then the signatures. The text is made whole before it is put.
+/// with nothing to spare that tells whoever calls it the same. `entail FILE JUDGEMENT` writes whether the judgement is
+/// derivable from the lines of the file. The option `--lattice FILE` gives the constants, and `--signatures FILE`, which
+/// `entail` has not, what functions outside the object take and give. Before its own file a command reads and checks the
+/// lattice, and then the signatures. The text is made whole before it is put.
 pub fn run<F: Files, O: Sink, E: Sink>(
     alloc: Global,
     words: &Vec<String>,

@@ -5,7 +5,6 @@ ghost use Rattle.rt_lines.specs.declared.line.Line.TheVariants.{Low as Lower, Sa
 ghost use Rattle.rt_lines.specs.declared.variable.Dtv.{Dtv as Variable};
 ghost use Rattle.rt_lines.specs.Lines.{HasConstantsBelow};
 ghost use Rattle.rt_lines.specs.Orders.{Below};
-ghost use Rattle.rt_lines.specs.OrderFacts.{IsOrder};
 ghost use Rattle.rt_rules.specs.Rules.{Derivable, HasSide, line_of};
 ghost use Rattle.rt_shape.specs.Shapes.{IsShapeOf};
 ghost use Rattle.rt_sat.specs.Tables.{AreLows, AreUps};
@@ -21,7 +20,7 @@ use std::alloc::Global;
 /// Whether the judgement is derivable from the lines with the order of constants. The error is want of memory.
 pub fn derives(alloc: Global, lines: &[Line], order: &Order, judge: &Judge) -> Result<bool, Memory>
     requires { All (HasConstantsBelow order.now.count) (line_of judge.now ∷ lines.now) }
-    ensures { IfOk result (λ yes. IsOrder order.now → IsTrue yes ↔ Derivable order.now lines.now (line_of judge.now)) }
+    ensures { IfOk result (λ yes. IsTrue yes ↔ Derivable order.now lines.now (line_of judge.now)) }
 {
     let shape = rt_shape::of(alloc, lines)?;
     match judge {
@@ -88,8 +87,10 @@ fn has_low(
     requires shape { IsShapeOf lines.now shape.now }
     requires constants { All (HasConstantsBelow order.now.count) lines.now }
     requires constant { k < order.now.count }
-    ensures { IfOk result (λ yes. IsOrder order.now → IsTrue yes ↔ Derivable order.now lines.now (Lower k x.now)) }
+    ensures { IfOk result (λ yes. IsTrue yes ↔ Derivable order.now lines.now (Lower k x.now)) }
 {
+    // The call says that the order is transitive.
+    order.count();
     if !is_there(shape, x) {
         return Ok(false);
     }
@@ -114,8 +115,10 @@ fn has_up(
     requires shape { IsShapeOf lines.now shape.now }
     requires constants { All (HasConstantsBelow order.now.count) lines.now }
     requires constant { k < order.now.count }
-    ensures { IfOk result (λ yes. IsOrder order.now → IsTrue yes ↔ Derivable order.now lines.now (Upper x.now k)) }
+    ensures { IfOk result (λ yes. IsTrue yes ↔ Derivable order.now lines.now (Upper x.now k)) }
 {
+    // The call says that the order is transitive.
+    order.count();
     if !is_there(shape, x) {
         return Ok(false);
     }

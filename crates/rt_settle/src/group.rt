@@ -1,5 +1,6 @@
 // Schemes of groups of procedures.
-ghost use Rattle.std.specs.Prelude.{◌≡◌, ◌↔◌, ◌++◌, IfOk, IsTrue, OnOk};
+ghost use Rattle.std.specs.Prelude.{◌≡◌, ◌↔◌, ◌++◌, All, IfOk, IsTrue, OnOk};
+ghost use Rattle.rt_lines.specs.Lines.{HasConstantsBelow};
 ghost use Rattle.rt_scheme.specs.Schemes.{AreSchemeLines};
 ghost use Rattle.rt_scheme.specs.Splitting.{AreInterfaceLines};
 ghost use Rattle.rt_settle.specs.Chosen.{IsChosenFrom};
@@ -46,58 +47,66 @@ fn are_scheme_lines(own: u32, lines: &[Line]) -> bool
 }
 
 // The lines of a member's scheme: those of the group where they name no other procedure, else these split and settled again.
-fn lines_for(alloc: Global, own: u32, settled: &Lines) -> Result<Lines, Memory>
-    requires { AreInterfaceLines settled.now }
+fn lines_for(alloc: Global, own: u32, settled: &Lines, order: &Order) -> Result<Lines, Memory>
+    requires interfaces { AreInterfaceLines settled.now }
+    requires constants { All (HasConstantsBelow order.now.count) settled.now }
     ensures bases { IfOk result (AreSchemeLines own) }
-    ensures tells { IfOk result (TellsOutside own settled.now) }
-    ensures chosen { IfOk result (IsChosenFrom own settled.now) }
+    ensures tells { IfOk result (λ lines. TellsOutside order.now own settled.now lines) }
+    ensures chosen { IfOk result (λ lines. IsChosenFrom order.now own settled.now lines) }
 {
     if are_scheme_lines(own, settled.items()) {
         return settled.copy();
     }
     let split = split(alloc, settled.items(), own)?;
-    settle(alloc, split)
+    settle(alloc, split, order)
 }
 
 // A member's scheme, from the settled lines of the group.
-fn scheme_for(alloc: Global, own: u32, settled: &Lines) -> Result<Scheme, Memory>
-    requires { AreInterfaceLines settled.now }
-    ensures { IfOk result (IsSchemeFrom own settled.now) }
+fn scheme_for(alloc: Global, own: u32, settled: &Lines, order: &Order) -> Result<Scheme, Memory>
+    requires interfaces { AreInterfaceLines settled.now }
+    requires constants { All (HasConstantsBelow order.now.count) settled.now }
+    ensures { IfOk result (λ scheme. IsSchemeFrom order.now own settled.now scheme) }
 {
-    let lines = lines_for(alloc, own, settled)?;
+    let lines = lines_for(alloc, own, settled, order)?;
     Ok(Scheme { base: own, lines })
 }
 
 // A scheme for each member, from the settled lines of the group.
-fn schemes_for(alloc: Global, members: &[u32], settled: &Lines) -> Result<GroupSchemes, Memory>
-    requires { AreInterfaceLines settled.now }
-    ensures { IfOk result (AreSchemesFrom members.now settled.now) }
+fn schemes_for(
+    alloc: Global,
+    members: &[u32],
+    settled: &Lines,
+    order: &Order,
+) -> Result<GroupSchemes, Memory>
+    requires interfaces { AreInterfaceLines settled.now }
+    requires constants { All (HasConstantsBelow order.now.count) settled.now }
+    ensures { IfOk result (λ schemes. AreSchemesFrom order.now members.now settled.now schemes) }
 {
     let mut schemes = Vec::with_capacity(alloc, members.len())?;
     for member in members {
-        schemes.push(scheme_for(alloc, *member, settled)?)?;
+        schemes.push(scheme_for(alloc, *member, settled, order)?)?;
     }
     Ok(Sequence::from_vec(schemes))
 }
 
 /// The schemes of procedures that call each other, from one list of lines for each of them, in which existentials of one
-/// number are the same: for each member, in order, the scheme that is chosen, which tells the outside of it what the lines of
-/// all lists tell, with no constant and no global more.
+/// number are the same: for each member, in order, the scheme that is chosen, which tells the outside of it, under the order
+/// of constants, what the lines of all lists tell, with no constant and no global more, and which has nothing to spare.
 ///
-/// The lines of all lists are settled, first for the outside of all members at once, then once for each member, where an
-/// existential stands for each argument and result of the others. The constants are in an order, and the schemes tell the
-/// same under it and under each other one: none of it is used. The error is out of memory.
+/// The lines of all lists are settled, first for the outside of all members at once. A member's scheme are these lines, where
+/// they name no other procedure; else an existential stands for each argument and result of the others, and the lines are
+/// settled once more. The error is out of memory.
 pub fn solve_group(
     alloc: Global,
     members: &[u32],
     lists: &Lists,
     order: &Order,
 ) -> Result<GroupSchemes, Memory>
-    requires { AreInterfaceLines (joined lists.now) }
-    ensures { IfOk result (AreSchemesOf members.now (joined lists.now)) }
+    requires interface { AreInterfaceLines (joined lists.now) }
+    requires constants { All (HasConstantsBelow order.now.count) (joined lists.now) }
+    ensures { IfOk result (λ schemes. AreSchemesOf order.now members.now (joined lists.now) schemes) }
 {
-    let _ = order;
     let all = join(alloc, lists.items())?;
-    let settled = settle(alloc, all)?;
-    schemes_for(alloc, members, &settled)
+    let settled = settle(alloc, all, order)?;
+    schemes_for(alloc, members, &settled, order)
 }

@@ -1,5 +1,5 @@
 //! The laws of the schemes that are chosen: functions that do nothing, each for the law that it ensures.
-ghost use Rattle.rt_settle.specs.Chosen.{ChosenAlike, ChosenScheme, ConstantsStand, OneChoice};
+ghost use Rattle.rt_settle.specs.Chosen.{ChosenAlike, ChosenReduced, ChosenScheme, ConstantsStand, OneChoice};
 
 /// Of all schemes that say the same, one is chosen: no two are, whatever the procedure and the lines of its group.
 pub fn one_choice()
@@ -19,4 +19,10 @@ pub fn alike()
 /// What is chosen for a procedure is the lines of a scheme of it.
 pub fn scheme()
     ensures { ChosenScheme }
+{}
+
+/// What is chosen for a procedure has nothing to spare: each existential has a use and equals no other variable, no line
+/// follows from the others, and a chain of lines joins each existential to the procedure or to a global.
+pub fn reduced()
+    ensures { ChosenReduced }
 {}

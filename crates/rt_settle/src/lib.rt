@@ -4,9 +4,7 @@
 mod group;
 pub mod laws;
 mod ordering;
-mod ranks;
 mod scheme;
-mod spare;
 
 pub use group::{GroupSchemes, Lists, solve_group};
 pub use scheme::settle;

@@ -7,6 +7,7 @@ use Rattle.std.proofs.lemmas.List.Elements.{Contains-get_or}
 use Rattle.std.proofs.lemmas.List.Kept.{AllPairs-from_increasing}
 use Rattle.rt_lines.specs.Lines.{HasConstantsBelow}
 use Rattle.rt_lines.specs.declared.line.Line.{Line}
+use Rattle.rt_lines.specs.Orders.{Below}
 use Rattle.rt_lattice.specs.declared.roles.Roles.{Roles}
 use Rattle.rt_elf.specs.Parts.{Parts as Object}
 use Rattle.rt_proc.specs.declared.proc.Proc.{Proc}
@@ -23,7 +24,7 @@ use Rattle.rt_solve.proofs.Linking.{AgreeFor, element_of, lines_same}
 use Rattle.rt_solve.proofs.Setting.{elsewhere-with, given-with, length-with, there-with}
 
 -- what the schemes of a group's members are given for its lists
-module _ (group : List ℕ) (lines : List Line) (found : List Scheme) (are : AreSchemesOf group lines found) where
+module _ (order : Below) (group : List ℕ) (lines : List Line) (found : List Scheme) (are : AreSchemesOf order group lines found) where
   base_at : (i : ℕ) (d : Scheme) → i < length found → (get_or found i d).base ≡ get_or group i 0
   base_at i d lt = (are.each i d (omega (arith, are.one_each))).base_is
 
@@ -42,21 +43,25 @@ module _ (group : List ℕ) (lines : List Line) (found : List Scheme) (are : Are
       record { constants = is.constants count constants; globals = λ number names. globals number (is.globals number names) }
 
 -- the first k groups are solved
-pub record AreSolvedTo (object : Object) (roles : Roles) (procs : List Proc) (signatures : List Signature) (groups : List (List ℕ)) (k : ℕ) (schemes : List (Option Scheme)) : Type 0 where
+pub record AreSolvedTo (object : Object) (roles : Roles) (order : Below) (procs : List Proc) (signatures : List Signature)
+    (groups : List (List ℕ)) (k : ℕ) (schemes : List (Option Scheme)) : Type 0 where
   pub one_each : length schemes ≡ length procs
-  pub each : (j : ℕ) → j < k → IsGroupSolved object roles procs signatures schemes (group_at groups j)
+  pub each : (j : ℕ) → j < k → IsGroupSolved object roles order procs signatures schemes (group_at groups j)
 
-module _ (object : Object) (roles : Roles) (procs : List Proc) (signatures : List Signature) (groups : List (List ℕ)) where
-  pub none_solved : (count : ℕ) → count ≡ length procs → AreSolvedTo object roles procs signatures groups 0 (replicate count None)
+module _ (object : Object) (roles : Roles) (order : Below) (procs : List Proc) (signatures : List Signature) (groups : List (List ℕ)) where
+  pub none_solved : (count : ℕ) → count ≡ length procs → AreSolvedTo object roles order procs signatures groups 0 (replicate count None)
   none_solved count e = record {
     one_each = length-replicate count None ∙ e;
     each = λ j lt. absurd (omega arith);
   }
 
-  pub all_solved : (k : ℕ) (schemes : List (Option Scheme)) → length groups ≤ k → AreSolvedTo object roles procs signatures groups k schemes → AreSolved object roles procs signatures groups schemes
+  pub all_solved : (k : ℕ) (schemes : List (Option Scheme)) → length groups ≤ k
+      → AreSolvedTo object roles order procs signatures groups k schemes → AreSolved object roles order procs signatures groups schemes
   all_solved k schemes le to = record {
     one_each = to.one_each;
-    each = λ group (j, lt, e). subst (IsGroupSolved object roles procs signatures schemes) (get_or_default groups j [] group lt ∙ e) (to.each j (omega arith));
+    each = λ group (j, lt, e).
+        subst (IsGroupSolved object roles order procs signatures schemes) (get_or_default groups j [] group lt ∙ e)
+        (to.each j (omega arith));
   }
 
   module _ (are : AreGroupsOf procs groups) where
@@ -68,14 +73,21 @@ module _ (object : Object) (roles : Roles) (procs : List Proc) (signatures : Lis
     one_group : (i j q : ℕ) → Contains (group_at groups i) q → Contains (group_at groups j) q → i ≡ j
     one_group i j q a b = (are.together i j q q a b).1 (there, there)
 
-    module _ (k : ℕ) (lt : k < length groups) (old new : List (Option Scheme)) (to : AreSolvedTo object roles procs signatures groups k old) (adds : AddsSchemesOf object roles procs signatures (group_at groups k) old new) where
+    module _ (k : ℕ) (lt : k < length groups) (old new : List (Option Scheme))
+        (to : AreSolvedTo object roles order procs signatures groups k old)
+        (adds : AddsSchemesOf object roles order procs signatures (group_at groups k) old new) where
       elsewhere : (q : ℕ) → (Contains (group_at groups k) q → ⊥) → get_or new q None ≡ get_or old q None
       elsewhere q apart = ap (λ s. get_or s q None) adds.is ∙ elsewhere-with old adds.found q other
         where
           other : All (λ s. q ≢ s.base) adds.found
           other i d less same =
               let within : i < length (group_at groups k) = omega (arith, adds.are_schemes.one_each) in
-              apart (i, within, get_or_default (group_at groups k) i q 0 within ∙ sym (base_at (group_at groups k) (joined adds.bodies) adds.found adds.are_schemes i d less) ∙ sym same)
+              apart (
+                i,
+                within,
+                get_or_default (group_at groups k) i q 0 within
+                    ∙ sym (base_at order (group_at groups k) (joined adds.bodies) adds.found adds.are_schemes i d less) ∙ sym same,
+              )
 
       long : length new ≡ length old
       long = ap length adds.is ∙ length-with old adds.found
@@ -91,7 +103,7 @@ module _ (object : Object) (roles : Roles) (procs : List Proc) (signatures : Lis
           by q apart (inr (i, before, c)) = sym (elsewhere q (λ h. let e : i ≡ k = one_group i k q c h in omega arith))
 
       -- a group before
-      solved_before : (j : ℕ) → j < k → IsGroupSolved object roles procs signatures new (group_at groups j)
+      solved_before : (j : ℕ) → j < k → IsGroupSolved object roles order procs signatures new (group_at groups j)
       solved_before j less = record {
         bodies = is.bodies;
         are_lines = lines_same object roles procs signatures (group_at groups j) old new is.bodies (agree_for j (omega arith)) is.are_lines;
@@ -100,56 +112,64 @@ module _ (object : Object) (roles : Roles) (procs : List Proc) (signatures : Lis
           is_scheme = elsewhere (get_or (group_at groups j) i 0) (apart i within) ∙ has.is_scheme;
           own = has.own;
           alike = has.alike;
+          reduced = has.reduced;
           chosen = has.chosen;
         };
       }
         where
-          is : IsGroupSolved object roles procs signatures old (group_at groups j)
+          is : IsGroupSolved object roles order procs signatures old (group_at groups j)
           is = to.each j less
 
           apart : (i : ℕ) → i < length (group_at groups j) → Contains (group_at groups k) (get_or (group_at groups j) i 0) → ⊥
           apart i within h = let e : j ≡ k = one_group j k (get_or (group_at groups j) i 0) (Contains-get_or (group_at groups j) i 0 within) h in omega arith
 
       -- the group itself
-      solved_here : IsGroupSolved object roles procs signatures new (group_at groups k)
+      solved_here : IsGroupSolved object roles order procs signatures new (group_at groups k)
       solved_here = record {
         bodies = adds.bodies;
         are_lines = lines_same object roles procs signatures (group_at groups k) old new adds.bodies (agree_for k (omega arith)) adds.are_lines;
         solved = λ i within. has i within (element_of adds.found i (omega (arith, adds.are_schemes.one_each)));
       }
         where
-          has : (i : ℕ) → i < length (group_at groups k) → Scheme → HasSchemeOf new (joined adds.bodies) (get_or (group_at groups k) i 0)
+          has : (i : ℕ) → i < length (group_at groups k) → Scheme
+              → HasSchemeOf order new (joined adds.bodies) (get_or (group_at groups k) i 0)
           has i within d =
               let is = adds.are_schemes.each i d within in
               let less : i < length adds.found = omega (arith, adds.are_schemes.one_each) in
               let within_old : All (λ s. s.base < length old) adds.found =
-              bases_within (group_at groups k) (joined adds.bodies) adds.found adds.are_schemes (length old) (subst (λ n. All (λ number. number < n) (group_at groups k)) (sym to.one_each) (members_within k lt)) in
-              let stands = there-with old adds.found within_old (bases_apart (group_at groups k) (joined adds.bodies) adds.found adds.are_schemes (are.rising k lt)) i d less in
+              bases_within order (group_at groups k) (joined adds.bodies) adds.found adds.are_schemes (length old)
+              (subst (λ n. All (λ number. number < n) (group_at groups k)) (sym to.one_each) (members_within k lt)) in
+              let stands = there-with old adds.found within_old
+              (bases_apart order (group_at groups k) (joined adds.bodies) adds.found adds.are_schemes (are.rising k lt)) i d less in
               record {
                 scheme = get_or adds.found i d;
                 is_scheme = ap (λ s. get_or s (get_or (group_at groups k) i 0) None) adds.is
                     ∙ sym (ap (λ n. get_or (fold with_scheme old adds.found) n None) is.base_is) ∙ stands;
                 own = is.base_is;
                 alike = is.tells.alike;
+                reduced = is.reduced;
                 chosen = is.chosen;
               }
 
-      pub solved_more : AreSolvedTo object roles procs signatures groups (k + 1) new
+      pub solved_more : AreSolvedTo object roles order procs signatures groups (k + 1) new
       solved_more = record {
         one_each = long ∙ to.one_each;
         each = λ j less. by j less (cases_eq j k);
       }
         where
-          by : (j : ℕ) → j < k + 1 → (j ≡ k) ⊎ (j ≡ k → ⊥) → IsGroupSolved object roles procs signatures new (group_at groups j)
-          by j less (inl e) = subst (λ n. IsGroupSolved object roles procs signatures new (group_at groups n)) (sym e) solved_here
+          by : (j : ℕ) → j < k + 1 → (j ≡ k) ⊎ (j ≡ k → ⊥) → IsGroupSolved object roles order procs signatures new (group_at groups j)
+          by j less (inl e) = subst (λ n. IsGroupSolved object roles order procs signatures new (group_at groups n)) (sym e) solved_here
           by j less (inr apart) = solved_before j (omega arith)
 
 -- the schemes of a group's members are given
-pub given_more : (object : Object) (count : ℕ) (group : List ℕ) (bodies : List (List Line)) (old : List (Option Scheme)) (found : List Scheme) → AreSchemesOf group (joined bodies) found → All (λ number. number < length old) group →
-    All (All (HasConstantsBelow count)) bodies → All (HasGlobalsOf object) bodies → AreGiven object count old → AreGiven object count (fold with_scheme old found)
-given_more object count group bodies old found are within constants globals given =
-    given-with object count old found (bases_within group (joined bodies) found are (length old) within)
-    (all_given group (joined bodies) found are object count (All-joined (HasConstantsBelow count) bodies constants) (globals-joined object bodies globals)) given
+pub given_more : (object : Object) (order : Below) (count : ℕ) (group : List ℕ) (bodies : List (List Line)) (old : List (Option Scheme))
+    (found : List Scheme) → AreSchemesOf order group (joined bodies) found → All (λ number. number < length old) group →
+    All (All (HasConstantsBelow count)) bodies → All (HasGlobalsOf object) bodies → AreGiven object count old
+    → AreGiven object count (fold with_scheme old found)
+given_more object order count group bodies old found are within constants globals given =
+    given-with object count old found (bases_within order group (joined bodies) found are (length old) within)
+    (all_given order group (joined bodies) found are object count (All-joined (HasConstantsBelow count) bodies constants)
+    (globals-joined object bodies globals)) given
 
 -- a group as it is read
 pub group_read : (groups others : List (List ℕ)) (k : ℕ) (group : List ℕ) → others ≡ groups → k < length others → group ≡ get_or others k group → group ≡ group_at groups k

@@ -6,6 +6,7 @@ use Rattle.std.proofs.lemmas.Bool.{cases_eq}
 use Rattle.std.proofs.lemmas.List.{get_or_default, get_or_past}
 use Rattle.std.proofs.lemmas.List.Elements.{Contains-get_or}
 use Rattle.rt_lines.specs.declared.line.Line.{Line}
+use Rattle.rt_lines.specs.Orders.{Below}
 use Rattle.rt_lattice.specs.declared.roles.Roles.{Roles}
 use Rattle.rt_elf.specs.Parts.{Parts as Object}
 use Rattle.rt_proc.specs.declared.proc.Proc.{Proc}
@@ -37,18 +38,18 @@ one_scheme s t base lines = λ i. record {
 }
 
 -- so a procedure has one, of lines
-one_scheme_of : OneChoice → (first second : List (Option Scheme)) (lines others : List Line) (number : ℕ) → lines ≡ others
-    → HasSchemeOf first lines number → HasSchemeOf second others number
+one_scheme_of : OneChoice → (order : Below) (first second : List (Option Scheme)) (lines others : List Line) (number : ℕ) → lines ≡ others
+    → HasSchemeOf order first lines number → HasSchemeOf order second others number
     → get_or first number None ≡ get_or second number None
-one_scheme_of one_choice first second lines others number same a b =
-    let chosen : IsChosen number lines b.scheme.lines = subst (λ ls. IsChosen number ls b.scheme.lines) (sym same) b.chosen in
-    a.is_scheme
-    ∙ ap Some (one_scheme a.scheme b.scheme (a.own ∙ sym b.own) (one_choice number lines a.scheme.lines b.scheme.lines a.chosen chosen)) ∙ sym b.is_scheme
+one_scheme_of one_choice order first second lines others number same a b =
+    let chosen : IsChosen order number lines b.scheme.lines = subst (λ ls. IsChosen order number ls b.scheme.lines) (sym same) b.chosen in
+    let as_lines : a.scheme.lines ≡ b.scheme.lines = one_choice order number lines a.scheme.lines b.scheme.lines a.chosen chosen in
+    a.is_scheme ∙ ap Some (one_scheme a.scheme b.scheme (a.own ∙ sym b.own) as_lines) ∙ sym b.is_scheme
 
-module _ (object : Object) (roles : Roles) (procs : List Proc) (signatures : List Signature) (groups : List (List ℕ)) (are : AreGroupsOf procs groups)
-    (one_list : OneList) (one_choice : OneChoice) (first second : List (Option Scheme))
-    (a : AreSolved object roles procs signatures groups first)
-    (b : AreSolved object roles procs signatures groups second) where
+module _ (object : Object) (roles : Roles) (order : Below) (procs : List Proc) (signatures : List Signature) (groups : List (List ℕ))
+    (are : AreGroupsOf procs groups) (one_list : OneList) (one_choice : OneChoice) (first second : List (Option Scheme))
+    (a : AreSolved object roles order procs signatures groups first)
+    (b : AreSolved object roles order procs signatures groups second) where
   -- members of a group have the same schemes where those of the groups before it do
   module _ (k : ℕ) (less : k < length groups)
       (to : (i q : ℕ) → i < k → Contains (group_at groups i) q → get_or first q None ≡ get_or second q None) where
@@ -63,12 +64,12 @@ module _ (object : Object) (roles : Roles) (procs : List Proc) (signatures : Lis
         by q apart (inl c) = absurd (apart c)
         by q apart (inr (i, before, c)) = to i q before c
 
-    solved_by : (schemes : List (Option Scheme)) → AreSolved object roles procs signatures groups schemes
-        → IsGroupSolved object roles procs signatures schemes (group_at groups k)
+    solved_by : (schemes : List (Option Scheme)) → AreSolved object roles order procs signatures groups schemes
+        → IsGroupSolved object roles order procs signatures schemes (group_at groups k)
     solved_by schemes solved = solved.each (group_at groups k) (Contains-get_or groups k [] less)
 
-    bodies_same : (x : IsGroupSolved object roles procs signatures first (group_at groups k))
-        (y : IsGroupSolved object roles procs signatures second (group_at groups k)) → x.bodies ≡ y.bodies
+    bodies_same : (x : IsGroupSolved object roles order procs signatures first (group_at groups k))
+        (y : IsGroupSolved object roles order procs signatures second (group_at groups k)) → x.bodies ≡ y.bodies
     bodies_same x y =
         one_list object roles procs signatures second (group_at groups k) x.bodies y.bodies
         (lines_same object roles procs signatures (group_at groups k) first second x.bodies agree_for x.are_lines) y.are_lines
@@ -79,7 +80,7 @@ module _ (object : Object) (roles : Roles) (procs : List Proc) (signatures : Lis
         let y = solved_by second b in
         let is : get_or (group_at groups k) i 0 ≡ q = get_or_default (group_at groups k) i 0 q within ∙ e in
         subst (λ n. get_or first n None ≡ get_or second n None) is
-        (one_scheme_of one_choice first second (flat_map (λ (lines : List Line). lines) x.bodies)
+        (one_scheme_of one_choice order first second (flat_map (λ (lines : List Line). lines) x.bodies)
         (flat_map (λ (lines : List Line). lines) y.bodies) (get_or (group_at groups k) i 0)
         (ap (flat_map (λ (lines : List Line). lines)) (bodies_same x y)) (x.solved i within) (y.solved i within))
 
@@ -105,11 +106,12 @@ module _ (object : Object) (roles : Roles) (procs : List Proc) (signatures : Lis
       at q (i, less, c) = agree (length groups) (omega arith) i q less c
 
 pub one_solution_of : IsLawOfOneList → OneList → OneChoice → OneSolution
-one_solution_of one_procs one_list one_choice object ends roles signatures procs others groups other_groups first second is is' are are' a b =
+one_solution_of one_procs one_list one_choice object ends roles order signatures procs others groups other_groups first second is is' are
+    are' a b =
     let procs_same : others ≡ procs = one_procs object ends others procs is' is in
     let there : AreGroupsOf procs other_groups = subst (λ ps. AreGroupsOf ps other_groups) procs_same are' in
     let groups_same : other_groups ≡ groups = one_grouping (length procs) (Calls procs) other_groups groups there are in
-    let solved : AreSolved object roles procs signatures other_groups second =
-    subst (λ ps. AreSolved object roles ps signatures other_groups second) procs_same b in
-    one_solution object roles procs signatures groups are one_list one_choice first second a
-    (subst (λ gs. AreSolved object roles procs signatures gs second) groups_same solved)
+    let solved : AreSolved object roles order procs signatures other_groups second =
+    subst (λ ps. AreSolved object roles order ps signatures other_groups second) procs_same b in
+    one_solution object roles order procs signatures groups are one_list one_choice first second a
+    (subst (λ gs. AreSolved object roles order procs signatures gs second) groups_same solved)

@@ -41,7 +41,8 @@ fn solve_next(
     requires within { All (λ number. number < length facts.now.procs.now) group.now }
     requires enough { length facts.now.procs.now ≤ length schemes.old }
     requires given { AreGiven facts.now.object.now (size_of lattice.now) schemes.old }
-    ensures solved { OnOk result (AddsSchemesOf facts.now.object.now lattice.now.roles facts.now.procs.now sigs.now group.now schemes.old schemes.new) }
+    ensures solved { OnOk result (AddsSchemesOf facts.now.object.now lattice.now.roles lattice.now.order facts.now.procs.now sigs.now
+        group.now schemes.old schemes.new) }
     ensures given { OnOk result (AreGiven facts.now.object.now (size_of lattice.now) schemes.new) }
 {
     let bodies = lines_of(alloc, facts, group, schemes, sigs, lattice)?;
@@ -50,9 +51,9 @@ fn solve_next(
     Ok(())
 }
 
-/// The schemes of all procedures, group after group: those of a group's members tell whoever calls them the same as the lists of the members
-/// together, where callees outside the group have the schemes that were found before and functions outside their signatures. The error is want of
-/// memory, which also comes where 32 bits don't number the procedures.
+/// The schemes of all procedures, group after group: those of a group's members have nothing to spare, and tell whoever calls them, under
+/// the order of the lattice, the same as the lists of the members together, where callees outside the group have the schemes that were found
+/// before and functions outside their signatures. The error is want of memory, which also comes where 32 bits don't number the procedures.
 ///
 /// Condition: the groups are those of the facts' procedures, callees first, the signatures are those that the facts were prepared with, and their
 /// constants are names of the lattice.
@@ -67,7 +68,8 @@ pub fn solve_all(
     requires groups { AreGroupsOf facts.now.procs.now groups.now }
     requires sigs { sigs.now ≡ facts.now.sigs.now }
     requires signatures { AreSignatures (size_of lattice.now) sigs.now }
-    ensures solved { IfOk result (AreSolved facts.now.object.now lattice.now.roles facts.now.procs.now sigs.now groups.now) }
+    ensures solved { IfOk result (AreSolved facts.now.object.now lattice.now.roles lattice.now.order facts.now.procs.now sigs.now
+        groups.now) }
     ensures given { IfOk result (AreGiven facts.now.object.now (size_of lattice.now)) }
 {
     let Ok(count) = u32::try_from(facts.procs().len()) else {

@@ -1,10 +1,10 @@
 //! Laws of schemes: functions that do nothing, each for the law that it ensures. Those of one group's schemes are shown again.
 ghost use Rattle.rt_solve.specs.Laws.{OneSolution};
 
-pub use rt_settle::laws::{alike, constants, one_choice, scheme};
+pub use rt_settle::laws::{alike, constants, one_choice, reduced, scheme};
 
-/// There is one family of solved schemes: an object, the symbols that end paths, the signatures of external functions and
-/// the constants of the roles determine it, with the procedures and their groups.
+/// There is one family of solved schemes: an object, the symbols that end paths, the signatures of external functions, the
+/// constants of the roles and the order of constants determine it, with the procedures and their groups.
 pub fn one_solution()
     ensures { OneSolution }
 {

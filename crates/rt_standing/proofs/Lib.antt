@@ -1,3 +1,5 @@
 pub mod Adding
 pub mod Following
 pub mod Standing
+pub mod Joining
+pub mod Equal

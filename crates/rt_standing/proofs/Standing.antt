@@ -65,7 +65,7 @@ standing_in (k ∷ lines) (false ∷ flags) zero l e f = absurd (cc)
 standing_in (k ∷ lines) (true ∷ flags) (suc i) l e f = Contains-there k (standing lines flags) l (standing_in lines flags i l e f)
 standing_in (k ∷ lines) (false ∷ flags) (suc i) l e f = standing_in lines flags i l e f
 
-line_there : (lines : List Line) (i : ℕ) (l : Line) → slice_get lines i ≡ Some l → Contains lines l
+pub line_there : (lines : List Line) (i : ℕ) (l : Line) → slice_get lines i ≡ Some l → Contains lines l
 line_there lines i l e = (i, slice_get_within lines i l e, get_or_from_slice_get lines i l l e)
 
 -- edges of lines whose sides are named

@@ -1,2 +1,3 @@
 pub mod Arcs
+pub mod Equals
 pub mod Standing

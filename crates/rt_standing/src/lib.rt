@@ -5,6 +5,7 @@
 mod arc;
 mod between;
 mod entering;
+mod equals;
 mod led;
 mod spreading;
 mod table;

@@ -113,7 +113,7 @@ fn is_open(stands: &[bool], pushed: bool, line: Option<usize>) -> bool
 }
 
 // The arcs that leave a variable.
-fn leaving(arcs: &[Sequence<Arc>], variable: u32) -> &[Arc]
+pub(crate) fn leaving(arcs: &[Sequence<Arc>], variable: u32) -> &[Arc]
     ensures { result.now ≡ slice_index_or arcs.now variable [] }
 {
     match arcs.get(variable as usize) {

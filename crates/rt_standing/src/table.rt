@@ -4,12 +4,13 @@ ghost use Rattle.rt_lines.specs.declared.variable.Dtv.{Dtv as Variable};
 ghost use Rattle.rt_lines.specs.Orders.{Below};
 ghost use Rattle.rt_named.specs.Naming.{named};
 ghost use Rattle.rt_sat.specs.Tables.{AreThere};
-ghost use Rattle.rt_standing.specs.Standing.{HasBelow, standing};
+ghost use Rattle.rt_standing.specs.Standing.{AreEquals, HasBelow, standing};
 ghost use Rattle.rt_standing.specs.declared.led.Led.TheVariants.{No as Never, Yes as Always};
 
 use crate::arc::Arc;
 use crate::between::between;
 use crate::entering::{arcs_of, number, numbers};
+use crate::equals::equals;
 use crate::led::Led;
 use rt_base::{Memory, Sequence};
 use rt_lines::{Dtv, Line};
@@ -97,6 +98,15 @@ impl Table {
         let targets = numbers(alloc, &self.named, to)?;
         let led = between(alloc, &self.arcs, stands, &sources, &targets)?;
         Ok(led)
+    }
+
+    /// A number for each variable that the table numbers, equal exactly where each of two lies below the other by the
+    /// lines. The error is want of memory.
+    pub fn equals(&self, alloc: Global) -> Result<Vec<usize>, Memory>
+        ensures { IfOk result (λ numbers. AreEquals self.now.lines self.now.named numbers.items) }
+    {
+        let numbers = equals(alloc, self.named.len(), &self.arcs)?;
+        Ok(numbers)
     }
 }
 

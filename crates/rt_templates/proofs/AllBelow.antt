@@ -29,9 +29,10 @@ use Rattle.rt_templates.specs.Tables.{AreTemplatesOf, HaveOwnBases, IsTemplateOf
 use Rattle.rt_templates.proofs.Choosing.{group-is, group-lines, group_template, no_template, program_with}
 use Rattle.rt_templates.proofs.Templates.{member-contains, member-has, some-within}
 
-module _ (object : Object) (roles : Roles) (procs : List Proc) (signatures : List Signature) (schemes : List (Option Scheme)) where
+module _ (object : Object) (roles : Roles) (order : Below) (procs : List Proc) (signatures : List Signature)
+    (schemes : List (Option Scheme)) where
   abbrev IsSolved : List ℕ → Type 0
-  IsSolved group = IsGroupSolved object roles procs signatures schemes group
+  IsSolved group = IsGroupSolved object roles order procs signatures schemes group
 
   abbrev AreAllSolved : List (List ℕ) → Type 0
   AreAllSolved [] = Unit {0}
@@ -86,9 +87,9 @@ module _ (object : Object) (roles : Roles) (procs : List Proc) (signatures : Lis
                 (later k within (get_or_default groups k [] group within ∙ e) p d (is_member first p) refl) ∙ rest.1 p d,
           )
 
-module _ (object : Object) (roles : Roles) (procs : List Proc) (signatures : List Signature) (groups : List (List ℕ))
+module _ (object : Object) (roles : Roles) (order : Below) (procs : List Proc) (signatures : List Signature) (groups : List (List ℕ))
     (schemes : List (Option Scheme)) (count : ℕ) (are_groups : AreGroupsOf procs groups) (are_signatures : AreSignatures count signatures)
-    (are : AreSolved object roles procs signatures groups schemes) where
+    (are : AreSolved object roles order procs signatures groups schemes) where
   -- Groups.
 
   apart : AreApart groups
@@ -105,10 +106,9 @@ module _ (object : Object) (roles : Roles) (procs : List Proc) (signatures : Lis
 
   abbrev HasScheme : ℕ → List Line → Type 0
   HasScheme p lines =
-      (s : Scheme) × (slice_index_or schemes p None ≡ Some s) × (s.base ≡ p)
-      × ((order : Below) → Alike order (is_inside_for p) lines s.lines)
+      (s : Scheme) × (slice_index_or schemes p None ≡ Some s) × (s.base ≡ p) × Alike order (is_inside_for p) lines s.lines
 
-  has-scheme : (group : List ℕ) (is : IsGroupSolved object roles procs signatures schemes group) (p : ℕ) → Contains group p →
+  has-scheme : (group : List ℕ) (is : IsGroupSolved object roles order procs signatures schemes group) (p : ℕ) → Contains group p →
       HasScheme p (flat_map (λ (lines : List Line). lines) is.bodies)
   has-scheme group is p (i, within, e) =
       let has = is.solved i within in
@@ -131,14 +131,14 @@ module _ (object : Object) (roles : Roles) (procs : List Proc) (signatures : Lis
 
   -- Templates.
 
-  all_solved : AreAllSolved object roles procs signatures schemes groups
-  all_solved = all-from object roles procs signatures schemes groups are.each
+  all_solved : AreAllSolved object roles order procs signatures schemes groups
+  all_solved = all-from object roles order procs signatures schemes groups are.each
 
   abbrev templates : ℕ → Template
-  templates p = chosen object roles procs signatures schemes groups all_solved p
+  templates p = chosen object roles order procs signatures schemes groups all_solved p
 
-  at_group : (group : List ℕ) → Contains groups group → HasChosen object roles procs signatures schemes groups all_solved group
-  at_group group c = has-chosen object roles procs signatures schemes groups all_solved apart group c
+  at_group : (group : List ℕ) → Contains groups group → HasChosen object roles order procs signatures schemes groups all_solved group
+  at_group group c = has-chosen object roles order procs signatures schemes groups all_solved apart group c
 
   are_of : AreTemplatesOf object roles procs signatures schemes groups templates
   are_of = record {
@@ -157,14 +157,14 @@ module _ (object : Object) (roles : Roles) (procs : List Proc) (signatures : Lis
       let s = at_group group c in
       group-lines object roles procs signatures schemes group s.0.bodies s.0.are_lines templates own_bases (increasing group c) s.1
 
-  solved_by : AreSolvedBy groups templates (scheme_lines schemes)
+  solved_by : AreSolvedBy order groups templates (scheme_lines schemes)
   solved_by = record {
     are_schemes = λ group p c d. let has = has-scheme group (at_group group c).0 p d in
         subst (AreSchemeLines p) (lines-are p has.0 has.1) (subst (λ n. AreSchemeLines n has.0.lines) has.2 has.0.bases);
-    alike = λ order group p c d. let has = has-scheme group (at_group group c).0 p d in
+    alike = λ group p c d. let has = has-scheme group (at_group group c).0 p d in
         subst (Alike order (is_inside_for p) (lines_with (scheme_lines schemes) templates group)) (lines-are p has.0 has.1)
         (subst (λ lists. Alike order (is_inside_for p) (flat_map (λ (lines : List Line). lines) lists) has.0.lines) (lists-are group c)
-        (has.3 order));
+        has.3);
   }
 
   module _ (templates_law : TemplatesLaw) (there_law : ThereLaw) (unfolding_law : UnfoldingLaw) (labels_law : UnfoldedLabelsLaw) where
@@ -178,7 +178,7 @@ module _ (object : Object) (roles : Roles) (procs : List Proc) (signatures : Lis
       lists = λ group c. subst (AreLinesOf object roles procs signatures schemes group) (lists-are group c) (at_group group c).0.are_lines;
     }
 
-    say_all_below : SayAllBelow object roles procs signatures schemes groups
+    say_all_below : SayAllBelow object roles order procs signatures schemes groups
     say_all_below =
         let u = there_law groups templates are_templates apart in
         record {
@@ -186,14 +186,14 @@ module _ (object : Object) (roles : Roles) (procs : List Proc) (signatures : Lis
           made = made;
           unfolded = u.0;
           are_unfolded = u.1;
-          alike = λ order p within. let g = grouped p within in
-              unfolding_law groups templates (scheme_lines schemes) u.0 are_templates solved_by u.1 order g.0 p g.1 g.2;
+          alike = λ p within. let g = grouped p within in
+              unfolding_law order groups templates (scheme_lines schemes) u.0 are_templates solved_by u.1 g.0 p g.1 g.2;
           labels = λ p l within. let g = grouped p within in
-              labels_law groups templates (scheme_lines schemes) u.0 are_templates solved_by u.1 g.0 p g.1 g.2 l;
+              labels_law order groups templates (scheme_lines schemes) u.0 are_templates solved_by u.1 g.0 p g.1 g.2 l;
         }
 
 pub solved_law : TemplatesLaw → ThereLaw → UnfoldingLaw → UnfoldedLabelsLaw → SolvedLaw
-solved_law templates_law there_law unfolding_law labels_law object roles procs signatures groups schemes count are_groups
+solved_law templates_law there_law unfolding_law labels_law object roles order procs signatures groups schemes count are_groups
     are_signatures are =
-    say_all_below object roles procs signatures groups schemes count are_groups are_signatures are
+    say_all_below object roles order procs signatures groups schemes count are_groups are_signatures are
     templates_law there_law unfolding_law labels_law

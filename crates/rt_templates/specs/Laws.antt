@@ -29,26 +29,26 @@ pub record AreMadeOf (object : Object) (roles : Roles) (procs : List Proc) (sign
 
 -- The schemes of procedures say what all of the code below them says. The table's lists are made of templates, of which there are unfolded
 -- lists: the list of each procedure has, in place of the instance of a callee's scheme, an instance of the callee's own unfolded list, and
--- so on down to procedures that call none but those of their group and functions outside. Whatever the order of constants, a caller can
+-- so on down to procedures that call none but those of their group and functions outside. Under the order of constants, a caller can
 -- derive from a procedure's scheme what it can from the procedure's unfolded list, and no more; and both name the same arguments and
 -- results, so that an instance of either has the same ports.
-pub record SayAllBelow (object : Object) (roles : Roles) (procs : List Proc) (signatures : List Signature) (schemes : List (Option Scheme))
-    (groups : List (List ℕ)) : Type 0 where
+pub record SayAllBelow (object : Object) (roles : Roles) (order : Below) (procs : List Proc) (signatures : List Signature)
+    (schemes : List (Option Scheme)) (groups : List (List ℕ)) : Type 0 where
   pub templates : ℕ → Template
   pub made : AreMadeOf object roles procs signatures schemes groups templates
   pub unfolded : ℕ → List Line
   pub are_unfolded : AreUnfolded groups templates unfolded
-  pub alike : (order : Below) (p : ℕ) → p < length procs → Alike order (is_inside_for p) (unfolded p) (scheme_lines schemes p)
+  pub alike : (p : ℕ) → p < length procs → Alike order (is_inside_for p) (unfolded p) (scheme_lines schemes p)
   pub labels : (p : ℕ) (l : Label) → p < length procs
       → names_label p (split_for p (unfolded p)) l ≡ names_label p (scheme_lines schemes p) l
 
 -- the schemes that are solved do
 abbrev pub SolvedLaw : Type 0
 SolvedLaw =
-    (object : Object) (roles : Roles) (procs : List Proc) (signatures : List Signature) (groups : List (List ℕ))
+    (object : Object) (roles : Roles) (order : Below) (procs : List Proc) (signatures : List Signature) (groups : List (List ℕ))
     (schemes : List (Option Scheme)) (count : ℕ) →
-    AreGroupsOf procs groups → AreSignatures count signatures → AreSolved object roles procs signatures groups schemes →
-    SayAllBelow object roles procs signatures schemes groups
+    AreGroupsOf procs groups → AreSignatures count signatures → AreSolved object roles order procs signatures groups schemes →
+    SayAllBelow object roles order procs signatures schemes groups
 
 -- and each procedure has one unfolded list, whatever templates are those of the table's lists
 abbrev pub OneUnfolding : Type 0

@@ -13,10 +13,10 @@ pub fn templates()
     ensures { TemplatesLaw }
 {}
 
-/// What a caller can conclude from a procedure's scheme is what it could conclude from all of the code below it: the
-/// schemes that are solved are alike to the unfolded lists of the table, in which an instance of a callee's own unfolded
-/// list stands in place of each instance of its scheme, and name the same arguments and results. Each procedure has one
-/// unfolded list.
+/// What a caller can conclude from a procedure's scheme is what it could conclude from all of the code below it: under the
+/// order of constants, the schemes that are solved are alike to the unfolded lists of the table, in which an instance of a
+/// callee's own unfolded list stands in place of each instance of its scheme, and name the same arguments and results. Each
+/// procedure has one unfolded list.
 pub fn unfolding()
     ensures below { SolvedLaw }
     ensures one { OneUnfolding }

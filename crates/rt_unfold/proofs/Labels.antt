@@ -202,16 +202,11 @@ scheme_interfaces own lines fit =
     (λ l c. list_all-from is_interface_variable (sides l)
     (λ x d. interface_side own x.base x.word (scheme_lines-side own lines l x fit c (HasSide-in_sides l x d))))
 
--- the order of no constants
-no_order : Below
-no_order = record { count = 0; cells = [] }
-
 pub unfolded_labels_law : UnfoldedLabelsLaw
-unfolded_labels_law groups templates schemes unfolded are_templates solved are_unfolded group p c d l =
-    let claim = claim_in groups templates schemes unfolded are_templates solved are_unfolded group p c d in
-    let order : Below = no_order in
+unfolded_labels_law order groups templates schemes unfolded are_templates solved are_unfolded group p c d l =
+    let claim = claim_in order groups templates schemes unfolded are_templates solved are_unfolded group p c d in
     labels_law order p (split_for p (unfolded p)) (schemes p)
     (scheme_interfaces p (split_for p (unfolded p)) (split_for-fit p (unfolded p) claim.0)) (scheme_interfaces p (schemes p) claim.1)
     (Alike-trans order (is_inside_for p) (split_for p (unfolded p)) (unfolded p) (schemes p)
     (Alike-sym order (is_inside_for p) (unfolded p) (split_for p (unfolded p)) (split_for-alike order p (unfolded p) claim.0))
-    (claim.2 order)) l
+    claim.2) l

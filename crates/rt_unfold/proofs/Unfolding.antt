@@ -122,12 +122,11 @@ pub split_for-alike : (order : Below) (q : ℕ) (lines : List Line) → AreInter
     → Alike order (is_inside_for q) lines (split_for q lines)
 split_for-alike order q lines fit = split-alike q (first_free lines) lines fit (first_free-above lines) order
 
-module _ (groups : List (List ℕ)) (templates : ℕ → Template) (schemes unfolded : ℕ → List Line)
-    (are_templates : AreTemplates groups templates) (solved : AreSolvedBy groups templates schemes)
+module _ (order : Below) (groups : List (List ℕ)) (templates : ℕ → Template) (schemes unfolded : ℕ → List Line)
+    (are_templates : AreTemplates groups templates) (solved : AreSolvedBy order groups templates schemes)
     (are_unfolded : AreUnfolded groups templates unfolded) where
   abbrev pub Claim : ℕ → Type 0
-  Claim p = AreInterfaceLines (unfolded p) × AreSchemeLines p (schemes p)
-      × ((order : Below) → Alike order (is_inside_for p) (unfolded p) (schemes p))
+  Claim p = AreInterfaceLines (unfolded p) × AreSchemeLines p (schemes p) × Alike order (is_inside_for p) (unfolded p) (schemes p)
 
   abbrev split_unfolded : ℕ → List Line
   split_unfolded q = split_for q (unfolded q)
@@ -146,12 +145,12 @@ module _ (groups : List (List ℕ)) (templates : ℕ → Template) (schemes unfo
     fit_scheme : (p site i q : ℕ) → Contains group p → (templates p).called site i ≡ Outside q → AreSchemeLines q (schemes q)
     fit_scheme p site i q c e = (earlier p site i q c e).1
 
-    alike_split : (order : Below) (p site i q : ℕ) → Contains group p → (templates p).called site i ≡ Outside q
+    alike_split : (p site i q : ℕ) → Contains group p → (templates p).called site i ≡ Outside q
         → Alike order (is_inside_for q) (split_unfolded q) (schemes q)
-    alike_split order p site i q c e =
+    alike_split p site i q c e =
         Alike-trans order (is_inside_for q) (split_unfolded q) (unfolded q) (schemes q)
         (Alike-sym order (is_inside_for q) (unfolded q) (split_unfolded q)
-        (split_for-alike order q (unfolded q) (earlier p site i q c e).0)) ((earlier p site i q c e).2 order)
+        (split_for-alike order q (unfolded q) (earlier p site i q c e).0)) (earlier p site i q c e).2
 
     outer_inside : (own : ℕ) → Contains group own → (p site i q : ℕ) → Contains group p → (templates p).called site i ≡ Outside q
         → is_inside_for own (base.Proc q) ≡ true
@@ -171,13 +170,13 @@ module _ (groups : List (List ℕ)) (templates : ℕ → Template) (schemes unfo
       subst AreInterfaceLines (sym (are_unfolded.each group p stands c))
           (lines_with-fit split_unfolded templates group fit_split given_fit (λ o x d e. are_templates.forms k o x within d e)),
       solved.are_schemes group p stands c,
-      λ order. subst (λ lines. Alike order (is_inside_for p) lines (schemes p)) (sym (are_unfolded.each group p stands c))
+      subst (λ lines. Alike order (is_inside_for p) lines (schemes p)) (sym (are_unfolded.each group p stands c))
           (Alike-trans order (is_inside_for p) (lines_with split_unfolded templates group) (lines_with schemes templates group) (schemes p)
           (group_alike templates group order (is_inside_for p) split_unfolded schemes (λ n. refl) (outer_inside p c)
-          (λ o site i q d e. are_templates.outside k o site i q within d e) fit_split fit_scheme (alike_split order) given_fit
+          (λ o site i q d e. are_templates.outside k o site i q within d e) fit_split fit_scheme alike_split given_fit
           (λ o q x d e h. are_templates.members k o q x within d e h)
           (λ o procedure site i n x d e h. are_templates.no_inner k o procedure site i n x within d e h))
-          (solved.alike order group p stands c)),
+          (solved.alike group p stands c)),
     )
 
   pub claim : (bound k p : ℕ) → k < bound → k < length groups → Contains (get_or groups k []) p → Claim p
@@ -197,5 +196,5 @@ module _ (groups : List (List ℕ)) (templates : ℕ → Template) (schemes unfo
       same_entry k lt f = get_or_default groups k [] group lt ∙ f
 
 pub unfolding_law : UnfoldingLaw
-unfolding_law groups templates schemes unfolded are_templates solved are_unfolded order group p c d =
-    (claim_in groups templates schemes unfolded are_templates solved are_unfolded group p c d).2 order
+unfolding_law order groups templates schemes unfolded are_templates solved are_unfolded group p c d =
+    (claim_in order groups templates schemes unfolded are_templates solved are_unfolded group p c d).2

@@ -20,7 +20,7 @@ LabelsLaw =
 -- of the one has the ports of an instance of the other
 abbrev pub UnfoldedLabelsLaw : Type 0
 UnfoldedLabelsLaw =
-    (groups : List (List ℕ)) (templates : ℕ → Template) (schemes unfolded : ℕ → List Line) →
-    AreTemplates groups templates → AreSolvedBy groups templates schemes → AreUnfolded groups templates unfolded →
+    (order : Below) (groups : List (List ℕ)) (templates : ℕ → Template) (schemes unfolded : ℕ → List Line) →
+    AreTemplates groups templates → AreSolvedBy order groups templates schemes → AreUnfolded groups templates unfolded →
     (group : List ℕ) (p : ℕ) → Contains groups group → Contains group p → (l : Label)
     → names_label p (split_for p (unfolded p)) l ≡ names_label p (schemes p) l

@@ -103,11 +103,11 @@ pub record AreTemplates (groups : List (List ℕ)) (templates : ℕ → Template
   pub no_inner : (k p procedure site i n : ℕ) (x : Row) → k < length groups → Contains (get_or groups k []) p
       → Contains (templates p).items (Plain x) → HasRoot x (root.Named (name.Inner procedure site i n)) → ⊥
 
--- each procedure of the groups has a scheme, alike to the lines of its group's members together, where each procedure outside has its
--- scheme
-pub record AreSolvedBy (groups : List (List ℕ)) (templates : ℕ → Template) (schemes : ℕ → List Line) : Type 0 where
+-- each procedure of the groups has a scheme, alike under the order of constants to the lines of its group's members together, where each
+-- procedure outside has its scheme
+pub record AreSolvedBy (order : Below) (groups : List (List ℕ)) (templates : ℕ → Template) (schemes : ℕ → List Line) : Type 0 where
   pub are_schemes : (group : List ℕ) (p : ℕ) → Contains groups group → Contains group p → AreSchemeLines p (schemes p)
-  pub alike : (order : Below) (group : List ℕ) (p : ℕ) → Contains groups group → Contains group p
+  pub alike : (group : List ℕ) (p : ℕ) → Contains groups group → Contains group p
       → Alike order (is_inside_for p) (lines_with schemes templates group) (schemes p)
 
 -- The unfolded lists: each procedure has the lines of its group's members together, where each procedure outside has its own unfolded
@@ -117,10 +117,11 @@ pub record AreUnfolded (groups : List (List ℕ)) (templates : ℕ → Template)
   pub each : (group : List ℕ) (p : ℕ) → Contains groups group → Contains group p
       → unfolded p ≡ lines_with (λ q. split_for q (unfolded q)) templates group
 
--- what a caller can conclude from a procedure's scheme is what it could conclude from all lists below it
+-- what a caller can conclude from a procedure's scheme is what it could conclude from all lists below it, under the order of constants under
+-- which the schemes are alike
 abbrev pub UnfoldingLaw : Type 0
 UnfoldingLaw =
-    (groups : List (List ℕ)) (templates : ℕ → Template) (schemes unfolded : ℕ → List Line) →
-    AreTemplates groups templates → AreSolvedBy groups templates schemes → AreUnfolded groups templates unfolded →
-    (order : Below) (group : List ℕ) (p : ℕ) → Contains groups group → Contains group p
+    (order : Below) (groups : List (List ℕ)) (templates : ℕ → Template) (schemes unfolded : ℕ → List Line) →
+    AreTemplates groups templates → AreSolvedBy order groups templates schemes → AreUnfolded groups templates unfolded →
+    (group : List ℕ) (p : ℕ) → Contains groups group → Contains group p
     → Alike order (is_inside_for p) (unfolded p) (schemes p)

@@ -14,9 +14,10 @@ pub fn labels()
     ensures { LabelsLaw }
 {}
 
-/// What a caller can conclude from a procedure's scheme is what it could conclude from all of the lists below it: in
-/// unfolded lists, an instance of a callee's own unfolded list stands in place of each instance of its scheme. Both name
-/// the same arguments and results of the procedure. There are unfolded lists, one of each procedure.
+/// What a caller can conclude from a procedure's scheme is what it could conclude from all of the lists below it, under the
+/// order of constants under which the schemes say what their groups' lists say: in unfolded lists, an instance of a
+/// callee's own unfolded list stands in place of each instance of its scheme. Both name the same arguments and results of
+/// the procedure. There are unfolded lists, one of each procedure.
 pub fn unfolding()
     ensures there { ThereLaw }
     ensures one { OneLaw }

@@ -12,7 +12,7 @@ loop-c-preserved c =
       | then-is_upper+then-le w ↦
           let pair = c.is_upper.ensures.0 w.if-is_upper.true in
           rw w.low-is
-          (low_moved _ _ _ _ _ _ (λ x. inl refl) c.count-c-end.ensures.transitive c.loop-c.invariant (omega arith) pair.0 pair.1 (w.le.ensures.0 w.if-le.true))
+          (low_moved _ _ _ _ _ _ (λ x. inl refl) c.count-c-end.ensures.order.transitive c.loop-c.invariant (omega arith) pair.0 pair.1 (w.le.ensures.0 w.if-le.true))
       | else-is_upper w ↦
           rw w.low-is
           (low_kept _ _ _ _ _ _ c.loop-c.invariant
@@ -24,4 +24,4 @@ loop-c-preserved c =
     ]
 
 pub returns : goal.returns
-returns c = record { low = low_ends _ _ _ _ _ _ c.loop-c.invariant (omega arith); transitive = c.count-c-end.ensures.transitive }
+returns c = record { low = low_ends _ _ _ _ _ _ c.loop-c.invariant (omega arith); transitive = c.count-c-end.ensures.order.transitive }

@@ -13,7 +13,7 @@ loop-c-preserved c =
       | then-is_lower w ↦
           let pair = c.is_lower.ensures.0 w.if-is_lower.true in
           rw (w.meet-is, w.get-meet.ensures)
-          (high_moved _ _ _ _ _ _ _ c.count-c-end.ensures.transitive c.loop-c.invariant c.requires.first c.requires.second (omega arith) pair.0 pair.1
+          (high_moved _ _ _ _ _ _ _ c.count-c-end.ensures.order.transitive c.loop-c.invariant c.requires.first c.requires.second (omega arith) pair.0 pair.1
           (filled_at _ _ _ _ _ c.requires.joins c.loop-c.invariant.within (omega arith)))
       | else-is_lower w ↦ rw w.meet-is (high_kept _ _ _ _ _ _ c.loop-c.invariant (λ p q. let t = c.is_lower.ensures.1 (p, q) in cc))
     ]

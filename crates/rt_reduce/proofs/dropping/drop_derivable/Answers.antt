@@ -1,36 +1,65 @@
-use Rattle.std.proofs.Common.{◌≡◌, suc, ◌-◌, List, All, Contains, length, sym, subst, arith}
+use Rattle.std.proofs.Common.{rules, ◌≡◌, ◌+◌, ◌-◌, suc, List, All, Contains, true, length, replicate, sym, ap, subst, ◌∙◌, arith}
 use Rattle.std.proofs.lemmas.Grind.{common_steps}
+use Rattle.std.proofs.lemmas.List.{length-replicate}
+use Rattle.std.proofs.lemmas.Option.{IfSome_then}
 use Rattle.rt_lines.specs.declared.line.Line.{Line}
 use Rattle.rt_lines.specs.Lines.{HasConstantsBelow}
+use Rattle.rt_reduce.specs.Deciding.{AreStanding}
+use Rattle.rt_reduce.proofs.Flags.{first_standing, moved_long, moved_standing, referred}
 use Rattle.rt_reduce.proofs.Leaving.{AreLeft-all, AreLeft-next, left_below, left_long, left_stood}
 use Rattle.rt_reduce.proofs.dropping.drop_derivable.Goals as goal
 
 pub loop-place-init : goal.loop-place-init
 loop-place-init c =
+    let lines = c.args.lines.now in
     let left = c.in_ok-left.left.items in
-    let e : left ≡ c.args.lines.now = c.in_ok-left.ensures in
+    let stands = c.in_ok-stands.stands.items in
+    let e : left ≡ lines = c.in_ok-left.ensures in
     let f : c.len-place.result ≡ length left = grind (arith, common_steps) in
-    let g : c.len-place.result ≡ length c.args.lines.now = subst (λ (ls : List Line). c.len-place.result ≡ length ls) e f in
+    let g : c.len-place.result ≡ length lines = subst (λ (ls : List Line). c.len-place.result ≡ length ls) e f in
+    let s : stands ≡ replicate (length lines) true = c.in_ok-stands.ensures.items_if_clones_equal (search rules) in
+    let n : length stands ≡ length lines = ap length s ∙ length-replicate (length lines) true in
     record {
       within = omega (arith, f);
       inside = omega (arith, g);
       constants = subst (All (HasConstantsBelow c.args.order.now.count)) (sym e) c.requires;
       stood = λ m h. subst (λ (ls : List Line). Contains ls m) e h;
-      are_left = λ is. AreLeft-all c.args.order.now c.args.lines.now left c.len-place.result e f;
+      are_left = AreLeft-all c.args.order.now lines left c.len-place.result e f;
+      flags = omega (arith, g, n);
+      standing = referred (AreStanding left stands c.len-place.result) c.in_ok-made.made c.as_ref-table.result c.as_ref-table.ensures.value
+          (IfSome_then c.in_ok-made.made c.in_ok-made.ensures (λ t own. first_standing lines left stands c.len-place.result t own e s g));
     }
+
+pub drop_at-requires-clause-flags : goal.drop_at-requires-clause-flags
+drop_at-requires-clause-flags c = omega (arith, c.loop-place-test.true, c.loop-place.invariant.flags)
+
+pub drop_at-requires-clause-standing : goal.drop_at-requires-clause-standing
+drop_at-requires-clause-standing c =
+    let place = c.loop-place.place in
+    let e : place ≡ (place - 1) + 1 = omega (arith, c.loop-place-test.true) in
+    IfSome_then c.as_ref-table.result c.loop-place.invariant.standing
+    (λ t are. subst (λ n. AreStanding c.loop-place.left.items c.loop-place.stands.items n t.now) e are)
 
 pub loop-place-preserved : goal.loop-place-preserved
 loop-place-preserved c =
     let place = c.loop-place.place in
     let left = c.loop-place.left.items in
     let now = c.drop_at.new.left.items in
+    let stands = c.loop-place.stands.items in
+    let flags = c.drop_at.new.stands.items in
     let next : place ≡ suc (place - 1) = omega (arith, c.loop-place-test.true) in
+    let e : place ≡ (place - 1) + 1 = omega (arith, c.loop-place-test.true) in
     let inv = c.loop-place.invariant in
+    let moved = c.in_ok-drop_at.ensures.moved in
+    let n : length flags ≡ length stands = moved_long left now stands flags (place - 1) moved in
     record {
       within = left_long left now (place - 1) (omega (arith, next, inv.within)) c.in_ok-drop_at.ensures.lines;
       inside = omega (arith, inv.inside);
       constants = left_below (HasConstantsBelow c.args.order.now.count) left now (place - 1) inv.constants c.in_ok-drop_at.ensures.lines;
       stood = λ m h. inv.stood m (left_stood left now (place - 1) c.in_ok-drop_at.ensures.lines m h);
-      are_left = λ is. AreLeft-next c.args.order.now c.args.lines.now left now place (place - 1) next inv.inside (inv.are_left is)
-          (c.in_ok-drop_at.ensures.decides is);
+      are_left = AreLeft-next c.args.order.now c.args.lines.now left now place (place - 1) next inv.inside inv.are_left
+          c.in_ok-drop_at.ensures.decides;
+      flags = omega (arith, n, inv.flags);
+      standing = IfSome_then c.as_ref-table.result inv.standing
+          (λ t are. moved_standing left now stands flags (place - 1) t.now moved (subst (λ k. AreStanding left stands k t.now) e are));
     }

@@ -1,7 +1,8 @@
 use Rattle.std.proofs.Common.{◌≤◌, All, Contains, length}
+use Rattle.std.specs.Option.{IfSome}
 use Rattle.rt_lines.specs.declared.line.Line.{Line}
 use Rattle.rt_lines.specs.Lines.{HasConstantsBelow}
-use Rattle.rt_lines.specs.OrderFacts.{IsOrder}
+use Rattle.rt_reduce.specs.Deciding.{AreStanding}
 use Rattle.rt_reduce.proofs.Leaving.{AreLeft}
 use Rattle.rt_reduce.proofs.dropping.drop_derivable.Given as goal
 
@@ -11,7 +12,9 @@ invariant-loop-place l = record {
   inside : l.place ≤ length l.lines;
   constants : All (HasConstantsBelow l.order.count) l.left.items;
   stood : (m : Line) → Contains l.left.items m → Contains l.lines m;
-  are_left : IsOrder l.order → AreLeft l.order l.lines l.place l.left.items;
+  are_left : AreLeft l.order l.lines l.place l.left.items;
+  flags : l.place ≤ length l.stands.items;
+  standing : IfSome l.table (λ t. AreStanding l.left.items l.stands.items l.place t.now);
 }
 
 abbrev pub decreases-loop-place : goal.decreases-loop-place

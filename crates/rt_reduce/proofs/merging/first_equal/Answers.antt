@@ -1,17 +1,15 @@
-use Rattle.std.proofs.Common.{List, subst}
-use Rattle.std.proofs.lemmas.List.{take_all}
-use Rattle.rt_lines.specs.declared.variable.Dtv.{Dtv}
-use Rattle.rt_reduce.specs.Merging.{IsFirstAmong}
-use Rattle.rt_reduce.proofs.Firsts.{first_of_sides, is_side}
+use Rattle.rt_reduce.proofs.Firsts.{first_of_sides}
+use Rattle.rt_reduce.proofs.Numbering.{alike_at, none_named}
 use Rattle.rt_reduce.proofs.merging.first_equal.Goals as goal
 
-pub first_with-requires-clause-side : goal.first_with-requires-clause-side
-first_with-requires-clause-side c =
-    is_side c.args.lines.now c.args.sides.now c.loop-side.side-index c.side-item.result c.requires.sides
-    c.loop-side-test.true c.side-item.is
+pub returns-in_default : goal.returns-in_default
+returns-in_default c = λ order has.
+    none_named order c.args.table.now.lines c.args.table.now.named c.args.existential c.requires.named (λ d. c.in_default.ensures d) has
 
-pub returns-clause-first : goal.returns-clause-first
-returns-clause-first c = λ is.
-    first_of_sides c.args.order.now c.args.lines.now c.args.existential c.args.sides.now c.loop-side.first c.requires.sides
-    (subst (λ (seen : List Dtv). IsFirstAmong c.args.order.now c.args.lines.now c.args.existential seen c.loop-side.first)
-    (take_all c.loop-side.side-index c.args.sides.now c.loop-side-test.false) (c.loop-side.invariant.first is))
+pub returns : goal.returns
+returns c = λ order.
+    let lines = c.args.table.now.lines in
+    first_of_sides order lines c.args.existential c.args.sides.now c.in_ok-first.first c.requires.sides
+    (c.in_ok-first.ensures order lines
+    (alike_at order lines c.args.table.now.named c.args.equals.now c.args.sides.now c.args.numbers.now c.args.existential c.in-Some.own
+    c.requires.equals c.requires.numbers c.in-Some.ensures))

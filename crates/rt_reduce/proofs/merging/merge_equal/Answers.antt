@@ -1,4 +1,4 @@
-use Rattle.std.proofs.Common.{◌≡◌, ℕ, ◌<◌, List, All, Option, IfSome, MatchOption, sym, ap, subst, ◌∙◌}
+use Rattle.std.proofs.Common.{◌≡◌, ℕ, ◌<◌, List, All, Option, MatchOption, sym, ap, subst, ◌∙◌}
 use Rattle.rt_lines.specs.declared.line.Line.{Line}
 use Rattle.rt_lines.specs.Lines.{HasConstantsBelow}
 use Rattle.rt_lines.specs.declared.variable.Base.TheVariants.{Exist}
@@ -12,6 +12,7 @@ use Rattle.rt_reduce.specs.declared.merging.Merge.{Merge}
 use Rattle.rt_reduce.specs.Merging.{IsNamedPair}
 use Rattle.rt_reduce.proofs.Falling.{AreOfNumbers, merge_falls, merge_numbers, named_by, named_count, number_of, put-below}
 use Rattle.rt_reduce.proofs.Keeping.{put_scheme}
+use Rattle.rt_reduce.proofs.Numbering.{pair_of}
 use Rattle.rt_reduce.proofs.merging.merge_equal.Goals as goal
 
 pub loop-now-init : goal.loop-now-init
@@ -22,7 +23,7 @@ loop-now-init c =
       constants = subst (All (HasConstantsBelow c.args.order.now.count)) (sym e) c.requires;
       scheme = λ h. subst AreOfScheme (sym e) h;
       numbers = λ n h. number_of lines n (subst (λ (ls : List Line). NamesBase ls (Exist n)) e h);
-      merges = λ is left m. subst (Merges c.args.order.now left) e m;
+      merges = λ left m. subst (Merges c.args.order.now left) e m;
     }
 
 pub loop-now-smaller : goal.loop-now-smaller
@@ -33,9 +34,11 @@ loop-now-smaller c =
     let z = c.in-Some.merge.side in
     let e : c.in_ok-now.now ≡ tidied (put_lines n z now) =
     c.in_ok-now.ensures ∙ ap (λ ls. tidied (put_lines n z ls)) c.items-in-Some.ensures in
+    let merge : IsMerge c.args.order.now c.items.result.now n z =
+    subst (λ (o : Option Merge). MatchOption o ((k : ℕ) → HasEqual c.args.order.now c.items.result.now k → ⊥)
+    (λ m. IsMerge c.args.order.now c.items.result.now m.existential m.side)) c.in-Some.is (c.in_ok-merge.ensures c.args.order.now) in
     let pair : IsNamedPair now n z = subst (λ (ls : List Line). IsNamedPair ls n z) c.items.ensures
-    (subst (λ (o : Option Merge). IfSome o (λ m. IsNamedPair c.items.result.now m.existential m.side)) c.in-Some.is
-    c.in_ok-merge.ensures.named) in
+    (pair_of c.args.order.now c.items.result.now n z merge) in
     subst (λ (ls : List Line). named_count lines ls < named_count lines now) (sym e)
     (merge_falls now n z pair lines c.loop-now.invariant.numbers)
 
@@ -49,17 +52,17 @@ loop-now-preserved c =
     let inv = c.loop-now.invariant in
     let e : c.in_ok-now.now ≡ tidied (put_lines n z now) =
     c.in_ok-now.ensures ∙ ap (λ ls. tidied (put_lines n z ls)) c.items-in-Some.ensures in
+    let merge : IsMerge c.args.order.now c.items.result.now n z =
+    subst (λ (o : Option Merge). MatchOption o ((k : ℕ) → HasEqual c.args.order.now c.items.result.now k → ⊥)
+    (λ m. IsMerge c.args.order.now c.items.result.now m.existential m.side)) c.in-Some.is (c.in_ok-merge.ensures c.args.order.now) in
     let pair : IsNamedPair now n z = subst (λ (ls : List Line). IsNamedPair ls n z) c.items.ensures
-    (subst (λ (o : Option Merge). IfSome o (λ m. IsNamedPair c.items.result.now m.existential m.side)) c.in-Some.is
-    c.in_ok-merge.ensures.named) in
+    (pair_of c.args.order.now c.items.result.now n z merge) in
     record {
       constants = subst (All (HasConstantsBelow order.count)) (sym e) (put-below order.count n z now inv.constants);
       scheme = λ h. subst AreOfScheme (sym e) (put_scheme now n z pair.side (inv.scheme h));
       numbers = subst (AreOfNumbers lines) (sym e) (merge_numbers now n z pair lines inv.numbers);
-      merges = λ is left m. inv.merges is left (merges n z now
-          (subst (λ (ls : List Line). IsMerge order ls n z) c.items.ensures
-          (subst (λ (o : Option Merge). MatchOption o ((k : ℕ) → HasEqual order c.items.result.now k → ⊥)
-          (λ m. IsMerge order c.items.result.now m.existential m.side)) c.in-Some.is (c.in_ok-merge.ensures.merges is)))
+      merges = λ left m. inv.merges left (merges n z now
+          (subst (λ (ls : List Line). IsMerge order ls n z) c.items.ensures merge)
           (subst (Merges order left) e m));
     }
 
@@ -67,10 +70,10 @@ pub returns-clause-named : goal.returns-clause-named
 returns-clause-named c = λ n h. named_by c.args.lines.now n (c.loop-now.invariant.numbers n h)
 
 pub returns-clause-merges : goal.returns-clause-merges
-returns-clause-merges c = λ is.
+returns-clause-merges c =
     let order = c.args.order.now in
     let none : (k : ℕ) → HasEqual order c.items.result.now k → ⊥ =
     subst (λ (o : Option Merge). MatchOption o ((k : ℕ) → HasEqual order c.items.result.now k → ⊥)
-    (λ m. IsMerge order c.items.result.now m.existential m.side)) c.in_default.is (c.in_ok-merge.ensures.merges is) in
-    c.loop-now.invariant.merges is c.loop-now.now
+    (λ m. IsMerge order c.items.result.now m.existential m.side)) c.in_default.is (c.in_ok-merge.ensures order) in
+    c.loop-now.invariant.merges c.loop-now.now
     (none_left (subst (λ (ls : List Line). (k : ℕ) → HasEqual order ls k → ⊥) c.items.ensures none))

@@ -1,4 +1,4 @@
-use Rattle.rt_settle.proofs.ChosenAlike.{chosen_scheme}
+use Rattle.rt_settle.proofs.ChosenLaws.{chosen_scheme}
 use Rattle.rt_settle.proofs.laws.scheme.Goals as goal
 
 pub returns : goal.returns

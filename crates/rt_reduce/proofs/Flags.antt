@@ -1,0 +1,120 @@
+-- Lines that stand, of which one is left out or put back.
+use Rattle.std.proofs.Common.{◌≡◌, ℕ, zero, suc, ◌+◌, ◌<◌, inl, inr, List, [], ◌∷◌, Bool, true, false, Contains, Option, Some, None, Bor}
+use Rattle.std.proofs.Common.{length, get_or, set, replicate, refl, sym, ap, subst, ◌∙◌, arith}
+use Rattle.std.specs.List.{remove}
+use Rattle.std.specs.Option.{IfSome, option_copied}
+use Rattle.std.specs.Prelude.{slice_get}
+use Rattle.std.proofs.lemmas.List.{get_or-replicate, get_or-set_other, length-set, set-get_or, set-set}
+use Rattle.std.proofs.lemmas.List.Elements.{All-contains}
+use Rattle.std.proofs.lemmas.Option.{get_or_from_slice_get, slice_get_within}
+use Rattle.rt_base.proofs.Lists.{All-from_contains}
+use Rattle.rt_lines.specs.declared.variable.Dtv.{Dtv}
+use Rattle.rt_lines.specs.declared.line.Line.{Line}
+use Rattle.rt_rules.specs.Rules.{HasSide}
+use Rattle.rt_named.specs.Naming.{named as named_by}
+use Rattle.rt_sat.proofs.Frames.{side_named}
+use Rattle.rt_standing.specs.Standing.{Lined, standing}
+use Rattle.rt_standing.proofs.Standing.{standing_line}
+use Rattle.rt_reduce.specs.Deciding.{AreStanding, IsOwnTable, IsTableFor}
+use Rattle.rt_reduce.specs.Dropping.{IsMoved}
+use Rattle.rt_reduce.proofs.Places.{All-removed}
+
+remove_none : {X : Type 0} (i : ℕ) → remove {X = X} [] i ≡ []
+remove_none zero = refl
+remove_none (suc i) = refl
+
+-- all flags before a place are set
+abbrev AreSetTo : List Bool → ℕ → Type 0
+AreSetTo flags place = (i : ℕ) → i < place → get_or flags i false ≡ true
+
+-- where all flags up to a place are set, the line of the place is left out as its flag is cleared
+pub standing_out : (lines : List Line) (flags : List Bool) (i : ℕ) → AreSetTo flags (i + 1) →
+    standing lines (set flags i false) ≡ remove (standing lines flags) i
+standing_out [] flags i h = sym (remove_none i)
+standing_out (l ∷ lines) [] i h = let e : get_or [] 0 false ≡ true = h 0 (omega arith) in absurd (cc)
+standing_out (l ∷ lines) (false ∷ flags) i h = let e : get_or (false ∷ flags) 0 false ≡ true = h 0 (omega arith) in absurd (cc)
+standing_out (l ∷ lines) (true ∷ flags) zero h = refl
+standing_out (l ∷ lines) (true ∷ flags) (suc i) h = ap (λ ls. l ∷ ls) (standing_out lines flags i (λ j k. h (suc j) (omega (arith, k))))
+
+-- a flag that was set, cleared and set again
+pub set_again : (flags : List Bool) (i : ℕ) → get_or flags i false ≡ true → set (set flags i false) i true ≡ flags
+set_again flags i e = set-set flags i false true ∙ ap (set flags i) (sym e) ∙ set-get_or flags i false
+
+all_stand : (lines : List Line) → standing lines (replicate (length lines) true) ≡ lines
+all_stand [] = refl
+all_stand (l ∷ lines) = ap (λ ls. l ∷ ls) (all_stand lines)
+
+standing_of : (lines : List Line) (flags : List Bool) (l : Line) → Contains (standing lines flags) l → Contains lines l
+standing_of lines flags l c =
+    let r : (i : ℕ) × ((slice_get lines i ≡ Some l) × (get_or flags i false ≡ true)) = standing_line lines flags l c in
+    (r.0, slice_get_within lines r.0 l r.1.0, get_or_from_slice_get lines r.0 l l r.1.0)
+
+removed_of : (lines : List Line) (i : ℕ) (l : Line) → Contains (remove lines i) l → Contains lines l
+removed_of lines i l c =
+    All-contains (Contains lines) (remove lines i) l
+    (All-removed (Contains lines) lines i (All-from_contains (Contains lines) lines (λ k d. d))) c
+
+-- before the first step
+pub first_standing : (lines left : List Line) (stands : List Bool) (place : ℕ) (table : Lined) → IsOwnTable lines table → left ≡ lines →
+    stands ≡ replicate (length lines) true → place ≡ length lines → AreStanding left stands place table
+first_standing lines left stands place table own e f g = record {
+  own = own.1 ∙ ap (λ ls. named_by ls []) (sym own.0);
+  left_are = e ∙ sym (all_stand lines) ∙ ap (λ ls. standing ls (replicate (length lines) true)) (sym own.0)
+      ∙ ap (standing table.lines) (sym f);
+  before = λ i h. ap (λ fs. get_or fs i false) f ∙ get_or-replicate (length lines) i true false (omega (arith, h, g));
+}
+
+module _ (left : List Line) (stands : List Bool) (place : ℕ) (table : Lined) (are : AreStanding left stands (place + 1) table) where
+  out : remove left place ≡ standing table.lines (set stands place false)
+  out = ap (λ ls. remove ls place) are.left_are ∙ sym (standing_out table.lines stands place are.before)
+
+  named_side : (l : Line) (x : Dtv) → Contains left l → HasSide l x → Contains table.named x
+  named_side l x c h =
+      side_named table.lines [] table.named are.own l x (standing_of table.lines stands l (subst (λ ls. Contains ls l) are.left_are c)) h
+
+  -- the line is left out
+  pub table_for : (line : Line) → Contains left line → IsTableFor (remove left place) (set stands place false) line table
+  table_for line c = record {
+    left_are = out;
+    sides = λ l x d h. named_side l x (removed_of left place l d) h;
+    line_sides = λ x h. named_side line x c h;
+  }
+
+  pub standing_gone : AreStanding (remove left place) (set stands place false) place table
+  standing_gone = record {
+    own = are.own;
+    left_are = out;
+    before = λ i h. get_or-set_other stands place i false false (λ e. omega (arith, e, h)) ∙ are.before i (omega (arith, h));
+  }
+
+  -- it is put back
+  pub standing_kept : AreStanding left (set (set stands place false) place true) place table
+  standing_kept =
+      let same : set (set stands place false) place true ≡ stands = set_again stands place (are.before place (omega arith)) in
+      record {
+        own = are.own;
+        left_are = are.left_are ∙ ap (standing table.lines) (sym same);
+        before = λ i h. ap (λ fs. get_or fs i false) same ∙ are.before i (omega (arith, h));
+      }
+
+-- what is said of a table is said of a reference to it
+pub referred : {T : Type 0} (P : T → Type 0) (made : Option T) (table : Option (Bor T)) → option_copied table ≡ made → IfSome made P →
+    IfSome table (λ t. P t.now)
+referred P made None e h = tt
+referred P made (Some t) e h = subst (λ o. IfSome o P) (sym e) h
+
+-- the line of the place has gone or stays
+pub moved_standing : (left now : List Line) (stands flags : List Bool) (place : ℕ) (table : Lined) → IsMoved left stands place now flags →
+    AreStanding left stands (place + 1) table → AreStanding now flags place table
+moved_standing left now stands flags place table (inl m) are =
+    subst (λ ls. AreStanding ls flags place table) (sym m.0)
+    (subst (λ fs. AreStanding (remove left place) fs place table) (sym m.1) (standing_gone left stands place table are))
+moved_standing left now stands flags place table (inr m) are =
+    subst (λ ls. AreStanding ls flags place table) (sym m.0)
+    (subst (λ fs. AreStanding left fs place table) (sym m.1) (standing_kept left stands place table are))
+
+pub moved_long : (left now : List Line) (stands flags : List Bool) (place : ℕ) → IsMoved left stands place now flags →
+    length flags ≡ length stands
+moved_long left now stands flags place (inl m) = ap length m.1 ∙ length-set stands place false
+moved_long left now stands flags place (inr m) =
+    ap length m.1 ∙ length-set (set stands place false) place true ∙ length-set stands place false

@@ -1,0 +1,201 @@
+-- What sides of lines, and a table, tell of a line.
+use Rattle.std.proofs.Common.{◌≡◌, ℕ, ◌+◌, ◌<◌, ◌≤◌, ◌⊎◌, inl, inr, List, [], ◌∷◌, ◌++◌, Bool, true, All, Contains, IsTrue, length, take}
+use Rattle.std.proofs.Common.{drop, get_or, refl, sym, ap, subst}
+use Rattle.std.specs.Bool.{Decides}
+use Rattle.std.specs.List.{starts_with, list_any}
+use Rattle.std.proofs.lemmas.List.{take_all}
+use Rattle.std.proofs.lemmas.Slice.Eq.{starts_is}
+use Rattle.rt_base.proofs.Lists.{Contains-none, Contains-here, Contains-cons_cases, list_any-at}
+use Rattle.rt_lines.specs.declared.label.Label.{Label}
+use Rattle.rt_lines.specs.declared.variable.Dtv.{Dtv}
+use Rattle.rt_lines.specs.declared.line.Line.{Line}
+use Rattle.rt_lines.specs.declared.line.Line.TheVariants.{Var, Sub, Low, Up}
+use Rattle.rt_lines.specs.Equality.{base_eq, label_eq, variable_eq}
+use Rattle.rt_lines.specs.Lines.{HasConstantsBelow}
+use Rattle.rt_lines.specs.Orders.{Below, IsAtOrBelow}
+use Rattle.rt_lines.specs.OrderFacts.{IsOrder}
+use Rattle.rt_lines.specs.contracts.label.LabelEq.TheImpl.Laws as label_laws
+use Rattle.rt_lines.proofs.Equal.{label_equal, base_equal, variable_equal}
+use Rattle.rt_rules.specs.Rules.{extended, HasSide, Derivable}
+use Rattle.rt_rules.specs.Rules.Derivable.{named, sub_self}
+use Rattle.rt_rules.proofs.Covering.{front}
+use Rattle.rt_shape.specs.Shapes.{IsFront, IsNamed}
+use Rattle.rt_bridge.specs.Bounds.{HasLow, HasUp}
+use Rattle.rt_bridge.proofs.Bounds.{low_from, up_from}
+use Rattle.rt_bridge.proofs.Lawful.{low_law, up_law}
+use Rattle.rt_standing.specs.declared.led.Led.{Led}
+use Rattle.rt_standing.specs.declared.led.Led.TheVariants.{No, Yes, Open}
+use Rattle.rt_standing.specs.Standing.{HasBelow}
+use Rattle.rt_reduce.specs.Deciding.{AreAbove, AreBelow, HasFront, Tells}
+use Rattle.rt_reduce.proofs.Firsts.{more_cases}
+
+-- none of the elements that are gone through
+abbrev pub IsNone : {X : Type 0} → (X → Type 0) → List X → ℕ → Type 0
+IsNone {X} P xs i = (y : X) → Contains (take i xs) y → P y → ⊥
+
+pub none_begun : {X : Type 0} (P : X → Type 0) (xs : List X) → IsNone P xs 0
+none_begun P xs y c p = Contains-none y c
+
+pub none_more : {X : Type 0} (P : X → Type 0) (xs : List X) (i : ℕ) (x : X) → i < length xs → x ≡ get_or xs i x → (P x → ⊥) →
+    IsNone P xs i → IsNone P xs (i + 1)
+none_more P xs i x h e fails none y c p = by (more_cases xs i x y h e c)
+  where
+    by : Contains (take i xs) y ⊎ (x ≡ y) → ⊥
+    by (inl d) = none y d p
+    by (inr f) = fails (subst P (sym f) p)
+
+pub none_whole : {X : Type 0} (P : X → Type 0) (xs : List X) (i : ℕ) → length xs ≤ i → IsNone P xs i → (y : X) → Contains xs y → P y → ⊥
+none_whole P xs i h none y c p = none y (subst (λ ys. Contains ys y) (sym (take_all i xs h)) c) p
+
+label_decides : (a b : Label) → Decides (label_eq a b) (a ≡ b)
+label_decides a b = (label_equal a b, λ e. subst (λ c. label_eq a c ≡ true) e ((label_laws.laws-law).refl a))
+
+-- a variable of the same base, whose word begins with that of another
+pub front_is : (x whole : Dtv) (r : Bool) → base_eq x.base whole.base ≡ true → r ≡ starts_with label_eq whole.word x.word →
+    (IsTrue r → IsFront x whole) × (IsFront x whole → IsTrue r)
+front_is x whole r same_base e = (
+  λ t. (drop (length x.word) whole.word, made (words.0 t)),
+  λ h. words.1 h.0 (sym (ap (λ (y : Dtv). y.word) h.1)),
+)
+  where
+    words : (r ≡ true → whole.word ≡ x.word ++ drop (length x.word) whole.word) ×
+        ((rest : List Label) → whole.word ≡ x.word ++ rest → r ≡ true)
+    words = starts_is label_decides whole.word x.word r e
+
+    made : whole.word ≡ x.word ++ drop (length x.word) whole.word → extended x (drop (length x.word) whole.word) ≡ whole
+    made f = λ i. record { base = base_equal x.base whole.base same_base i; word = sym f i }
+
+-- no side begins with a variable that is a front of no line's sides
+pub none_named : (lines : List Line) (x : Dtv) (i : ℕ) → length lines ≤ i → IsNone (λ k. HasFront k x) lines i → IsNamed lines x → ⊥
+none_named lines x i h none (l, y, c, side, f) = none_whole (λ k. HasFront k x) lines i h none l c (y, side, f)
+
+-- a variable that a side begins with exists
+pub named_there : (order : Below) (lines : List Line) (x : Dtv) → IsNamed lines x → Derivable order lines (Var x)
+named_there order lines x (l, y, c, h, f) = front order lines x f.0 (subst (λ z. Derivable order lines (Var z)) (sym f.1) (named l c h))
+
+pub tells_open : (order : Below) (lines : List Line) (line : Line) → Tells order lines line Open
+tells_open order lines line = record { no = λ e. absurd (cc); yes = λ e. absurd (cc) }
+
+pub tells_yes : (order : Below) (lines : List Line) (line : Line) → Derivable order lines line → Tells order lines line Yes
+tells_yes order lines line d = record { no = λ e. absurd (cc); yes = λ e. d }
+
+pub tells_no : (order : Below) (lines : List Line) (line : Line) → (Derivable order lines line → ⊥) → Tells order lines line No
+tells_no order lines line none = record { no = λ e. none; yes = λ e. absurd (cc) }
+
+only_one : (x y : Dtv) (xs : List Dtv) → xs ≡ x ∷ [] → Contains xs y → x ≡ y
+only_one x y xs e c = by (Contains-cons_cases x [] y (subst (λ zs. Contains zs y) e c))
+  where
+    by : (x ≡ y) ⊎ Contains [] y → x ≡ y
+    by (inl f) = f
+    by (inr d) = absurd (Contains-none y d)
+
+-- an answer of a table
+abbrev pub Denies : List Line → List Dtv → List Dtv → Led → Type 0
+Denies lines from to led = led ≡ No → (order : Below) → HasBelow order lines from to → ⊥
+
+abbrev pub Affirms : List Line → List Dtv → List Dtv → Led → Type 0
+Affirms lines from to led = led ≡ Yes → (order : Below) → HasBelow order lines from to
+
+pub tells_below : (order : Below) (lines : List Line) (x y : Dtv) (from : List Dtv) (led : Led) → from ≡ x ∷ [] →
+    Denies lines from (y ∷ []) led →
+    Affirms lines from (y ∷ []) led → Tells order lines (Sub x y) led
+tells_below order lines x y from led e denies affirms = record {
+  no = λ f d. denies f order (x, y, subst (λ xs. Contains xs x) (sym e) (Contains-here x []), Contains-here y [], d);
+  yes = λ f. by (affirms f order);
+}
+  where
+    by : HasBelow order lines from (y ∷ []) → Derivable order lines (Sub x y)
+    by (u, v, c, d, h) =
+        subst (λ z. Derivable order lines (Sub z y)) (sym (only_one x u from e c))
+        (subst (λ z. Derivable order lines (Sub u z)) (sym (only_one y v (y ∷ []) refl d)) h)
+
+found_in : (xs : List Dtv) (x : Dtv) → list_any (λ y. variable_eq y x) xs ≡ true → Contains xs x
+found_in xs x e =
+    let r : (y : Dtv) × Contains xs y × (variable_eq y x ≡ true) = list_any-at (λ y. variable_eq y x) xs e in
+    subst (Contains xs) (variable_equal r.0 x r.2) r.1
+
+module _ (order : Below) (lines : List Line) (is : IsOrder order) (few : All (HasConstantsBelow order.count) lines) (k : ℕ) (x : Dtv) where
+  module _ (from : List Dtv) (are : AreAbove order lines k from) where
+    pub low_none : from ≡ [] → Tells order lines (Low k x) No
+    low_none e = tells_no order lines (Low k x) (λ d. by ((low_law order lines k x is few).0 d))
+      where
+        by : HasLow order lines k x → ⊥
+        by h = Contains-none h.variable (subst (λ zs. Contains zs h.variable) e (are.all h.bound h.variable h.stands h.at))
+
+    pub low_self : list_any (λ y. variable_eq y x) from ≡ true → Tells order lines (Low k x) Yes
+    low_self e = tells_yes order lines (Low k x) (by (are.only x (found_in from x e)))
+      where
+        by : (bound : ℕ) × Contains lines (Low bound x) × IsAtOrBelow order k bound → Derivable order lines (Low k x)
+        by (bound, c, at) =
+            let self : Derivable order lines (Sub x x) = sub_self (named (Low bound x) c refl) in
+            low_from order lines k x (record { bound = bound; variable = x; stands = c; at = at; below = self })
+
+    pub low_tells : (some : List Line) (led : Led) → lines ≡ some → Denies some from (x ∷ []) led → Affirms some from (x ∷ []) led →
+        Tells order lines (Low k x) led
+    low_tells some led e denies affirms = record {
+      no = λ f d. denies f order (subst (λ ls. HasBelow order ls from (x ∷ [])) e (has ((low_law order lines k x is few).0 d)));
+      yes = λ f. by (subst (λ ls. HasBelow order ls from (x ∷ [])) (sym e) (affirms f order));
+    }
+      where
+        has : HasLow order lines k x → HasBelow order lines from (x ∷ [])
+        has h = (h.variable, x, are.all h.bound h.variable h.stands h.at, Contains-here x [], h.below)
+
+        by : HasBelow order lines from (x ∷ []) → Derivable order lines (Low k x)
+        by (z, y, c, d, h) =
+            let r : (bound : ℕ) × Contains lines (Low bound z) × IsAtOrBelow order k bound = are.only z c in
+            low_from order lines k x (record {
+              bound = r.0;
+              variable = z;
+              stands = r.1;
+              at = r.2;
+              below = subst (λ v. Derivable order lines (Sub z v)) (sym (only_one x y (x ∷ []) refl d)) h;
+            })
+
+  module _ (less : k < order.count) (to : List Dtv) (are : AreBelow order lines k to) where
+    pub up_none : to ≡ [] → Tells order lines (Up x k) No
+    up_none e = tells_no order lines (Up x k) (λ d. by ((up_law order lines x k is few less).0 d))
+      where
+        by : HasUp order lines x k → ⊥
+        by h = Contains-none h.variable (subst (λ zs. Contains zs h.variable) e (are.all h.bound h.variable h.stands h.at))
+
+    pub up_self : list_any (λ y. variable_eq y x) to ≡ true → Tells order lines (Up x k) Yes
+    up_self e = tells_yes order lines (Up x k) (by (are.only x (found_in to x e)))
+      where
+        by : (bound : ℕ) × Contains lines (Up x bound) × IsAtOrBelow order bound k → Derivable order lines (Up x k)
+        by (bound, c, at) =
+            let self : Derivable order lines (Sub x x) = sub_self (named (Up x bound) c refl) in
+            up_from order lines x k (record { bound = bound; variable = x; stands = c; at = at; above = self })
+
+    pub up_tells : (some : List Line) (led : Led) → lines ≡ some → Denies some (x ∷ []) to led → Affirms some (x ∷ []) to led →
+        Tells order lines (Up x k) led
+    up_tells some led e denies affirms = record {
+      no = λ f d. denies f order (subst (λ ls. HasBelow order ls (x ∷ []) to) e (has ((up_law order lines x k is few less).0 d)));
+      yes = λ f. by (subst (λ ls. HasBelow order ls (x ∷ []) to) (sym e) (affirms f order));
+    }
+      where
+        has : HasUp order lines x k → HasBelow order lines (x ∷ []) to
+        has h = (x, h.variable, Contains-here x [], are.all h.bound h.variable h.stands h.at, h.above)
+
+        by : HasBelow order lines (x ∷ []) to → Derivable order lines (Up x k)
+        by (y, z, d, c, h) =
+            let r : (bound : ℕ) × Contains lines (Up z bound) × IsAtOrBelow order bound k = are.only z c in
+            up_from order lines x k (record {
+              bound = r.0;
+              variable = z;
+              stands = r.1;
+              at = r.2;
+              above = subst (λ v. Derivable order lines (Sub v z)) (sym (only_one x y (x ∷ []) refl d)) h;
+            })
+
+-- the variables of bounds are sides
+pub above_named : (order : Below) (lines : List Line) (k : ℕ) (names from : List Dtv) →
+    ((l : Line) (y : Dtv) → Contains lines l → HasSide l y → Contains names y) → AreAbove order lines k from →
+    (z : Dtv) → Contains from z → Contains names z
+above_named order lines k names from sides are z c =
+    let r : (bound : ℕ) × Contains lines (Low bound z) × IsAtOrBelow order k bound = are.only z c in sides (Low r.0 z) z r.1 refl
+
+pub below_named : (order : Below) (lines : List Line) (k : ℕ) (names to : List Dtv) →
+    ((l : Line) (y : Dtv) → Contains lines l → HasSide l y → Contains names y) → AreBelow order lines k to →
+    (z : Dtv) → Contains to z → Contains names z
+below_named order lines k names to sides are z c =
+    let r : (bound : ℕ) × Contains lines (Up z bound) × IsAtOrBelow order bound k = are.only z c in sides (Up z r.0) z r.1 refl

@@ -1,0 +1,47 @@
+-- What is told of a line without saturating the others.
+use Rattle.std.specs.Prelude.{◌≡◌, ℕ, ◌<◌, List, [], Bool, true, false, Contains, slice_index_or}
+use Rattle.rt_lines.specs.declared.variable.Dtv.{Dtv}
+use Rattle.rt_lines.specs.declared.line.Line.{Line}
+use Rattle.rt_lines.specs.declared.line.Line.TheVariants.{Low, Up}
+use Rattle.rt_lines.specs.Orders.{Below, IsAtOrBelow}
+use Rattle.rt_rules.specs.Rules.{HasSide, Derivable}
+use Rattle.rt_shape.specs.Shapes.{IsFront}
+use Rattle.rt_named.specs.Naming.{named as named_by}
+use Rattle.rt_standing.specs.declared.led.Led.{Led}
+use Rattle.rt_standing.specs.declared.led.Led.TheVariants.{No, Yes}
+use Rattle.rt_standing.specs.Standing.{Lined, standing}
+
+-- a table of lines between the variables that they name
+abbrev pub IsOwnTable : List Line → Lined → Type 0
+IsOwnTable lines table = (table.lines ≡ lines) × (table.named ≡ named_by lines [])
+
+-- what is left are those of the table's lines whose flags are set, among them all before a place
+pub record AreStanding (left : List Line) (stands : List Bool) (place : ℕ) (table : Lined) : Type 0 where
+  pub own : table.named ≡ named_by table.lines []
+  pub left_are : left ≡ standing table.lines stands
+  pub before : (i : ℕ) → i < place → slice_index_or stands i false ≡ true
+
+-- what is left are those of the table's lines whose flags are set, and it names the sides of these and of another line
+pub record IsTableFor (left : List Line) (stands : List Bool) (line : Line) (table : Lined) : Type 0 where
+  pub left_are : left ≡ standing table.lines stands
+  pub sides : (l : Line) (x : Dtv) → Contains left l → HasSide l x → Contains table.named x
+  pub line_sides : (x : Dtv) → HasSide line x → Contains table.named x
+
+-- the answer says no only of a line that isn't derivable, and yes only of one that is
+pub record Tells (order : Below) (lines : List Line) (line : Line) (led : Led) : Type 0 where
+  pub no : led ≡ No → Derivable order lines line → ⊥
+  pub yes : led ≡ Yes → Derivable order lines line
+
+-- a side of the line is the variable, or it with more letters
+abbrev pub HasFront : Line → Dtv → Type 0
+HasFront l x = (y : Dtv) × HasSide l y × IsFront x y
+
+-- the variables of lower bounds at or above a constant
+pub record AreAbove (order : Below) (lines : List Line) (k : ℕ) (variables : List Dtv) : Type 0 where
+  pub only : (z : Dtv) → Contains variables z → (bound : ℕ) × Contains lines (Low bound z) × IsAtOrBelow order k bound
+  pub all : (bound : ℕ) (z : Dtv) → Contains lines (Low bound z) → IsAtOrBelow order k bound → Contains variables z
+
+-- the variables of upper bounds at or below a constant
+pub record AreBelow (order : Below) (lines : List Line) (k : ℕ) (variables : List Dtv) : Type 0 where
+  pub only : (z : Dtv) → Contains variables z → (bound : ℕ) × Contains lines (Up z bound) × IsAtOrBelow order bound k
+  pub all : (bound : ℕ) (z : Dtv) → Contains lines (Up z bound) → IsAtOrBelow order bound k → Contains variables z

@@ -1,0 +1,200 @@
+// Whether a line is derivable from others, which are some of the lines of a table.
+ghost use Rattle.std.specs.Prelude.{◌↔◌, ◌<◌, All, Contains, IsTrue, IfOk, IfSome};
+ghost use Rattle.rt_lines.specs.declared.line.Line.TheVariants.{Low as Lower, Sub as Subtype, Up as Upper, Var as Exists};
+ghost use Rattle.rt_lines.specs.Lines.{HasConstantsBelow};
+ghost use Rattle.rt_lines.specs.Orders.{Below};
+ghost use Rattle.rt_rules.specs.Rules.{Derivable};
+ghost use Rattle.rt_shape.specs.Shapes.{IsFront, IsNamed};
+ghost use Rattle.rt_standing.specs.Standing.{standing};
+ghost use Rattle.rt_reduce.specs.Deciding.{HasFront, IsTableFor, Tells};
+
+use crate::bounds::{lows, ups};
+use crate::derivable::derives_line;
+use rt_base::Memory;
+use rt_lines::{Dtv, Line, Order};
+use rt_standing::{Led, Table};
+use std::alloc::Global;
+use std::slice;
+
+// Whether the line is derivable from the lines left: by the table, where it tells, else by a saturation of what is left.
+pub fn is_derivable(
+    alloc: Global,
+    table: Option<&Table>,
+    stands: &[bool],
+    left: &[Line],
+    order: &Order,
+    line: &Line,
+) -> Result<bool, Memory>
+    requires table { IfSome table (λ t. IsTableFor left.now stands.now line.now t.now) }
+    requires constants { All (HasConstantsBelow order.now.count) left.now }
+    requires constant { HasConstantsBelow order.now.count line.now }
+    ensures { IfOk result (λ yes. IsTrue yes ↔ Derivable order.now left.now line.now) }
+{
+    match told(alloc, table, stands, left, order, line)? {
+        Led::No => Ok(false),
+        Led::Yes => Ok(true),
+        Led::Open => derives_line(alloc, left, order, line),
+    }
+}
+
+// Whether the line is derivable from the lines left, as far as their sides and the table tell.
+fn told(
+    alloc: Global,
+    table: Option<&Table>,
+    stands: &[bool],
+    left: &[Line],
+    order: &Order,
+    line: &Line,
+) -> Result<Led, Memory>
+    requires table { IfSome table (λ t. IsTableFor left.now stands.now line.now t.now) }
+    requires constants { All (HasConstantsBelow order.now.count) left.now }
+    requires constant { HasConstantsBelow order.now.count line.now }
+    ensures { IfOk result (Tells order.now left.now line.now) }
+{
+    if let Line::Var(x) = line {
+        return Ok(told_named(left, x));
+    }
+    match table {
+        Some(table) => told_by(alloc, table, stands, left, order, line),
+        None => Ok(Led::Open),
+    }
+}
+
+// Whether the variable exists, as far as sides of lines tell.
+fn told_named(lines: &[Line], x: &Dtv) -> Led
+    ensures { (order : Below) → Tells order lines.now (Exists x.now) result }
+{
+    if is_named(lines, x) {
+        Led::Yes
+    } else {
+        Led::Open
+    }
+}
+
+// Whether a side of a line is the variable, or it with more letters.
+fn is_named(lines: &[Line], x: &Dtv) -> bool
+    ensures { IsTrue result ↔ IsNamed lines.now x.now }
+{
+    for line in lines {
+        if has_front(line, x) {
+            return true;
+        }
+    }
+    false
+}
+
+// Whether a side of the line is the variable, or it with more letters.
+fn has_front(line: &Line, x: &Dtv) -> bool
+    ensures { IsTrue result ↔ HasFront line.now x.now }
+{
+    match line {
+        Line::Var(y) => is_front(x, y),
+        Line::Same(y, z) => is_front(x, y) || is_front(x, z),
+        Line::Sub(y, z) => is_front(x, y) || is_front(x, z),
+        Line::Low(_, y) => is_front(x, y),
+        Line::Up(y, _) => is_front(x, y),
+    }
+}
+
+// Whether the second variable is the first one, or it with more letters.
+fn is_front(front: &Dtv, whole: &Dtv) -> bool
+    ensures { IsTrue result ↔ IsFront front.now whole.now }
+{
+    front.base == whole.base && whole.word.items().starts_with(front.word.items())
+}
+
+// Whether the line is derivable from the lines left, as far as the table tells.
+fn told_by(
+    alloc: Global,
+    table: &Table,
+    stands: &[bool],
+    left: &[Line],
+    order: &Order,
+    line: &Line,
+) -> Result<Led, Memory>
+    requires table { IsTableFor left.now stands.now line.now table.now }
+    requires constants { All (HasConstantsBelow order.now.count) left.now }
+    requires constant { HasConstantsBelow order.now.count line.now }
+    ensures { IfOk result (Tells order.now left.now line.now) }
+{
+    match line {
+        Line::Var(_) => Ok(Led::Open),
+        Line::Same(_, _) => Ok(Led::Open),
+        Line::Sub(x, y) => told_below(alloc, table, stands, x, y),
+        Line::Low(k, x) => told_low(alloc, table, stands, left, order, *k, x),
+        Line::Up(x, k) => told_up(alloc, table, stands, left, order, x, *k),
+    }
+}
+
+// Whether the first variable is a subtype of the second by the lines that stand, as far as the table tells.
+fn told_below(
+    alloc: Global,
+    table: &Table,
+    stands: &[bool],
+    x: &Dtv,
+    y: &Dtv,
+) -> Result<Led, Memory>
+    requires first { Contains table.now.named x.now }
+    requires second { Contains table.now.named y.now }
+    ensures { IfOk result (λ led. (order : Below) → Tells order (standing table.now.lines stands.now) (Subtype x.now y.now) led) }
+{
+    let from = slice::from_ref(x);
+    let led = table.led(alloc, stands, from, y)?;
+    Ok(led)
+}
+
+// Whether the constant is a lower bound of the variable, as far as the table tells.
+fn told_low(
+    alloc: Global,
+    table: &Table,
+    stands: &[bool],
+    left: &[Line],
+    order: &Order,
+    k: u16,
+    x: &Dtv,
+) -> Result<Led, Memory>
+    requires table { IsTableFor left.now stands.now (Lower k x.now) table.now }
+    requires constants { All (HasConstantsBelow order.now.count) left.now }
+    requires constant { k < order.now.count }
+    ensures { IfOk result (Tells order.now left.now (Lower k x.now)) }
+{
+    // The call says that the order is transitive.
+    order.count();
+    let from = lows(alloc, left, order, k)?;
+    if from.is_empty() {
+        return Ok(Led::No);
+    }
+    if from.contains(x) {
+        return Ok(Led::Yes);
+    }
+    let led = table.led(alloc, stands, &from, x)?;
+    Ok(led)
+}
+
+// Whether the constant is an upper bound of the variable, as far as the table tells.
+fn told_up(
+    alloc: Global,
+    table: &Table,
+    stands: &[bool],
+    left: &[Line],
+    order: &Order,
+    x: &Dtv,
+    k: u16,
+) -> Result<Led, Memory>
+    requires table { IsTableFor left.now stands.now (Upper x.now k) table.now }
+    requires constants { All (HasConstantsBelow order.now.count) left.now }
+    requires constant { k < order.now.count }
+    ensures { IfOk result (Tells order.now left.now (Upper x.now k)) }
+{
+    // The call says that the order is transitive.
+    order.count();
+    let to = ups(alloc, left, order, k)?;
+    if to.is_empty() {
+        return Ok(Led::No);
+    }
+    if to.contains(x) {
+        return Ok(Led::Yes);
+    }
+    let led = table.leads(alloc, stands, x, &to)?;
+    Ok(led)
+}

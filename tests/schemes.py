@@ -1,0 +1,295 @@
+"""Reduces lists of lines to schemes: a transcript of the definitions, by which a procedure has one scheme.
+
+It is written from crates/rt_polar/specs (Puts, Tidied), crates/rt_reduction/specs (Twins, Simplifies, Before, Emits, Merges,
+Drops, Rounds), crates/rt_scheme/specs (Schemes, SplitExistentials) and crates/rt_settle/specs (Chosen), step by step, and is
+slow. Lines and variables are those of derivation.py.
+"""
+import heapq
+
+import derivation
+from derivation import Counts, Others, Shape, line_text, sides, sign_of
+
+DEFINING, CONSUMING = 1, -1
+
+
+def is_exist(x):
+    return x[0][0] == 't'
+
+
+def exist(number):
+    return (('t', number),)
+
+
+def exists_of(lines):
+    """The existentials of lines, in the order in which they are first named."""
+    return list(dict.fromkeys(x[0][1] for line in lines for x in sides(line) if is_exist(x)))
+
+
+def mapped(change, line):
+    """The line with each of its variables changed."""
+    if line[0] == 'low':
+        return line[0], line[1], change(line[2])
+    if line[0] == 'up':
+        return line[0], change(line[1]), line[2]
+    return (line[0], *map(change, line[1:]))
+
+
+def placed(places, lines):
+    """The lines with variables in the places of existentials."""
+    def change(x):
+        return places[x[0][1]] + x[1:] if is_exist(x) and x[0][1] in places else x
+    return [mapped(change, line) for line in lines]
+
+
+def tidied(lines):
+    """Each line once, and none that puts a variable beside itself."""
+    return list(dict.fromkeys(('var', line[1]) if line[0] in ('same', 'below') and line[1] == line[2] else line
+                              for line in lines))
+
+# ------------------------------------------------------------------ putting
+
+
+def uses(sign, number, line):
+    """Whether a line has a use of an existential: a defining or a consuming one."""
+    def is_use(x, variance):
+        return x[0] == ('t', number) and sign_of(x[1:]) == variance
+    if line[0] == 'below':
+        return is_use(line[1], -sign) or is_use(line[2], sign)
+    if line[0] == 'low':
+        return is_use(line[2], sign)
+    return line[0] == 'up' and is_use(line[1], -sign)
+
+
+def other_side(sign, number, line):
+    """Of a line `Z <= n` that defines the existential n, or `n <= Z` that consumes it, the variable Z."""
+    if line[0] == 'below' and line[2 if sign == DEFINING else 1] == exist(number):
+        return line[1 if sign == DEFINING else 2]
+    return None
+
+
+def sole(sign, number, lines):
+    """The place of the only use, and the variable of another base that it puts the bare existential beside."""
+    at = [place for place, line in enumerate(lines) if uses(sign, number, line)]
+    if len(at) == 1:
+        other = other_side(sign, number, lines[at[0]])
+        if other is not None and other[0] != ('t', number):
+            return at[0], other
+    return None
+
+
+def candidate(number, lines):
+    return sole(DEFINING, number, lines) or sole(CONSUMING, number, lines)
+
+
+def put_away(lines):
+    """The least existential with a candidate gives its place to it, again and again."""
+    while True:
+        for number in sorted(exists_of(lines)):
+            found = candidate(number, lines)
+            if found:
+                break
+        else:
+            return lines
+        place, other = found
+        rest = lines[:place] + lines[place + 1:]
+        if number in exists_of(rest):
+            lines = tidied(placed({number: other}, rest))
+        else:
+            lines = tidied(lines[:place] + [('var', other)] + lines[place + 1:])
+
+# ------------------------------------------------------------------ twins
+
+
+def peers(sign, number, lines):
+    """What stands beside an existential in its defining or consuming uses, or None where these aren't of it alone, or all of
+    constants."""
+    found = set()
+    for line in lines:
+        if uses(sign, number, line):
+            bound = 'low' if sign == DEFINING else 'up'
+            if other_side(sign, number, line) is not None:
+                found.add(('variable', other_side(sign, number, line)))
+            elif line[0] == bound and sides(line) == (exist(number),):
+                found.add(('constant', line[1 if sign == DEFINING else 2]))
+            else:
+                return None
+    return frozenset(found) if any(kind == 'variable' for kind, _ in found) else None
+
+
+def twins(sign, lines):
+    """The least twin for each existential that has one before it."""
+    first, found = {}, {}
+    for number in sorted(exists_of(lines)):
+        key = peers(sign, number, lines)
+        if key is not None:
+            if key in first:
+                found[number] = exist(first[key])
+            else:
+                first[key] = number
+    return found
+
+
+def simplified(lines):
+    while True:
+        lines = put_away(lines)
+        found = twins(DEFINING, lines) or twins(CONSUMING, lines)
+        if not found:
+            return lines
+        lines = tidied(placed(found, lines))
+
+# ------------------------------------------------------------------ the shape written anew
+
+
+def key(x):
+    """What variables are in the order of: their levels, their bases and the texts of their letters."""
+    kind, number = x[0]
+    level = max(len(x) - 2, 0) if kind == 'f' else len(x) - 1
+    return (level, ('tgfx'.index(kind), number), tuple(label.encode() for label in x[1:]))
+
+
+def shape_lines(lines, flow):
+    """The shape of lines, written anew over the bases that are kept."""
+    shape = Shape(lines)
+    bases = dict.fromkeys(x[0] for line in lines for x in sides(line))
+    kept = [base for base in bases if base[0] != 't'
+            or any(uses(sign, base[1], line) for line in flow for sign in (DEFINING, CONSUMING))]
+    first = []
+    for base in kept:
+        if base[0] == 'f':
+            first += [(base, label) for label in shape.labels(shape.node((base,)))]
+        else:
+            first.append((base,))
+    written, words = set(first), {}
+    wait = [(key(x), x) for x in first]
+    heapq.heapify(wait)
+    while wait:
+        _, x = heapq.heappop(wait)
+        node = shape.node(x)
+        if node not in words:
+            words[node] = x
+            for label in shape.labels(node):
+                written.add(x + (label,))
+                heapq.heappush(wait, (key(x + (label,)), x + (label,)))
+    rows = []
+    for x in sorted(written, key=key):
+        word = words[shape.node(x)]
+        rows.append(('var', x) if x == word else ('same', x, word))
+    return rows
+
+
+def anchored(lines):
+    """The bases of lines that a chain of lines joins to a procedure or a global."""
+    beside = {}
+    for line in lines:
+        for x in sides(line):
+            beside.setdefault(x[0], set())
+        if line[0] in ('same', 'below'):
+            beside[line[1][0]].add(line[2][0])
+            beside[line[2][0]].add(line[1][0])
+    found = {base for base in beside if base[0] != 't'}
+    todo = list(found)
+    while todo:
+        for base in beside[todo.pop()] - found:
+            found.add(base)
+            todo.append(base)
+    return found
+
+
+def emitted(lines):
+    flow = [line for line in tidied(lines) if line[0] not in ('var', 'same')]
+    both = flow + shape_lines(lines, flow)
+    joined = anchored(both)
+    return [line for line in both if sides(line)[0][0] in joined]
+
+# ------------------------------------------------------------------ equals, and lines to spare
+
+
+def equals(lines):
+    """For each existential, the sides of other bases that lie below it and above it."""
+    numbers = exists_of(lines)
+    counts = Counts(lines, [exist(number) for number in numbers])
+    every = dict.fromkeys(x for line in lines for x in sides(line))
+    found = {}
+    for number in numbers:
+        v = exist(number)
+        beside = [z for z in every if z[0] != v[0] and counts.below(v, z) and counts.below(z, v)]
+        if beside:
+            found[number] = beside
+    return found
+
+
+def merged(lines):
+    while True:
+        found = equals(lines)
+        if not found:
+            return lines
+        number = min(found)
+        lines = tidied(placed({number: min(found[number], key=key)}, lines))
+
+
+def dropped(lines, lattice):
+    """From the last line to the first, a line goes if the lines before it and those that stayed behind it derive it."""
+    others, kept = Others(lines, lattice), []
+    for place in range(len(lines) - 1, -1, -1):
+        if not others.derivable(lines[place], lines[:place] + kept):
+            kept.insert(0, lines[place])
+    return kept
+
+# ------------------------------------------------------------------ rounds, and the scheme
+
+
+def is_done(lines):
+    numbers = exists_of(lines)
+    joined = anchored(lines)
+    return (not any(candidate(number, lines) for number in numbers)
+            and not twins(DEFINING, lines) and not twins(CONSUMING, lines)
+            and all(any(uses(sign, number, line) for line in lines for sign in (DEFINING, CONSUMING)) for number in numbers)
+            and all(('t', number) in joined for number in numbers))
+
+
+def reduced(lines, lattice):
+    lines = tidied(lines)
+    while True:
+        lines = dropped(merged(emitted(simplified(lines))), lattice)
+        if is_done(lines):
+            return lines
+
+
+def sort_name(lattice):
+    """The name of a constant by which lines are sorted, whatever the lattice."""
+    numbers = {name: number for number, name in enumerate(lattice.names)}
+
+    def name_of(name):
+        number = numbers[name]
+        return derivation.STANDARD[number] if number < len(derivation.STANDARD) else '%03d' % number
+    return name_of
+
+
+def numbered(lines):
+    """The lines with their existentials numbered in the order in which they are first named."""
+    return placed({number: exist(new) for new, number in enumerate(exists_of(lines))}, lines)
+
+
+def settled(lines, lattice):
+    name = sort_name(lattice)
+    return sorted(numbered(reduced(lines, lattice)), key=lambda line: line_text(line, name).encode())
+
+
+def split(own, lines):
+    """The lines with an existential for each argument and result of another procedure."""
+    def is_split(x):
+        return x[0][0] == 'f' and x[0] != own and len(x) > 1
+    first = max([number + 1 for number in exists_of(lines)], default=0)
+    interfaces = dict.fromkeys(x[:2] for line in lines for x in sides(line) if is_split(x))
+    place = {interface: ('t', first + i) for i, interface in enumerate(interfaces)}
+    return [mapped(lambda x: (place[x[:2]],) + x[2:] if is_split(x) else x, line) for line in lines]
+
+
+def is_scheme(own, lines):
+    return all(x[0][0] in 'gt' or x[0] == own and len(x) > 1 and x[1].startswith(('in_', 'out_'))
+               for line in lines for x in sides(line))
+
+
+def scheme_from(own, whole, lattice):
+    """The scheme of a member of a group whose lines are settled."""
+    return whole if is_scheme(own, whole) else settled(split(own, whole), lattice)
