@@ -13,3 +13,8 @@ pub mod Frames
 pub mod Sources
 pub mod Below
 pub mod Bounded
+pub mod Probes
+pub mod Descending
+pub mod Raising
+pub mod Weighing
+pub mod Weighed

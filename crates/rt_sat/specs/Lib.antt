@@ -6,3 +6,5 @@ pub mod Numbered
 pub mod Pushes
 pub mod Closings
 pub mod Tables
+pub mod Weighing
+pub mod Weights

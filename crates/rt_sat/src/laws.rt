@@ -3,6 +3,7 @@ ghost use Rattle.rt_sat.specs.Closings.{ClosingLaw};
 ghost use Rattle.rt_sat.specs.Deciding.{DecidingLaw};
 ghost use Rattle.rt_sat.specs.Numbered.{NumberedLaw};
 ghost use Rattle.rt_sat.specs.Tables.{BelowLaw, FrameLaw};
+ghost use Rattle.rt_sat.specs.Weighing.{CountLaw, RisingLaw};
 
 /// The variables that lines and a question name, and what their shape says can be read and written through, are enough to
 /// decide which variable lies below which by counted judgements.
@@ -29,4 +30,16 @@ pub fn frames()
 /// is a subtype of the second.
 pub fn below()
     ensures { BelowLaw }
+{}
+
+/// In a table each way has the count of a probe, and each count of a probe has a way that is no longer: the least counts of
+/// ways are those of probes.
+pub fn counting()
+    ensures { CountLaw }
+{}
+
+/// Where below a probe one variable lies below another, the number of its rest is no greater than that of the other's: no
+/// count of a probe would be below nought.
+pub fn rising()
+    ensures { RisingLaw }
 {}

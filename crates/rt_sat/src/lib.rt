@@ -15,8 +15,10 @@ mod pushing;
 mod search;
 mod state;
 mod table;
+mod weights;
 
 pub use count::Count;
 pub use judging::derives;
 pub use state::{Edge, State};
 pub use table::{Table, saturated};
+pub use weights::{Sat, saturate};

@@ -1,0 +1,4 @@
+pub mod Lower
+pub mod Upper
+pub mod Implicit
+pub mod Laws

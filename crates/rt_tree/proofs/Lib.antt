@@ -1,0 +1,9 @@
+pub mod Comparing
+pub mod Edges
+pub mod Words
+pub mod Growing
+pub mod One
+pub mod Machines
+pub mod Both
+pub mod Alike
+pub mod Sound

@@ -1,0 +1,6 @@
+pub mod Labels
+pub mod Kinds
+pub mod Trees
+pub mod Pairs
+pub mod Rooms
+pub mod Laws
