@@ -121,7 +121,8 @@ module _ (L : Given) (M : Var → Type 0) (none : NeedNoHub L M) where
   lower_is_all : ((x : Var) → M x ⊎ (M x → ⊥)) → ((x : Var) (l : Label) → M (dot x l) → M x) → ((b : Base) → Der L (V (at b)) → M (at b)) →
       ((x y : Var) → HasSub L x y → M x × M y) → {x y : Var} → M x → M y → Der L (S x y) → Lower L M lies_below x y
   lower_is_all dec parents bases sides p q d =
-      is_above L L M (Lower L M lies_below) (Lower L M both_above) (Lower L M lies_below) lower_upper (λ f e. e) parents (λ u v h. line h) dec bases sides p q d
+      is_above L L M (Lower L M lies_below) (Lower L M both_above) (Lower L M lies_below)
+      lower_upper (λ f e. e) parents (λ u v h. line h) dec bases sides p q d
 
 pub exact_law : ExactLaw
 exact_law L named are none x y p q =

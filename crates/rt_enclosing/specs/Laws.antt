@@ -36,7 +36,7 @@ FewerLaw =
     IsUpper L (Named named) (Holds lies) (Holds may) (Holds pushed) → HasLines fewer (Holds lies) →
     (x y : Var) → Named named x → Named named y → Der fewer (S x y) → Steps fewer (Holds pushed) x y
 
--- so do relations by hubs
+-- the law of fewer lines, of an upper relation by hubs
 abbrev pub HubsLaw : Type 0
 HubsLaw =
     (L fewer : Given) (named : Var → Bool) (lies pushed : Var → Var → Bool) → AreNamed fewer named → ((f : Fact) → Der fewer f → Der L f) →
@@ -53,7 +53,7 @@ ExactLaw =
     (L : Given) (named : Var → Bool) → AreNamed L named → NeedNoHub L (Named named) → (x y : Var) → Named named x → Named named y →
     Der L (S x y) ↔ Lower L (Named named) below x y
 
--- and the same of an upper relation that leaves out load and store of some variables, if it has what is pushed behind these
+-- the law of fewer lines, of an upper relation that leaves out load and store of some variables, if it has what is pushed behind these
 abbrev pub ImplicitLaw : Type 0
 ImplicitLaw =
     (L fewer : Given) (named implicit : Var → Bool) (lies may pushed : Var → Var → Bool) → AreNamed fewer named →
