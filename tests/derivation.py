@@ -90,6 +90,17 @@ def sign_of(labels):
     return product
 
 
+def reached(start, beside):
+    """Some, and all that is reached from them by what stands beside each."""
+    found = set(start)
+    todo = list(found)
+    while todo:
+        for one in beside[todo.pop()] - found:
+            found.add(one)
+            todo.append(one)
+    return found
+
+
 class Shape:
     """The quotient graph of lines: the node of a variable, and the node behind each letter of a node."""
 
@@ -168,12 +179,7 @@ class Shape:
                 before[self.root(child)].add(node)
             if self.flips(node):
                 todo.append(node)
-        found = set(todo)
-        while todo:
-            for node in before[todo.pop()] - found:
-                found.add(node)
-                todo.append(node)
-        return found
+        return reached(todo, before)
 
 # ------------------------------------------------------------------ counted judgements
 

@@ -7,7 +7,7 @@ slow. Lines and variables are those of derivation.py.
 import heapq
 
 import derivation
-from derivation import Counts, Others, Shape, line_text, sides, sign_of
+from derivation import Counts, Others, Shape, line_text, reached, sides, sign_of
 
 DEFINING, CONSUMING = 1, -1
 
@@ -186,13 +186,7 @@ def anchored(lines):
         if line[0] in ('same', 'below'):
             beside[line[1][0]].add(line[2][0])
             beside[line[2][0]].add(line[1][0])
-    found = {base for base in beside if base[0] != 't'}
-    todo = list(found)
-    while todo:
-        for base in beside[todo.pop()] - found:
-            found.add(base)
-            todo.append(base)
-    return found
+    return reached({base for base in beside if base[0] != 't'}, beside)
 
 
 def emitted(lines):
