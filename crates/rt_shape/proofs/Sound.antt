@@ -1,6 +1,6 @@
 -- What stays known while nodes are made one.
-use Rattle.std.proofs.Common.{◌≡◌, ℕ, ◌+◌, ◌<◌, ◌≤◌, ◌⊎◌, inl, inr, Bool, true, false, cond, Option, None, Some, List, [], ◌∷◌, ◌++◌, length, get_or, set, Contains, refl, sym, ap, subst, ◌∙◌, arith, get_or-set_same, get_or-set_other}
-use Rattle.std.specs.Prelude.{slice_index, slice_index_or}
+use Rattle.std.proofs.Common.{◌≡◌, ℕ, ◌<◌, ◌≤◌, ◌⊎◌, inl, inr, Bool, true, false, cond, None, Some, List, [], ◌∷◌, ◌++◌, length, get_or, set, Contains, refl, sym, ap, subst, ◌∙◌, get_or-set_same, get_or-set_other}
+use Rattle.std.specs.Prelude.{slice_index}
 use Rattle.std.specs.Map.{lookup}
 use Rattle.std.proofs.lemmas.Bool.{cases_eq, cases_lt}
 use Rattle.std.proofs.lemmas.List.{length-set, set_past, get_or_read, get_or_read_under}
@@ -8,8 +8,8 @@ use Rattle.std.proofs.lemmas.List.Elements.{Contains-push_cases}
 use Rattle.std.proofs.lemmas.Option.{none-some}
 use Rattle.rt_base.proofs.Lists.{Contains-none}
 use Rattle.rt_lines.specs.declared.label.Label.{Label}
-use Rattle.rt_shape.specs.Graphs.{Graph, letter_eq, step_of}
-use Rattle.rt_shape.specs.Classes.{pointed, Joined}
+use Rattle.rt_shape.specs.Graphs.{Graph, letter_eq}
+use Rattle.rt_shape.specs.Classes.{Joined}
 use Rattle.rt_shape.specs.Classes.Joined.{joined_back, joined_chain, joined_letter}
 use Rattle.rt_shape.specs.Joins.{Leads, AreSound}
 use Rattle.rt_shape.proofs.Letters.{letter_equal}

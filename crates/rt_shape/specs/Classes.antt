@@ -21,7 +21,8 @@ pub data Joined (graph : Graph) (pairs : List (ℕ × ℕ)) : ℕ → ℕ → Ty
   joined_self : {i : ℕ} → Joined graph pairs i i
   joined_back : {i j : ℕ} → Joined graph pairs i j → Joined graph pairs j i
   joined_chain : {i j k : ℕ} → Joined graph pairs i j → Joined graph pairs j k → Joined graph pairs i k
-  joined_letter : {i j m n : ℕ} (l k : Label) → pointed l ≡ pointed k → Joined graph pairs i j → step_of graph i l ≡ Some m → step_of graph j k ≡ Some n → Joined graph pairs m n
+  joined_letter : {i j m n : ℕ} (l k : Label) → pointed l ≡ pointed k → Joined graph pairs i j → step_of graph i l ≡ Some m →
+      step_of graph j k ≡ Some n → Joined graph pairs m n
 
 -- a class for each node, named by a node that has to be one with it
 pub record AreClasses (graph : Graph) (pairs : List (ℕ × ℕ)) (class : List ℕ) : Type 0 where
@@ -37,7 +38,8 @@ AreStepsOne graph class =
 
 -- from nodes of one class one label leads to the two nodes of two classes, or a load and a store do
 pub record AreApart (graph : Graph) (class : List ℕ) (m n : ℕ) : Type 0 where
-  pub from : (i : ℕ) × (j : ℕ) × (l : Label) × (k : Label) × (i < graph.count) × (j < graph.count) × (pointed l ≡ pointed k) × (slice_index class i ≡ slice_index class j) × (step_of graph i l ≡ Some m) × (step_of graph j k ≡ Some n)
+  pub from : (i : ℕ) × (j : ℕ) × (l : Label) × (k : Label) × (i < graph.count) × (j < graph.count) × (pointed l ≡ pointed k) ×
+      (slice_index class i ≡ slice_index class j) × (step_of graph i l ≡ Some m) × (step_of graph j k ≡ Some n)
   pub within : (m < graph.count) × (n < graph.count)
   pub apart : slice_index class m ≡ slice_index class n → ⊥
 
@@ -61,7 +63,8 @@ pub record IsViolated (graph : Graph) (pairs : List (ℕ × ℕ)) (class : List 
 pub record IsNumbering (class : List ℕ) (number : List ℕ) (count : ℕ) : Type 0 where
   pub each : length number ≡ length class
   pub within : (i : ℕ) → i < length class → slice_index number i < count
-  pub same : (i j : ℕ) → i < length class → j < length class → (slice_index number i ≡ slice_index number j) ↔ (slice_index class i ≡ slice_index class j)
+  pub same : (i j : ℕ) → i < length class → j < length class → (slice_index number i ≡ slice_index number j) ↔
+      (slice_index class i ≡ slice_index class j)
   pub all : (k : ℕ) → k < count → (i : ℕ) × (i < length class) × (slice_index number i ≡ k)
 
 -- the bases with the numbers of their nodes
@@ -71,8 +74,10 @@ pub record AreBasesOf (graph : Graph) (number : List ℕ) (bases : List (Base ×
 
 -- the edges between the numbers of nodes
 pub record AreEdgesOf (graph : Graph) (number : List ℕ) (edges : List ((ℕ × Label) × ℕ)) : Type 0 where
-  pub on : (m : ℕ) (l : Label) (n : ℕ) → step_of graph m l ≡ Some n → lookup (letter_eq (slice_index number m, l)) edges ≡ Some (slice_index number n)
-  pub back : (i : ℕ) (l : Label) (k : ℕ) → lookup (letter_eq (i, l)) edges ≡ Some k → (m : ℕ) × (n : ℕ) × (slice_index number m ≡ i) × (step_of graph m l ≡ Some n) × (slice_index number n ≡ k)
+  pub on : (m : ℕ) (l : Label) (n : ℕ) → step_of graph m l ≡ Some n →
+      lookup (letter_eq (slice_index number m, l)) edges ≡ Some (slice_index number n)
+  pub back : (i : ℕ) (l : Label) (k : ℕ) → lookup (letter_eq (i, l)) edges ≡ Some k → (m : ℕ) × (n : ℕ) × (slice_index number m ≡ i) ×
+      (step_of graph m l ≡ Some n) × (slice_index number n ≡ k)
 
 -- the graph of the numbers of the nodes
 pub record IsQuotient (graph : Graph) (number : List ℕ) (quotient : Graph) : Type 0 where

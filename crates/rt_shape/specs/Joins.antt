@@ -12,10 +12,12 @@ work s = length s.todo.items + sum_by length s.letters.items
 
 -- a label that is the letter, but for stores, leads to the node from one that has to be one with the class's name
 abbrev pub Leads : Graph → List (ℕ × ℕ) → ℕ → Label → ℕ → Type 0
-Leads graph pairs c l t = (t < graph.count) × ((k : ℕ) × (j : Label) × Joined graph pairs k c × (pointed j ≡ l) × (step_of graph k j ≡ Some t))
+Leads graph pairs c l t = (t < graph.count) ×
+    ((k : ℕ) × (j : Label) × Joined graph pairs k c × (pointed j ≡ l) × (step_of graph k j ≡ Some t))
 
 -- what is in one class has to be one, and so has what is left to do
-pub record AreSound (graph : Graph) (pairs : List (ℕ × ℕ)) (class : List ℕ) (members : List (List ℕ)) (letters : List (List (Label × ℕ))) (first : List ((ℕ × Label) × ℕ)) (todo : List (ℕ × ℕ)) : Type 0 where
+pub record AreSound (graph : Graph) (pairs : List (ℕ × ℕ)) (class : List ℕ) (members : List (List ℕ))
+    (letters : List (List (Label × ℕ))) (first : List ((ℕ × Label) × ℕ)) (todo : List (ℕ × ℕ)) : Type 0 where
   pub each : length class ≡ graph.count
   pub members_each : length members ≡ graph.count
   pub letters_each : length letters ≡ graph.count
@@ -35,4 +37,5 @@ MayEnter s c l t = (graph : Graph) × (pairs : List (ℕ × ℕ)) × IsSound gra
 
 -- it is sound over some graph in which the two have to be one
 abbrev pub MayJoin : Joining → ℕ → ℕ → Type 0
-MayJoin s m n = (graph : Graph) × (pairs : List (ℕ × ℕ)) × IsSound graph pairs s × (m < graph.count) × (n < graph.count) × Joined graph pairs m n
+MayJoin s m n = (graph : Graph) × (pairs : List (ℕ × ℕ)) × IsSound graph pairs s × (m < graph.count) × (n < graph.count) ×
+    Joined graph pairs m n

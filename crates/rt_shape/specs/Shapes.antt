@@ -11,7 +11,8 @@ use Rattle.rt_shape.specs.Graphs.{Graph, node_of, Has}
 -- a variable has a node exactly if there is that variable, and two have one node exactly if they have one shape
 pub record IsShapeOf (lines : List Line) (graph : Graph) : Type 0 where
   pub there : (order : Below) (x : Dtv) → IsSome (node_of graph x) ↔ Derivable order lines (Var x)
-  pub one : (order : Below) (x y : Dtv) (m n : ℕ) → node_of graph x ≡ Some m → node_of graph y ≡ Some n → (m ≡ n) ↔ Derivable order lines (Same x y)
+  pub one : (order : Below) (x y : Dtv) (m n : ℕ) → node_of graph x ≡ Some m → node_of graph y ≡ Some n → (m ≡ n) ↔
+      Derivable order lines (Same x y)
 
 -- the second variable is the first, or it with more letters
 abbrev pub IsFront : Dtv → Dtv → Type 0

@@ -58,7 +58,8 @@ fn violation(
 ) -> Result<Option<(u32, u32)>, Memory>
     requires classes { AreClasses tree.now pairs.now class.now }
     requires pairs_in { (i j : ℕ) → Contains pairs.now (i, j) → (i < tree.now.count) × (j < tree.now.count) }
-    ensures { IfOk result (λ found. MatchOption found (IsClosed tree.now pairs.now class.now) (λ pair. IsViolated tree.now pairs.now class.now pair.0 pair.1)) }
+    ensures { IfOk result (λ found. MatchOption found (IsClosed tree.now pairs.now class.now)
+        (λ pair. IsViolated tree.now pairs.now class.now pair.0 pair.1)) }
 {
     if let Some(pair) = pair_apart(pairs, class) {
         return Ok(Some(pair));
@@ -83,7 +84,8 @@ fn pair_apart(pairs: &[(u32, u32)], class: &[u32]) -> Option<(u32, u32)>
 // Two nodes in two classes to which one label leads from one class, or a load and a store, if there are any.
 fn steps_apart(alloc: Global, tree: &Tree, class: &[u32]) -> Result<Option<(u32, u32)>, Memory>
     requires { length class.now ≡ tree.now.count }
-    ensures { IfOk result (λ found. MatchOption found (AreStepsOne tree.now class.now) (λ pair. AreApart tree.now class.now pair.0 pair.1)) }
+    ensures { IfOk result (λ found. MatchOption found (AreStepsOne tree.now class.now)
+        (λ pair. AreApart tree.now class.now pair.0 pair.1)) }
 {
     let mut first: HashMap<(u32, Label), u32> = HashMap::new(alloc);
     for i in 0..tree.edge_count() {

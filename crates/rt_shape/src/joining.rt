@@ -56,7 +56,8 @@ impl Joining {
     // A letter leads from the class to the node. If it leads to another already, the two are to be made one.
     fn enter(&mut self, class: u32, letter: Label, to: u32) -> Result<(), Memory>
         requires { MayEnter self.old class letter to }
-        ensures sound { OnOk result ((graph : Graph) (pairs : List (ℕ × ℕ)) → IsSound graph pairs self.old → Leads graph pairs class letter to → IsSound graph pairs self.new) }
+        ensures sound { OnOk result ((graph : Graph) (pairs : List (ℕ × ℕ)) → IsSound graph pairs self.old →
+            Leads graph pairs class letter to → IsSound graph pairs self.new) }
         ensures work { OnOk result (work self.new ≡ work self.old + 1) }
     {
         match self.first.get(&(class, letter)) {
@@ -75,7 +76,8 @@ impl Joining {
     // Renames a class into another.
     fn rename(&mut self, from: u32, to: u32) -> Result<(), Memory>
         requires { MayJoin self.old from to }
-        ensures sound { OnOk result ((graph : Graph) (pairs : List (ℕ × ℕ)) → IsSound graph pairs self.old → Joined graph pairs from to → IsSound graph pairs self.new) }
+        ensures sound { OnOk result ((graph : Graph) (pairs : List (ℕ × ℕ)) → IsSound graph pairs self.old →
+            Joined graph pairs from to → IsSound graph pairs self.new) }
         ensures work { OnOk result (work self.new ≡ work self.old) }
     {
         self.move_members(from, to)?;
@@ -85,7 +87,8 @@ impl Joining {
     // Moves the nodes of a class to another.
     fn move_members(&mut self, from: u32, to: u32) -> Result<(), Memory>
         requires { MayJoin self.old from to }
-        ensures sound { OnOk result ((graph : Graph) (pairs : List (ℕ × ℕ)) → IsSound graph pairs self.old → Joined graph pairs from to → IsSound graph pairs self.new) }
+        ensures sound { OnOk result ((graph : Graph) (pairs : List (ℕ × ℕ)) → IsSound graph pairs self.old →
+            Joined graph pairs from to → IsSound graph pairs self.new) }
         ensures work { OnOk result (work self.new ≡ work self.old) }
     {
         let alloc = *self.class.allocator();
@@ -100,7 +103,8 @@ impl Joining {
     // Moves the letters of a class to another.
     fn move_letters(&mut self, from: u32, to: u32) -> Result<(), Memory>
         requires { MayJoin self.old from to }
-        ensures sound { OnOk result ((graph : Graph) (pairs : List (ℕ × ℕ)) → IsSound graph pairs self.old → Joined graph pairs from to → IsSound graph pairs self.new) }
+        ensures sound { OnOk result ((graph : Graph) (pairs : List (ℕ × ℕ)) → IsSound graph pairs self.old →
+            Joined graph pairs from to → IsSound graph pairs self.new) }
         ensures work { OnOk result (work self.new ≡ work self.old) }
     {
         let alloc = *self.class.allocator();
@@ -115,7 +119,8 @@ impl Joining {
     // Makes two nodes one: of their classes the one with fewer members is renamed into the other.
     fn join(&mut self, i: u32, j: u32) -> Result<(), Memory>
         requires { MayJoin self.old i j }
-        ensures sound { OnOk result ((graph : Graph) (pairs : List (ℕ × ℕ)) → IsSound graph pairs self.old → Joined graph pairs i j → IsSound graph pairs self.new) }
+        ensures sound { OnOk result ((graph : Graph) (pairs : List (ℕ × ℕ)) → IsSound graph pairs self.old → Joined graph pairs i j →
+            IsSound graph pairs self.new) }
         ensures work { OnOk result (work self.new ≡ work self.old) }
     {
         let a = self.class[i as usize];

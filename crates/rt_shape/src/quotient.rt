@@ -24,7 +24,8 @@ pub fn shape_of(
     requires tree { IsTree tree.now }
     requires classes { AreClasses tree.now pairs.now class.items }
     requires pairs_in { (i j : ℕ) → Contains pairs.now (i, j) → (i < tree.now.count) × (j < tree.now.count) }
-    ensures { IfOk result (λ shape. (lines : List Line) → IsNaming lines tree.now → ArePairs lines tree.now pairs.now → IsShapeOf lines shape) }
+    ensures { IfOk result (λ shape. (lines : List Line) → IsNaming lines tree.now → ArePairs lines tree.now pairs.now →
+        IsShapeOf lines shape) }
 {
     let class = closed(alloc, tree, pairs, class)?;
     quotient(alloc, tree, pairs, &class)

@@ -1,5 +1,5 @@
 // Shapes of lists of lines.
-ghost use Rattle.std.specs.Prelude.{◌≡◌, ◌↔◌, IsTrue};
+ghost use Rattle.std.specs.Prelude.{◌≡◌, ◌<◌, ◌↔◌, Some, length, slice_get, IsTrue};
 ghost use Rattle.rt_shape.specs.Graphs.{node_of, step_of, IsReadWrite, IsShape};
 
 use crate::walking::walk;
@@ -62,5 +62,31 @@ impl Shape {
         ensures { IsTrue result ↔ IsReadWrite self.now node }
     {
         self.step(node, &Label::Load).is_some() && self.step(node, &Label::Store).is_some()
+    }
+
+    /// How many nodes there are: they are the numbers below it.
+    pub fn node_count(&self) -> u32
+        ensures { result ≡ self.now.count }
+    {
+        self.count
+    }
+
+    /// How many edges there are.
+    pub fn edge_count(&self) -> usize
+        ensures { result ≡ length self.now.edges }
+    {
+        self.edges.len()
+    }
+
+    /// One of the edges: a node, a label, and the node after it.
+    pub fn edge(&self, i: usize) -> (u32, Label, u32)
+        requires { i < length self.now.edges }
+        ensures entry { slice_get self.now.edges i ≡ Some ((result.0, result.1), result.2) }
+        ensures within { (result.0 < self.now.count) × (result.2 < self.now.count) }
+    {
+        match self.edges.get_index(i) {
+            Some((letter, to)) => (letter.0, letter.1, *to),
+            None => unreachable!(),
+        }
     }
 }

@@ -1,5 +1,5 @@
-use Rattle.std.proofs.Common.{◌≡◌, ℕ, ◌<◌, List, Contains, sym, subst}
-use Rattle.rt_shape.specs.Graphs.{Graph, IsTree}
+use Rattle.std.proofs.Common.{sym, subst}
+use Rattle.rt_shape.specs.Graphs.{IsTree}
 use Rattle.rt_shape.specs.Shapes.{ArePairs}
 use Rattle.rt_shape.proofs.Within.{pairs_within}
 use Rattle.rt_shape.proofs.of.Goals as goal

@@ -1,4 +1,4 @@
-use Rattle.std.proofs.Common.{◌≡◌, ℕ, ◌<◌, List, Contains, sym, subst}
+use Rattle.std.proofs.Common.{ℕ, ◌<◌, List, Contains, sym, subst}
 use Rattle.rt_shape.specs.Graphs.{Graph}
 use Rattle.rt_shape.specs.Classes.{AreClasses}
 use Rattle.rt_shape.specs.Joins.{IsSound}

@@ -1,4 +1,4 @@
-use Rattle.std.proofs.Common.{◌≡◌, ℕ, ◌<◌, List, sym, subst, ◌∙◌}
+use Rattle.std.proofs.Common.{◌<◌, sym, subst, ◌∙◌}
 use Rattle.rt_shape.proofs.Sound.{leads_joined, sound-push, sound-insert, sound-letter}
 use Rattle.rt_shape.proofs.joining.Joining.enter.Goals as goal
 

@@ -1,4 +1,4 @@
-use Rattle.std.proofs.Common.{◌≡◌, ℕ, List, sym}
+use Rattle.std.proofs.Common.{sym}
 use Rattle.rt_shape.specs.Classes.Joined.{joined_self}
 use Rattle.rt_shape.proofs.joining.Joining.enter_edges.Goals as goal
 

@@ -1,4 +1,4 @@
-use Rattle.std.proofs.Common.{rules, ◌≡◌, ℕ, ◌<◌, List, [], ◌∷◌, ◌++◌, slice_index, Contains, refl, sym, ap, subst, ◌∙◌, arith}
+use Rattle.std.proofs.Common.{rules, ◌≡◌, ℕ, ◌<◌, [], ◌∷◌, ◌++◌, slice_index, Contains, sym, ap, subst, ◌∙◌, arith}
 use Rattle.rt_shape.proofs.Begun.{AreAlone, AreEmpty, AreAlone-push, AreEmpty-push, begun}
 use Rattle.rt_shape.proofs.joining.Joining.new.Goals as goal
 
