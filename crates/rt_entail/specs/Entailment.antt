@@ -15,7 +15,8 @@ use Rattle.rt_entail.specs.Files.{IsFileOf, IsBadAt}
 -- the constants.
 abbrev pub IsRefusal : List (List ℕ) → List ℕ → List ℕ → EntailFault → Type 0
 IsRefusal names text judgement (BadLine place) = IsBadAt names text place
-IsRefusal names text judgement BadJudgement = ((lines : List Line) × IsFileOf names text lines) × IsNoText (IsJudge (length names)) (judge_text names) judgement
+IsRefusal names text judgement BadJudgement = ((lines : List Line) × IsFileOf names text lines) ×
+    IsNoText (IsJudge (length names)) (judge_text names) judgement
 IsRefusal names text judgement Memory = Unit {0}
 
 -- the answer to a judgement: whether it is derivable from the lines of the text with the order of the names. Each `Order` is an order

@@ -15,7 +15,8 @@ use std::alloc::Global;
 // The judgement of a text.
 fn read_judgement(alloc: Global, judgement: &[u8], names: &Names) -> Result<Judge, EntailFault>
     ensures { MatchResult result (λ j. IsJudge (length names.now) j × (judge_text names.now j ≡ judgement.now))
-        (λ e. (e ≡ EntailFault.Memory) ⊎ ((e ≡ EntailFault.BadJudgement) × IsNoText (IsJudge (length names.now)) (judge_text names.now) judgement.now)) }
+        (λ e. (e ≡ EntailFault.Memory) ⊎ ((e ≡ EntailFault.BadJudgement) ×
+        IsNoText (IsJudge (length names.now)) (judge_text names.now) judgement.now)) }
 {
     match read_judge(alloc, judgement, names) {
         Ok(judge) => Ok(judge),

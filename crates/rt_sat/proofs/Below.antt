@@ -15,14 +15,17 @@ use Rattle.rt_rules.proofs.Lists.{Contains-none, Contains-here, Contains-there, 
 use Rattle.rt_bridge.specs.Growing.{dv, vd, Given, S, Der}
 use Rattle.rt_bridge.specs.Counted.{st}
 use Rattle.rt_bridge.specs.Ways.{Way}
-use Rattle.rt_bridge.specs.Laws.{AreNamed, Edge as EdgeOf}
+use Rattle.rt_bridge.specs.Laws.{Named, AreNamed, Edge as EdgeOf}
 use Rattle.rt_bridge.specs.Bounds.{HasLow, HasUp}
 use Rattle.rt_bridge.proofs.Growing.{der, dv-vd}
-use Rattle.rt_bridge.proofs.Lawful.{table_law, low_law, up_law}
+use Rattle.rt_bridge.proofs.Lawful.{exact_law, low_law, up_law}
+use Rattle.rt_bridge.proofs.Tables.{way_bridge}
 use Rattle.rt_named.specs.Origins.{no_variable}
 use Rattle.rt_sat.specs.declared.state.State.{State}
 use Rattle.rt_sat.specs.declared.state.Edge.{Edge}
+use Rattle.rt_sat.specs.Closings.{IsTableWhere}
 use Rattle.rt_sat.specs.Deciding.{is_among, flips_by}
+use Rattle.rt_sat.specs.Mattering.{Matters}
 use Rattle.rt_sat.specs.Numbered.{at_number, edges_of, AreDistinct, AreWithin}
 use Rattle.rt_sat.specs.Pushes.{IsFrame}
 use Rattle.rt_sat.specs.Searches.{Walk, IsSearch, IsKnown, IsWithin}
@@ -33,6 +36,7 @@ use Rattle.rt_sat.proofs.Closed.{name_at}
 use Rattle.rt_sat.proofs.Closings.{closing_law}
 use Rattle.rt_sat.proofs.Deciding.{are_named, are_flips}
 use Rattle.rt_sat.proofs.Frames.{frame_law, named_distinct}
+use Rattle.rt_sat.proofs.Mattering.{fewer_where}
 use Rattle.rt_sat.proofs.Numbered.{numbered_law}
 use Rattle.rt_sat.proofs.Bounded.{lows_within, ups_within}
 use Rattle.rt_sat.proofs.Sources.{sourced_walk, walk_sourced}
@@ -54,11 +58,16 @@ module _ (order : Below) (lines : List Line) (extra known : List Dtv) (edges : L
   pub within : AreWithin known edges
   within = table.closing.within table.entered.within
 
+  pub where_law : IsTableWhere L (Named (is_among known)) (Matters table.graph table.marks) (EdgeOf (edges_of known edges))
+  where_law = closing_law L known table.graph table.marks table.flips table.matters table.first edges named_all distinct frame table.mattering table.entered table.closing
+
   variables : (i j : ℕ) → i < length known → j < length known → Der L (S (vd (at_number known i)) (vd (at_number known j))) ↔ Way (EdgeOf (edges_of known edges)) (st (vd (at_number known i)) Co) (st (vd (at_number known j)) Co) 0
-  variables i j h k =
-      table_law L (is_among known) (flips_by table.graph) (edges_of known edges) named_all (are_flips L extra table.graph table.shape)
-      (closing_law L known table.flips table.first edges named_all distinct frame table.entered table.closing)
-      (vd (at_number known i)) (vd (at_number known j)) (name_at known i h) (name_at known j k) (frame.there i h)
+  variables i j h k = (
+    λ d. fewer_where L L (is_among known) (EdgeOf (edges_of known edges)) table.graph table.marks table.shape table.marked named_all (λ f e. e) where_law.closed where_law.lines
+        (vd (at_number known i)) (vd (at_number known j)) (name_at known i h) (name_at known j k) d,
+    λ w. (exact_law L (is_among known) (flips_by table.graph) named_all (are_flips L extra table.graph table.shape) (vd (at_number known i)) (vd (at_number known j)) (name_at known i h) (name_at known j k) (frame.there i h)).1
+        (way_bridge (EdgeOf (edges_of known edges)) L (Named (is_among known)) named_all.sides where_law.sound w (name_at known i h) (frame.there i h)),
+  )
 
   pub to_der : (x y : Dtv) → Derivable order lines (Sub x y) → Der L (S (vd x) (vd y))
   to_der x y d = der L (S (vd x) (vd y)) (subst (λ z. Derivable order lines (Sub z (dv (vd y)))) (sym (dv-vd x)) (subst (λ z. Derivable order lines (Sub x z)) (sym (dv-vd y)) d))
@@ -87,10 +96,10 @@ below_law order lines extra known edges table i j h k = below_numbers order line
 
 -- what a search from the new number finds at nought
 pub searched_nought : (number : ℕ) (sources targets : List ℕ) (edges all : List Edge) (found : List (State × ℕ)) → AreSourced number sources edges all → ((e : Edge) → Contains edges e → (e.from.variable < number) × (e.to.variable < number)) →
-    ((s : ℕ) → Contains sources s → s < number) → ((t : ℕ) → Contains targets t → t < number) → IsSearch all (place number) found → ((t : ℕ) × Contains targets t × IsKnown found (place t) 0) ↔ HasNought edges sources targets
+    ((s : ℕ) → Contains sources s → s < number) → ((t : ℕ) → Contains targets t → t < number) → IsSearch (Some 0) all (place number) found → ((t : ℕ) × Contains targets t × IsKnown found (place t) 0) ↔ HasNought edges sources targets
 searched_nought number sources targets edges all found are within small few search = (
   λ r. (let w : (s : ℕ) × Contains sources s × Walk edges (place s) (place r.0) 0 = walk_sourced number sources edges all are within (place r.0) (few r.0 r.1) small (search.sound (place r.0) 0 r.2) in (w.0, r.0, w.1, r.1, w.2)),
-  λ r. (let w : IsWithin found (place r.1) 0 = search.complete (place r.1) 0 (sourced_walk number sources edges all are within r.0 (place r.1) r.2 r.4) in
+  λ r. (let w : IsWithin found (place r.1) 0 = search.complete (place r.1) 0 (sourced_walk number sources edges all are within r.0 (place r.1) r.2 r.4) (omega arith) in
       (r.1, r.3, subst (IsKnown found (place r.1)) (omega (arith, w.2)) w.1)),
 )
 

@@ -1,5 +1,5 @@
 -- Numbered edges that are closed under pushes, as edges between variables.
-use Rattle.std.proofs.Common.{◌≡◌, ℕ, ◌<◌, inl, inr, Bool, List, length, Contains, refl, sym, ap, subst, ◌∙◌}
+use Rattle.std.proofs.Common.{◌≡◌, ℕ, ◌<◌, ◌⊎◌, inl, inr, Bool, true, List, length, Contains, refl, sym, ap, subst, ◌∙◌}
 use Rattle.std.proofs.lemmas.List.{get_or_default}
 use Rattle.rt_lines.specs.declared.label.Label.{Label}
 use Rattle.rt_lines.specs.declared.label.Variance.{Variance}
@@ -19,9 +19,10 @@ use Rattle.rt_sat.specs.declared.state.State.{State as Place}
 use Rattle.rt_sat.specs.declared.state.Edge.{Edge}
 use Rattle.rt_sat.specs.Deciding.{is_among}
 use Rattle.rt_sat.specs.Numbered.{sign_of, is_contra, at_number, state_of, edges_of, AreDistinct, AreWithin}
-use Rattle.rt_sat.specs.Pushes.{IsChildOf, PushBy, IsPushed, IsClosedBy, HasWalk, IsFrame, AreSound, flip_at}
+use Rattle.rt_sat.specs.Pushes.{IsChildOf, PushBy, IsPushed, IsClosedBy, HasWalk, IsFrame, AreSound, flip_at, matter_at}
 use Rattle.rt_sat.specs.Searches.{Walk}
 use Rattle.rt_sat.proofs.Deciding.{among-from, among-to}
+use Rattle.rt_sat.proofs.Mattering.{asked_allowed}
 use Rattle.rt_sat.proofs.Numbered.{IsEdge, edge_from, sign_contra, walk_of, way_of}
 
 module _ (known : List Dtv) where
@@ -105,17 +106,18 @@ module _ (known : List Dtv) where
         }
 
     -- what is pushed from a way along the edges has a way along the pushed ones alone
-    pub closed_ways : (edges pushed : List Edge) → ((x : Var) (l : Label) → M (dot x l) → M x) → AreDistinct known → AreWithin known edges → IsClosedBy known flips edges pushed →
-        (x y : Var) (l m : Label) (a b : Variance) (d k : ℕ) → M (dot x l) → M (dot y m) → Way (EdgeOf (edges_of known edges)) (st x (times (label_variance l) a)) (st y (times (label_variance m) b)) d → Push L x l m d a b k →
+    pub closed_ways : (matters : List Bool) (Matter : Var → Type 0) → ((n : ℕ) → n < length known → (x : Var) → vd (at_number known n) ≡ x → Matter x → matter_at matters n ≡ true) → (edges pushed : List Edge) → ((x : Var) (l : Label) → M (dot x l) → M x) → AreDistinct known → AreWithin known edges → IsClosedBy known flips matters edges pushed →
+        (x y : Var) (l m : Label) (a b : Variance) (d k : ℕ) → (k ≡ 0) ⊎ Matter (dot x l) → M (dot x l) → M (dot y m) → Way (EdgeOf (edges_of known edges)) (st x (times (label_variance l) a)) (st y (times (label_variance m) b)) d → Push L x l m d a b k →
         WayIn (EdgeOf (edges_of known pushed)) (st (dot x l) a) (st (dot y m) b) k
-    closed_ways edges pushed parents apart inside closed x y l m a b d k p q w s =
+    closed_ways matters Matter flagged edges pushed parents apart inside closed x y l m a b d k o p q w s =
         let u : Numbers x l a = numbers parents x l a p in
         let v : Numbers y m b = numbers parents y m b q in
         let walk : Walk edges u.parent v.parent d = walk_of known edges apart inside u.parent v.parent d u.are.above v.are.above
         (subst (λ z. Way (EdgeOf (edges_of known edges)) z (state_of known v.parent) d) (sym u.parent_is) (subst (λ z. Way (EdgeOf (edges_of known edges)) (st x (times (label_variance l) a)) z d) (sym v.parent_is) w)) in
         let by : PushBy (flip_at flips u.parent.variable) l m d (sign_of u.child.contra) (sign_of v.child.contra) k =
         subst (λ g. PushBy (flip_at flips u.parent.variable) l m d g (sign_of v.child.contra) k) (sym u.sign_is) (subst (λ g. PushBy (flip_at flips u.parent.variable) l m d a g k) (sym v.sign_is) (push_from u.parent.variable x l m d a b k u.are.above u.variable_is s)) in
-        let r : HasWalk pushed u.child v.child k = closed u.child u.parent l u.are v.child v.parent m d k v.are walk by in
+        let asked : (k ≡ 0) ⊎ (matter_at matters u.child.variable ≡ true) = elim o [ inl e ↦ inl e | inr h ↦ inr (flagged u.child.variable u.are.within (dot x l) (ap (λ (z : State). z.var) u.child_is) h) ] in
+        let r : HasWalk pushed u.child v.child k = closed u.child u.parent l u.are v.child v.parent m d k v.are walk by (asked_allowed (matter_at matters u.child.variable) k asked) in
         record {
           count = r.0;
           few = r.2;

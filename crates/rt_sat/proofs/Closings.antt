@@ -14,6 +14,8 @@ use Rattle.rt_sat.specs.Deciding.{is_among}
 use Rattle.rt_sat.specs.Numbered.{state_of, edges_of}
 use Rattle.rt_sat.specs.Pushes.{AreSound}
 use Rattle.rt_sat.specs.Closings.{IsEdgeOf, IsLineEdge, AreLineEdges, ClosingLaw}
+use Rattle.rt_sat.specs.Mattering.{Matters}
+use Rattle.rt_sat.proofs.Mattering.{number_matters}
 use Rattle.rt_sat.proofs.Numbered.{IsEdge, edge_of, edge_from}
 use Rattle.rt_sat.proofs.Closed.{edge_sound, closed_ways}
 
@@ -60,11 +62,11 @@ module _ (L : Given) (known : List Dtv) (lines : List Edge) (are : AreLineEdges 
       subst (λ z. EdgeOf (edges_of known edges) (st z Contra) (st x Contra) 0) (vd-dv y) (subst (λ z. EdgeOf (edges_of known edges) (st (vd (dv y)) Contra) (st z Contra) 0) (vd-dv x) (line_edge edges f.0 (st (vd (dv y)) Contra) (st (vd (dv x)) Contra) (more f.0 f.1) f.2))
 
 pub closing_law : ClosingLaw
-closing_law L known flips lines edges named apart frame are closing = record {
+closing_law L known graph marks flips matters lines edges named apart frame mattering are closing = record {
   sound = edge_sound known L flips frame named.sides edges (closing.sound L frame named.sides (lines_sound L known lines are));
   lines = record { forth = λ {x} {y} h. forth_edge L known lines are edges closing.lines_stay x y h; back = λ {x} {y} h. back_edge L known lines are edges closing.lines_stay x y h };
-  closed = λ x y l m a b d k p q v w way push.
+  closed = λ x y l m a b d k o p q v w way push.
       (let r : WayIn (EdgeOf (edges_of known (drop (length lines) edges))) (st (dot x l) a) (st (dot y m) b) k =
-      closed_ways known L flips frame edges (drop (length lines) edges) named.parents apart (closing.within are.within) closing.closed x y l m a b d k p q way push in
+      closed_ways known L flips frame matters (Matters graph marks) (number_matters graph marks known matters mattering) edges (drop (length lines) edges) named.parents apart (closing.within are.within) closing.closed x y l m a b d k o p q way push in
       record { count = r.count; few = r.few; way = way_more (edges_of known (drop (length lines) edges)) (edges_of known edges) (more_edges known (drop (length lines) edges) edges closing.pushed_in) r.way });
 }

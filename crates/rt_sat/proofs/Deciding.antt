@@ -80,7 +80,7 @@ both_true true true e f = refl
 both_true true false e f = f
 both_true false b e f = e
 
-parts_true : (a b : Bool) → (a && b) ≡ true → (a ≡ true) × (b ≡ true)
+pub parts_true : (a b : Bool) → (a && b) ≡ true → (a ≡ true) × (b ≡ true)
 parts_true true b e = (refl, e)
 parts_true false b e = absurd (cc)
 

@@ -24,15 +24,15 @@ use Rattle.rt_sat.specs.Numbered.{at_number, AreDistinct}
 use Rattle.rt_sat.specs.Tables.{stepped, node_made, AreFlagged, AreThere, FrameLaw}
 use Rattle.rt_sat.proofs.Deciding.{are_flips}
 
--- the nodes and the flags of the variables below a number
-pub record AreNodesTo (graph : Graph) (known : List Dtv) (number : ℕ) (nodes : List (Option ℕ)) (flips : List Bool) : Type 0 where
+-- the nodes of the variables below a number, and what a test says of them
+pub record AreNodesTo (graph : Graph) (test : Option ℕ → Bool) (known : List Dtv) (number : ℕ) (nodes : List (Option ℕ)) (said : List Bool) : Type 0 where
   pub size : length nodes ≡ number
-  pub flags : length flips ≡ number
+  pub flags : length said ≡ number
   pub nodes_are : (n : ℕ) → n < number → get_or nodes n None ≡ node_of graph (at_number known n)
-  pub flips_are : (n : ℕ) → n < number → get_or flips n false ≡ flips_at graph (node_of graph (at_number known n))
+  pub flags_are : (n : ℕ) → n < number → get_or said n false ≡ test (node_of graph (at_number known n))
 
-pub nodes_none : (graph : Graph) (known : List Dtv) → AreNodesTo graph known 0 [] []
-nodes_none graph known = record { size = refl; flags = refl; nodes_are = λ n h. absurd (omega (arith, h)); flips_are = λ n h. absurd (omega (arith, h)) }
+pub nodes_none : (graph : Graph) (test : Option ℕ → Bool) (known : List Dtv) → AreNodesTo graph test known 0 [] []
+nodes_none graph test known = record { size = refl; flags = refl; nodes_are = λ n h. absurd (omega (arith, h)); flags_are = λ n h. absurd (omega (arith, h)) }
 
 one_step : (graph : Graph) (o : Option ℕ) (l : Label) → walk graph.edges o (l ∷ []) ≡ stepped graph o l
 one_step graph None l = refl
@@ -42,7 +42,7 @@ one_step graph (Some n) l = last (step_of graph n l)
     last None = refl
     last (Some m) = refl
 
-node_longer : (graph : Graph) (x : Dtv) (l : Label) → node_of graph (longer x l) ≡ stepped graph (node_of graph x) l
+pub node_longer : (graph : Graph) (x : Dtv) (l : Label) → node_of graph (longer x l) ≡ stepped graph (node_of graph x) l
 node_longer graph x l = node_of-extended graph x (l ∷ []) ∙ one_step graph (node_of graph x) l
 
 node_right : (graph : Graph) (known : List Dtv) (number : ℕ) (nodes : List (Option ℕ)) (o : Origin) → at_number known number ≡ made known o → IsBelow o number →
@@ -50,25 +50,26 @@ node_right : (graph : Graph) (known : List Dtv) (number : ℕ) (nodes : List (Op
 node_right graph known number nodes (Bare b) e h are = ap (node_of graph) (sym e)
 node_right graph known number nodes (Longer n l) e h are = ap (λ p. stepped graph p l) (are n h) ∙ sym (ap (node_of graph) e ∙ node_longer graph (at_number known n) l)
 
-pub nodes_more : (graph : Graph) (known : List Dtv) (number : ℕ) (nodes : List (Option ℕ)) (flips : List Bool) (o : Origin) (node : Option ℕ) (flag : Bool) (new : List (Option ℕ)) (flags : List Bool) →
-    at_number known number ≡ made known o → IsBelow o number → node ≡ node_made graph nodes o → flag ≡ flips_at graph node → new ≡ nodes ++ node ∷ [] → flags ≡ flips ++ flag ∷ [] →
-    AreNodesTo graph known number nodes flips → AreNodesTo graph known (number + 1) new flags
-nodes_more graph known number nodes flips o node flag new flags e h is says p q are = record {
+pub nodes_more : (graph : Graph) (test : Option ℕ → Bool) (known : List Dtv) (number : ℕ) (nodes : List (Option ℕ)) (flips : List Bool) (o : Origin) (node : Option ℕ) (flag : Bool) (new : List (Option ℕ)) (flags : List Bool) →
+    at_number known number ≡ made known o → IsBelow o number → node ≡ node_made graph nodes o → flag ≡ test node → new ≡ nodes ++ node ∷ [] → flags ≡ flips ++ flag ∷ [] →
+    AreNodesTo graph test known number nodes flips → AreNodesTo graph test known (number + 1) new flags
+nodes_more graph test known number nodes flips o node flag new flags e h is says p q are = record {
   size = ap length p ∙ length_push nodes node ∙ ap (λ n. n + 1) are.size;
   flags = ap length q ∙ length_push flips flag ∙ ap (λ n. n + 1) are.flags;
   nodes_are = below_more (λ n. get_or new n None ≡ node_of graph (at_number known n)) number
       (λ n less. ap (λ xs. get_or xs n None) p ∙ get_or_append_left nodes (node ∷ []) None n (omega (arith, less, are.size)) ∙ are.nodes_are n less)
       (ap (λ xs. get_or xs number None) p ∙ get_or_push nodes node None number are.size ∙ right);
-  flips_are = below_more (λ n. get_or flags n false ≡ flips_at graph (node_of graph (at_number known n))) number
-      (λ n less. ap (λ xs. get_or xs n false) q ∙ get_or_append_left flips (flag ∷ []) false n (omega (arith, less, are.flags)) ∙ are.flips_are n less)
-      (ap (λ xs. get_or xs number false) q ∙ get_or_push flips flag false number are.flags ∙ says ∙ ap (flips_at graph) right);
+  flags_are = below_more (λ n. get_or flags n false ≡ test (node_of graph (at_number known n))) number
+      (λ n less. ap (λ xs. get_or xs n false) q ∙ get_or_append_left flips (flag ∷ []) false n (omega (arith, less, are.flags)) ∙ are.flags_are n less)
+      (ap (λ xs. get_or xs number false) q ∙ get_or_push flips flag false number are.flags ∙ says ∙ ap test right);
 }
   where
     right : node ≡ node_of graph (at_number known number)
     right = is ∙ node_right graph known number nodes o e h are.nodes_are
 
-pub nodes_whole : (graph : Graph) (known : List Dtv) (number : ℕ) (nodes : List (Option ℕ)) (flips : List Bool) → number ≡ length known → AreNodesTo graph known number nodes flips → AreFlagged graph known flips
-nodes_whole graph known number nodes flips e are n h = are.flips_are n (omega (arith, e, h))
+pub nodes_whole : (graph : Graph) (test : Option ℕ → Bool) (known : List Dtv) (number : ℕ) (nodes : List (Option ℕ)) (said : List Bool) → number ≡ length known → AreNodesTo graph test known number nodes said →
+    (n : ℕ) → n < length known → get_or said n false ≡ test (node_of graph (at_number known n))
+nodes_whole graph test known number nodes said e are n h = are.flags_are n (omega (arith, e, h))
 
 -- each variable that lines and existing variables name exists
 pub named_there : (order : Below) (lines : List Line) (extra : List Dtv) → AreThere lines extra → (n : ℕ) → n < length (named_by lines extra) → Derivable order lines (VarLine (at_number (named_by lines extra) n))

@@ -42,11 +42,11 @@ Contains-drop n xs e c = subst (λ (ys : List Edge). Contains ys e) (take-append
 pub tail_whole : (count : ℕ) (xs : List Edge) → take (length xs - count) (drop count xs) ≡ drop count xs
 tail_whole count xs = take_all (length xs - count) (drop count xs) (omega (arith, length-drop count xs))
 
-pub growing_closed : (known : List Dtv) (flips : List Bool) (lines edges : List Edge) (count : ℕ) → count ≡ length lines → IsGrowing known flips lines edges → IsClosedBy known flips edges (drop count edges) → IsClosing known flips lines edges
-growing_closed known flips lines edges count is g closed = record {
+pub growing_closed : (known : List Dtv) (flips matters : List Bool) (lines edges : List Edge) (count : ℕ) → count ≡ length lines → IsGrowing known flips lines edges → IsClosedBy known flips matters edges (drop count edges) → IsClosing known flips matters lines edges
+growing_closed known flips matters lines edges count is g closed = record {
   lines_stay = g.lines_stay;
   pushed_in = Contains-drop (length lines) edges;
-  closed = subst (λ n. IsClosedBy known flips edges (drop n edges)) is closed;
+  closed = subst (λ n. IsClosedBy known flips matters edges (drop n edges)) is closed;
   within = g.within;
   sound = g.sound;
 }

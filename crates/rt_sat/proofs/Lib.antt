@@ -10,6 +10,8 @@ pub mod Growing
 pub mod Closings
 pub mod Entered
 pub mod Frames
+pub mod Mattering
+pub mod Marks
 pub mod Sources
 pub mod Below
 pub mod Bounded

@@ -8,13 +8,14 @@ use Rattle.rt_lines.specs.declared.variable.Dtv.{Dtv}
 use Rattle.rt_lines.specs.Words.{label_variance, times}
 use Rattle.rt_rules.specs.Rules.{longer}
 use Rattle.rt_bridge.specs.Growing.{Var, at, dot, dv, vd}
+use Rattle.rt_bridge.specs.Counted.{bit, IsPointer}
 use Rattle.rt_bridge.proofs.Growing.{dv-vd, vd-longer}
 use Rattle.rt_sat.specs.declared.state.State.{State}
 use Rattle.rt_sat.specs.declared.state.Edge.{Edge}
 use Rattle.rt_sat.specs.Numbered.{sign_of, is_contra, at_number, AreDistinct}
-use Rattle.rt_sat.specs.Pushes.{IsChildOf, AreChildren, PushBy, IsPushed, IsPushedTo, IsPushedOn, IsDoneAt, IsDoneTo, IsDoneOn, IsGrown, IsClosedFrom, flip_at}
-use Rattle.rt_sat.specs.Searches.{state_eq, IsKnown, IsWithin, IsSearch}
-use Rattle.rt_sat.proofs.Searching.{state_equal}
+use Rattle.rt_sat.specs.Pushes.{IsChildOf, AreChildren, PushBy, IsHalf, asked_of, matter_at, IsPushed, IsPushedTo, IsPushedOn, IsDoneAt, IsDoneTo, IsDoneOn, IsGrown, IsClosedFrom, flip_at}
+use Rattle.rt_sat.specs.Searches.{state_eq, Allows, IsKnown, IsWithin, IsSearch}
+use Rattle.rt_sat.proofs.Searching.{state_equal, allows_less}
 use Rattle.std.specs.Prelude.{slice_get, Option, Some}
 use Rattle.std.proofs.lemmas.Option.{slice_get_within}
 use Rattle.std.proofs.lemmas.List.{get_or_default}
@@ -85,7 +86,7 @@ child_one known apart end target other m l e c d =
     let s : end.contra ≡ target.contra = sign_child (label_variance m) end.contra other.contra d.sign ∙ ap (λ (k : Label). is_contra (times (label_variance k) (sign_of other.contra))) p.1 ∙ sym (sign_child (label_variance l) target.contra other.contra c.sign) in
     (λ i. record { variable = sym e i; contra = sym s i }, sym p.1)
 
-module _ (known : List Dtv) (flip : Bool) (first : Label) (source other : State) (count : ℕ) (found : List (State × ℕ)) where
+module _ (known : List Dtv) (flip : Bool) (first : Label) (source other : State) (count : ℕ) (most : Option ℕ) (found : List (State × ℕ)) where
   pub child_grown : (target : State) (second : Label) (old new : List Edge) → IsChildOf known target other second →
       IsGrown (λ (e : Edge). (e.from ≡ source) × (e.to ≡ target) × PushBy flip first second count (sign_of source.contra) (sign_of target.contra) e.count) old new →
       IsGrown (λ (e : Edge). (e.from ≡ source) × IsPushedTo known flip first other count (sign_of source.contra) e.to e.count) old new
@@ -94,32 +95,32 @@ module _ (known : List Dtv) (flip : Bool) (first : Label) (source other : State)
       (λ e p. (p.0, (second, subst (λ t. IsChildOf known t other second) (sym p.1) c, subst (λ (t : State). PushBy flip first second count (sign_of source.contra) (sign_of t.contra) e.count) (sym p.1) p.2))) g
 
   pub child_done : AreDistinct known → (target : State) (second : Label) → IsChildOf known target other second →
-      ((k : ℕ) → PushBy flip first second count (sign_of source.contra) (sign_of target.contra) k → IsWithin found target k) →
-      IsDoneAt known flip first other count (sign_of source.contra) found target.variable
-  child_done apart target second c d end m k e h p =
+      ((k : ℕ) → PushBy flip first second count (sign_of source.contra) (sign_of target.contra) k → Allows most k → IsWithin found target k) →
+      IsDoneAt known flip first other count (sign_of source.contra) most found target.variable
+  child_done apart target second c d end m k e h p a =
       let o : (target ≡ end) × (second ≡ m) = child_one known apart end target other m second e c h in
       let q : PushBy flip first second count (sign_of source.contra) (sign_of target.contra) k = subst (λ (t : State). PushBy flip first second count (sign_of source.contra) (sign_of t.contra) k) (sym o.0) (subst (λ l. PushBy flip first l count (sign_of source.contra) (sign_of end.contra) k) (sym o.1) p) in
-      subst (λ t. IsWithin found t k) o.0 (d k q)
+      subst (λ t. IsWithin found t k) o.0 (d k q a)
 
   -- no child of this parent
   pub child_other : AreDistinct known → (number parent : ℕ) (m : Label) → number < length known → parent < number → at_number known number ≡ longer (at_number known parent) m → (parent ≡ other.variable → ⊥) →
-      IsDoneAt known flip first other count (sign_of source.contra) found number
-  child_other apart number parent m h less e n end l k f c p =
+      IsDoneAt known flip first other count (sign_of source.contra) most found number
+  child_other apart number parent m h less e n end l k f c p a =
       let q : (other.variable ≡ parent) × (l ≡ m) = parent_one known apart end other l parent m (omega (arith, less, h)) (ap (at_number known) f ∙ e) c in
       absurd (n (sym q.0))
 
-  pub child_bare : (number : ℕ) (b : Base) → at_number known number ≡ record { base = b; word = [] } → IsDoneAt known flip first other count (sign_of source.contra) found number
-  child_bare number b e end l k f c p = absurd (no_base (at_number known other.variable) l b (sym c.is ∙ ap (at_number known) f ∙ e))
+  pub child_bare : (number : ℕ) (b : Base) → at_number known number ≡ record { base = b; word = [] } → IsDoneAt known flip first other count (sign_of source.contra) most found number
+  child_bare number b e end l k f c p a = absurd (no_base (at_number known other.variable) l b (sym c.is ∙ ap (at_number known) f ∙ e))
 
   -- all children
   pub children_done : (children : List (List ℕ)) (numbers : List ℕ) → AreChildren known children → numbers ≡ get_or children other.variable [] →
-      ((i : ℕ) → i < length numbers → IsDoneAt known flip first other count (sign_of source.contra) found (get_or numbers i 0)) → IsDoneTo known flip first other count (sign_of source.contra) found
-  children_done children numbers are e d end m k c p =
+      ((i : ℕ) → i < length numbers → IsDoneAt known flip first other count (sign_of source.contra) most found (get_or numbers i 0)) → IsDoneTo known flip first other count (sign_of source.contra) most found
+  children_done children numbers are e d end m k c p a =
       let h : Contains numbers end.variable = subst (λ xs. Contains xs end.variable) (sym e) (are.all other.variable end.variable m c.above c.within c.is) in
-      d h.0 h.1 end m k (sym (get_or_default numbers h.0 0 end.variable h.1 ∙ h.2)) c p
+      d h.0 h.1 end m k (sym (get_or_default numbers h.0 0 end.variable h.1 ∙ h.2)) c p a
 
 -- walks of one parent, and what is known along pushed edges from its child
-module _ (known : List Dtv) (flips : List Bool) (edges pushed : List Edge) (source parent : State) (first : Label) (child : IsChildOf known source parent first) (reached found : List (State × ℕ)) (search : IsSearch edges parent reached) (back : IsSearch pushed source found) where
+module _ (known : List Dtv) (flips matters : List Bool) (edges pushed : List Edge) (source parent : State) (first : Label) (child : IsChildOf known source parent first) (reached found : List (State × ℕ)) (needed most : Option ℕ) (search : IsSearch needed edges parent reached) (back : IsSearch most pushed source found) where
   pub from_grown : (old new : List Edge) →
       IsGrown (λ (e : Edge). (e.from ≡ source) × IsPushedOn known (flip_at flips parent.variable) first (sign_of source.contra) reached e.to e.count) old new → IsGrown (IsPushed known flips edges) old new
   from_grown old new g =
@@ -136,12 +137,28 @@ module _ (known : List Dtv) (flips : List Bool) (edges pushed : List Edge) (sour
         push = subst (λ (t : State). PushBy (flip_at flips parent.variable) first p.1.3.0 p.1.1 (sign_of t.contra) (sign_of e.to.contra) e.count) (sym p.0) p.1.3.2;
       }) g
 
-  pub from_done : IsDoneOn known (flip_at flips parent.variable) first (sign_of source.contra) reached found → IsClosedFrom known flips edges pushed source parent first
-  from_done d end other m n k c w p =
-      let r : IsWithin reached other n = search.complete other n w in
+  pub from_done : ((m : Label) (n k : ℕ) (a b : Variance) → PushBy (flip_at flips parent.variable) first m n a b k → Allows (asked_of (matter_at matters source.variable)) k → Allows needed n × Allows most k) →
+      IsDoneOn known (flip_at flips parent.variable) first (sign_of source.contra) reached most found → IsClosedFrom known flips matters edges pushed source parent first
+  from_done enough d end other m n k c w p a =
+      let o : Allows needed n × Allows most k = enough m n k (sign_of source.contra) (sign_of end.contra) p a in
+      let r : IsWithin reached other n = search.complete other n w o.0 in
       let q : (j : ℕ) × PushBy (flip_at flips parent.variable) first m r.0 (sign_of source.contra) (sign_of end.contra) j × (j ≤ k) = push_less (flip_at flips parent.variable) first m n r.0 (sign_of source.contra) (sign_of end.contra) k r.2 p in
-      let i : IsWithin found end q.0 = d other r.0 r.1 end m q.0 c q.1 in
+      let i : IsWithin found end q.0 = d other r.0 r.1 end m q.0 c q.1 (allows_less most q.0 k q.2 o.1) in
       (i.0, back.sound end i.0 i.1, omega (arith, i.2, q.2))
+
+bit_one : (a : Variance) → bit a ≤ 1
+bit_one Co = omega arith
+bit_one Contra = omega arith
+
+-- nought is pushed from at most one
+pub nought_pushed : (flip : Bool) (l m : Label) (d k : ℕ) (a b : Variance) → PushBy flip l m d a b k → k ≤ 0 → d ≤ 1
+nought_pushed flip l m d k a b (inl p) h = omega (arith, p.enough, bit_one (times (label_variance m) b), h)
+nought_pushed flip l m d k a b (inr p) h = omega (arith, p.1, h)
+
+-- and from nought, but by a half push
+pub nought_kept : (flip : Bool) (l m : Label) (d k : ℕ) (a b : Variance) → (flip ≡ true → IsPointer l → ⊥) → PushBy flip l m d a b k → k ≤ 0 → d ≤ 0
+nought_kept flip l m d k a b none (inl p) h = absurd (none p.flips p.left)
+nought_kept flip l m d k a b none (inr p) h = omega (arith, p.1, h)
 
 -- what is known has an entry
 pub known_entry : (found : List (State × ℕ)) (s : State) (k : ℕ) → IsKnown found s k → (i : ℕ) × (i < length found) × (slice_get found i ≡ Some (s, k))
@@ -156,12 +173,12 @@ source_one known apart child parent other l m c d =
     let s : parent.contra ≡ other.contra = sign_one parent.contra other.contra (sym c.sign ∙ ap (λ (k : Label). times (label_variance k) (sign_of child.contra)) p.1 ∙ d.sign) in
     (λ i. record { variable = p.0 i; contra = s i }, p.1)
 
-pub state_done : (known : List Dtv) (flips : List Bool) (edges pushed : List Edge) → AreDistinct known → (source above : State) (first : Label) → IsChildOf known source above first → IsClosedFrom known flips edges pushed source above first →
-    (child other : State) (l : Label) → child.variable ≡ source.variable → child.contra ≡ source.contra → IsChildOf known child other l → IsClosedFrom known flips edges pushed child other l
-state_done known flips edges pushed apart source above first own done child other l e f k =
+pub state_done : (known : List Dtv) (flips matters : List Bool) (edges pushed : List Edge) → AreDistinct known → (source above : State) (first : Label) → IsChildOf known source above first → IsClosedFrom known flips matters edges pushed source above first →
+    (child other : State) (l : Label) → child.variable ≡ source.variable → child.contra ≡ source.contra → IsChildOf known child other l → IsClosedFrom known flips matters edges pushed child other l
+state_done known flips matters edges pushed apart source above first own done child other l e f k =
     let s : source ≡ child = (λ i. record { variable = sym e i; contra = sym f i }) in
     let o : (above ≡ other) × (first ≡ l) = source_one known apart source above other first l own (subst (λ z. IsChildOf known z other l) (sym s) k) in
-    subst (λ z. IsClosedFrom known flips edges pushed z other l) s (subst (λ z. IsClosedFrom known flips edges pushed source z l) o.0 (subst (λ m. IsClosedFrom known flips edges pushed source above m) o.1 done))
+    subst (λ z. IsClosedFrom known flips matters edges pushed z other l) s (subst (λ z. IsClosedFrom known flips matters edges pushed source z l) o.0 (subst (λ m. IsClosedFrom known flips matters edges pushed source above m) o.1 done))
 
 pub state_child : (known : List Dtv) (number parent : ℕ) (contra turned : Bool) (m : Label) → number < length known → parent < number → at_number known number ≡ longer (at_number known parent) m → turned ≡ is_contra (times (label_variance m) (sign_of contra)) →
     IsChildOf known (record { variable = number; contra = contra }) (record { variable = parent; contra = turned }) m

@@ -10,7 +10,7 @@ use Rattle.rt_rules.proofs.Lists.{Contains-none, Contains-here, Contains-cons_ca
 use Rattle.rt_sat.specs.declared.state.State.{State}
 use Rattle.rt_sat.specs.declared.state.Edge.{Edge}
 use Rattle.rt_sat.specs.contracts.state.StateEq.TheImpl.Laws as state_laws
-use Rattle.rt_sat.specs.Searches.{state_eq, turned, Walk, stays, turns, steps, IsKnown, IsWithin, AreWalks, IsRelaxed, AreRelaxed, AreFallen, IsOffered, IsIndexed, IsSearch, IsVisited, IsPassed, IsFollowed}
+use Rattle.rt_sat.specs.Searches.{state_eq, turned, Walk, stays, turns, steps, IsKnown, IsWithin, Allows, AreNoted, IsRelaxed, AreRelaxed, AreFallen, IsOffered, IsIndexed, IsSearch, IsVisited, IsPassed, IsFollowed}
 
 both_true : (a b : Bool) → (a && b) ≡ true → (a ≡ true) × (b ≡ true)
 both_true true b e = (refl, e)
@@ -44,6 +44,14 @@ fallen-self found s k h = (k, h, omega arith)
 pub fallen-chain : (a b c : List (State × ℕ)) → AreFallen a b → AreFallen b c → AreFallen a c
 fallen-chain a b c f g s k h = within-fallen b c s k g (f s k h)
 
+pub allows_less : (most : Option ℕ) (j k : ℕ) → j ≤ k → Allows most k → Allows most j
+allows_less None j k h a = tt
+allows_less (Some m) j k h a = omega (arith, h, a)
+
+pub allows_nought : (most : Option ℕ) → Allows most 0
+allows_nought None = tt
+allows_nought (Some m) = omega arith
+
 -- a count put down
 module _ (old new : List (State × ℕ)) (to : State) (count : ℕ) (updates : (q : State) → lookup (state_eq q) new ≡ cond (state_eq to q) (Some count) (lookup (state_eq q) old)) where
   here : (s : State) → to ≡ s → IsKnown new s count
@@ -60,19 +68,22 @@ module _ (old new : List (State × ℕ)) (to : State) (count : ℕ) (updates : (
   falls less s k true e h = let t : to ≡ s = state_equal to s e in (count, here s t, less k (subst (λ z. IsKnown old z k) (sym t) h))
   falls less s k false e h = (k, elsewhere s e ∙ h, omega arith)
 
-  pub offered_new : (active : List State) → ((k : ℕ) → IsKnown old to k → count ≤ k) → IsOffered old new active (active ++ to ∷ []) to count
-  offered_new active less = record {
-    within = (count, here to refl, omega arith);
+  pub offered_new : (most : Option ℕ) (active : List State) → Allows most count → ((k : ℕ) → IsKnown old to k → count ≤ k) → IsOffered most old new active (active ++ to ∷ []) to count
+  offered_new most active allowed less = record {
+    within = λ a. (count, here to refl, omega arith);
     fallen = λ s k h. falls less s k (state_eq to s) refl h;
     kept = λ s c. Contains-append_left active (to ∷ []) s c;
     changed = λ s k h. elim (cases s k (state_eq to s) refl h) [
       | inl g ↦ inl g
-      | inr p ↦ inr (subst (Contains (active ++ to ∷ [])) p.0 (Contains-push active to), sym p.0, p.1)
+      | inr p ↦ inr (subst (Contains (active ++ to ∷ [])) p.0 (Contains-push active to), sym p.0, p.1, allowed)
     ];
   }
 
-pub offered_same : (found : List (State × ℕ)) (active : List State) (to : State) (k count : ℕ) → IsKnown found to k → k ≤ count → IsOffered found found active active to count
-offered_same found active to k count h less = record { within = (k, h, less); fallen = fallen-self found; kept = λ s c. c; changed = λ s j g. inl g }
+pub offered_same : (most : Option ℕ) (found : List (State × ℕ)) (active : List State) (to : State) (k count : ℕ) → IsKnown found to k → k ≤ count → IsOffered most found found active active to count
+offered_same most found active to k count h less = record { within = λ a. (k, h, less); fallen = fallen-self found; kept = λ s c. c; changed = λ s j g. inl g }
+
+pub offered_over : (most : Option ℕ) (found : List (State × ℕ)) (active : List State) (to : State) (count : ℕ) → (Allows most count → ⊥) → IsOffered most found found active active to count
+offered_over most found active to count over = record { within = λ a. absurd (over a); fallen = fallen-self found; kept = λ s c. c; changed = λ s j g. inl g }
 
 -- one way after another
 pub on : {edges : List Edge} {x y z : State} {j k : ℕ} → Walk edges x y j → Walk edges y z k → Walk edges x z (j + k)
@@ -86,27 +97,27 @@ on_edge {edges} {x} {k} e c f w = subst (λ n. Walk edges x e.to n) (omega arith
 pub on_turn : {edges : List Edge} {x y : State} {k : ℕ} → Walk edges x y k → Walk edges x (turned y) (1 + k)
 on_turn {edges} {x} {y} {k} w = subst (λ n. Walk edges x (turned y) n) (omega arith) (on w (turns {x = y} stays))
 
-module _ (edges : List Edge) (old : List (State × ℕ)) (active : List State) (state : State) (count : ℕ) (known : IsKnown old state count) where
-  pub visited_turn : (new : List (State × ℕ)) (next : List State) → IsOffered old new active next (turned state) (1 + count) → IsVisited edges old new active next state count (λ e. ⊥)
+module _ (most : Option ℕ) (edges : List Edge) (old : List (State × ℕ)) (active : List State) (state : State) (count : ℕ) (known : IsKnown old state count) where
+  pub visited_turn : (new : List (State × ℕ)) (next : List State) → IsOffered most old new active next (turned state) (1 + count) → IsVisited most edges old new active next state count (λ e. ⊥)
   visited_turn new next o = record {
     walks = λ start w s k h. (elim (o.changed s k h) [
       | inl g ↦ w s k g
-      | inr p ↦ subst (λ z. Walk edges start z k) (sym p.1) (subst (λ n. Walk edges start (turned state) n) (sym p.2) (on_turn (w state count known)))
+      | inr p ↦ (subst (λ z. Walk edges start z k) (sym p.1) (subst (λ n. Walk edges start (turned state) n) (sym p.2) (on_turn (w state count known).0)), subst (Allows most) (sym p.2) p.3)
     ]);
     fallen = o.fallen;
     kept = o.kept;
     changed = λ s k h. (elim (o.changed s k h) [ inl g ↦ inl g | inr p ↦ inr p.0 ]);
     turn = o.within;
-    edge = λ e d f. absurd d;
+    edge = λ e d f a. absurd d;
   }
 
   -- an edge more
   pub visited_edge : (mid new : List (State × ℕ)) (between next : List State) (Done More : Edge → Type 0) (e : Edge) → Contains edges e → e.from ≡ state →
-      ((g : Edge) → More g → Done g ⊎ (g ≡ e)) → IsVisited edges old mid active between state count Done → IsOffered mid new between next e.to (e.count + count) → IsVisited edges old new active next state count More
+      ((g : Edge) → More g → Done g ⊎ (g ≡ e)) → IsVisited most edges old mid active between state count Done → IsOffered most mid new between next e.to (e.count + count) → IsVisited most edges old new active next state count More
   visited_edge mid new between next Done More e c f split v o = record {
     walks = λ start w s k h. (elim (o.changed s k h) [
       | inl g ↦ v.walks start w s k g
-      | inr p ↦ subst (λ z. Walk edges start z k) (sym p.1) (subst (λ n. Walk edges start e.to n) (sym p.2) (on_edge e c f (w state count known)))
+      | inr p ↦ (subst (λ z. Walk edges start z k) (sym p.1) (subst (λ n. Walk edges start e.to n) (sym p.2) (on_edge e c f (w state count known).0)), subst (Allows most) (sym p.2) p.3)
     ]);
     fallen = fallen-chain old mid new v.fallen o.fallen;
     kept = λ s h. o.kept s (v.kept s h);
@@ -114,37 +125,37 @@ module _ (edges : List Edge) (old : List (State × ℕ)) (active : List State) (
       | inl g ↦ elim (v.changed s k g) [ inl a ↦ inl a | inr b ↦ inr (o.kept s b) ]
       | inr p ↦ inr p.0
     ]);
-    turn = within-fallen mid new (turned state) (1 + count) o.fallen v.turn;
-    edge = λ g d h. (elim (split g d) [
-      | inl x ↦ within-fallen mid new g.to (g.count + count) o.fallen (v.edge g x h)
-      | inr q ↦ subst (λ (z : Edge). IsWithin new z.to (z.count + count)) (sym q) o.within
+    turn = λ a. within-fallen mid new (turned state) (1 + count) o.fallen (v.turn a);
+    edge = λ g d h a. (elim (split g d) [
+      | inl x ↦ within-fallen mid new g.to (g.count + count) o.fallen (v.edge g x h a)
+      | inr q ↦ subst (λ (z : Edge). IsWithin new z.to (z.count + count)) (sym q) (o.within (subst (λ (z : Edge). Allows most (z.count + count)) q a))
     ]);
   }
 
   -- a test of more edges, none of which leaves the state
-  pub visited_more : (new : List (State × ℕ)) (next : List State) (Done More : Edge → Type 0) → ((g : Edge) → More g → g.from ≡ state → Done g) → IsVisited edges old new active next state count Done → IsVisited edges old new active next state count More
+  pub visited_more : (new : List (State × ℕ)) (next : List State) (Done More : Edge → Type 0) → ((g : Edge) → More g → g.from ≡ state → Done g) → IsVisited most edges old new active next state count Done → IsVisited most edges old new active next state count More
   visited_more new next Done More split v = record { walks = v.walks; fallen = v.fallen; kept = v.kept; changed = v.changed; turn = v.turn; edge = λ g d h. v.edge g (split g d h) h }
 
   -- all edges that leave the state
-  pub visited_all : (new : List (State × ℕ)) (next rest : List State) → IsVisited edges old new active next state count (Contains edges) → AreRelaxed edges old (active ++ state ∷ rest) → AreRelaxed edges new (next ++ rest)
+  pub visited_all : (new : List (State × ℕ)) (next rest : List State) → IsVisited most edges old new active next state count (Contains edges) → AreRelaxed most edges old (active ++ state ∷ rest) → AreRelaxed most edges new (next ++ rest)
   visited_all new next rest v r s k h = by (v.changed s k h)
     where
-      relaxed : IsRelaxed edges old s k → IsRelaxed edges new s k
-      relaxed q = record { turn = within-fallen old new (turned s) (1 + k) v.fallen q.turn; edge = λ e c f. within-fallen old new e.to (e.count + k) v.fallen (q.edge e c f) }
+      relaxed : IsRelaxed most edges old s k → IsRelaxed most edges new s k
+      relaxed q = record { turn = λ a. within-fallen old new (turned s) (1 + k) v.fallen (q.turn a); edge = λ e c f a. within-fallen old new e.to (e.count + k) v.fallen (q.edge e c f a) }
 
-      itself : state ≡ s → IsKnown old s k → IsRelaxed edges new s k
+      itself : state ≡ s → IsKnown old s k → IsRelaxed most edges new s k
       itself e g =
           let m : k ≡ count = one_count old state k count (subst (λ z. IsKnown old z k) (sym e) g) known in
-          subst (λ z. IsRelaxed edges new z k) e (subst (λ n. IsRelaxed edges new state n) (sym m) (record { turn = v.turn; edge = λ x c f. v.edge x c f }))
+          subst (λ z. IsRelaxed most edges new z k) e (subst (λ n. IsRelaxed most edges new state n) (sym m) (record { turn = v.turn; edge = λ x c f. v.edge x c f }))
 
-      listed : IsKnown old s k → Contains active s ⊎ Contains (state ∷ rest) s → Contains (next ++ rest) s ⊎ IsRelaxed edges new s k
+      listed : IsKnown old s k → Contains active s ⊎ Contains (state ∷ rest) s → Contains (next ++ rest) s ⊎ IsRelaxed most edges new s k
       listed g (inl c) = inl (Contains-append_left next rest s (v.kept s c))
       listed g (inr c) = elim (Contains-cons_cases state rest s c) [
         | inl e ↦ inr (itself e g)
         | inr d ↦ inl (Contains-append_right next rest s d)
       ]
 
-      by : IsKnown old s k ⊎ Contains next s → Contains (next ++ rest) s ⊎ IsRelaxed edges new s k
+      by : IsKnown old s k ⊎ Contains next s → Contains (next ++ rest) s ⊎ IsRelaxed most edges new s k
       by (inr c) = inl (Contains-append_left next rest s c)
       by (inl g) = elim (r s k g) [
         | inl c ↦ listed g (Contains-append_cases active (state ∷ rest) s c)
@@ -152,40 +163,41 @@ module _ (edges : List Edge) (old : List (State × ℕ)) (active : List State) (
       ]
 
 -- a state of which nothing is known
-pub unknown_state : (edges : List Edge) (found : List (State × ℕ)) (active rest : List State) (state : State) → lookup (state_eq state) found ≡ None → AreRelaxed edges found (active ++ state ∷ rest) → AreRelaxed edges found (active ++ rest)
-unknown_state edges found active rest state none r s k h = by (r s k h)
+pub unknown_state : (most : Option ℕ) (edges : List Edge) (found : List (State × ℕ)) (active rest : List State) (state : State) → lookup (state_eq state) found ≡ None → AreRelaxed most edges found (active ++ state ∷ rest) → AreRelaxed most edges found (active ++ rest)
+unknown_state most edges found active rest state none r s k h = by (r s k h)
   where
-    listed : Contains active s ⊎ Contains (state ∷ rest) s → Contains (active ++ rest) s ⊎ IsRelaxed edges found s k
+    listed : Contains active s ⊎ Contains (state ∷ rest) s → Contains (active ++ rest) s ⊎ IsRelaxed most edges found s k
     listed (inl c) = inl (Contains-append_left active rest s c)
     listed (inr c) = elim (Contains-cons_cases state rest s c) [
       | inl e ↦ (let g : IsKnown found state k = subst (λ z. IsKnown found z k) (sym e) h in let f : ◌≡◌ {A = _} None (Some k) = sym none ∙ g in absurd (cc))
       | inr d ↦ inl (Contains-append_right active rest s d)
     ]
 
-    by : Contains (active ++ state ∷ rest) s ⊎ IsRelaxed edges found s k → Contains (active ++ rest) s ⊎ IsRelaxed edges found s k
+    by : Contains (active ++ state ∷ rest) s ⊎ IsRelaxed most edges found s k → Contains (active ++ rest) s ⊎ IsRelaxed most edges found s k
     by (inl c) = listed (Contains-append_cases active (state ∷ rest) s c)
     by (inr q) = inr q
 
 -- where nothing is active any more, each way leads to what is known
-module _ (edges : List Edge) (found : List (State × ℕ)) (closed : AreRelaxed edges found []) where
-  relaxed_of : (s : State) (k : ℕ) → IsKnown found s k → IsRelaxed edges found s k
+module _ (most : Option ℕ) (edges : List Edge) (found : List (State × ℕ)) (closed : AreRelaxed most edges found []) where
+  relaxed_of : (s : State) (k : ℕ) → IsKnown found s k → IsRelaxed most edges found s k
   relaxed_of s k h = elim (closed s k h) [ inl c ↦ absurd (Contains-none s c) | inr q ↦ q ]
 
-  pub reached : {x y : State} {k : ℕ} → Walk edges x y k → (d : ℕ) → IsWithin found x d → IsWithin found y (k + d)
-  reached stays d w = (w.0, w.1, omega (arith, w.2))
-  reached (turns {x} {y} {k} v) d w =
-      let t : IsWithin found (turned x) (1 + w.0) = (relaxed_of x w.0 w.1).turn in
-      let r : IsWithin found y (k + (1 + w.0)) = reached v (1 + w.0) t in
+  pub reached : {x y : State} {k : ℕ} → Walk edges x y k → (d : ℕ) → Allows most (k + d) → IsWithin found x d → IsWithin found y (k + d)
+  reached stays d a w = (w.0, w.1, omega (arith, w.2))
+  reached (turns {x} {y} {k} v) d a w =
+      let t : IsWithin found (turned x) (1 + w.0) = (relaxed_of x w.0 w.1).turn (allows_less most (1 + w.0) ((1 + k) + d) (omega (arith, w.2)) a) in
+      let r : IsWithin found y (k + (1 + w.0)) = reached v (1 + w.0) (allows_less most (k + (1 + w.0)) ((1 + k) + d) (omega (arith, w.2)) a) t in
       (r.0, r.1, omega (arith, r.2, w.2))
-  reached (steps {y} {k} e c v) d w =
-      let t : IsWithin found e.to (e.count + w.0) = (relaxed_of e.from w.0 w.1).edge e c refl in
-      let r : IsWithin found y (k + (e.count + w.0)) = reached v (e.count + w.0) t in
+  reached (steps {y} {k} e c v) d a w =
+      let t : IsWithin found e.to (e.count + w.0) = (relaxed_of e.from w.0 w.1).edge e c refl (allows_less most (e.count + w.0) ((e.count + k) + d) (omega (arith, w.2)) a) in
+      let r : IsWithin found y (k + (e.count + w.0)) = reached v (e.count + w.0) (allows_less most (k + (e.count + w.0)) ((e.count + k) + d) (omega (arith, w.2)) a) t in
       (r.0, r.1, omega (arith, r.2, w.2))
 
-  pub searched : (start : State) → IsWithin found start 0 → AreWalks edges start found → IsSearch edges start found
-  searched start w sound = record {
-    sound = sound;
-    complete = λ s k v. (let r : IsWithin found s (k + 0) = reached v 0 w in (r.0, r.1, omega (arith, r.2)));
+  pub searched : (start : State) → IsWithin found start 0 → AreNoted most edges start found → IsSearch most edges start found
+  searched start w noted = record {
+    sound = λ s k h. (noted s k h).0;
+    few = λ s k h. (noted s k h).1;
+    complete = λ s k v a. (let r : IsWithin found s (k + 0) = reached v 0 (allows_less most (k + 0) k (omega arith) a) w in (r.0, r.1, omega (arith, r.2)));
   }
 
 -- an index more
@@ -205,35 +217,35 @@ passed_all edges out state e indexed c f =
     (d.0, d.1, ap (λ n. get_or edges n e) (get_or_default (get_or out state.variable []) d.0 0 a.0 d.1 ∙ d.2) ∙ a.3)
 
 -- from a visit of the first indices to all edges
-pub visited_whole : (edges : List Edge) (out : List (List ℕ)) (old mid new : List (State × ℕ)) (active between next rest : List State) (state : State) (count : ℕ) → IsIndexed edges out → IsKnown old state count →
-    IsOffered old mid active between (turned state) (1 + count) →
-    IsFollowed edges (get_or out state.variable []) mid new between next state count (length (get_or out state.variable [])) →
-    IsVisited edges old new active next state count (Contains edges)
-visited_whole edges out old mid new active between next rest state count indexed known offered followed =
-    visited_more edges old active state count known new next (IsPassed edges (get_or out state.variable []) (length (get_or out state.variable []))) (Contains edges)
+pub visited_whole : (most : Option ℕ) (edges : List Edge) (out : List (List ℕ)) (old mid new : List (State × ℕ)) (active between next rest : List State) (state : State) (count : ℕ) → IsIndexed edges out → IsKnown old state count →
+    IsOffered most old mid active between (turned state) (1 + count) →
+    IsFollowed most edges (get_or out state.variable []) mid new between next state count (length (get_or out state.variable [])) →
+    IsVisited most edges old new active next state count (Contains edges)
+visited_whole most edges out old mid new active between next rest state count indexed known offered followed =
+    visited_more most edges old active state count known new next (IsPassed edges (get_or out state.variable []) (length (get_or out state.variable []))) (Contains edges)
     (λ g c f. passed_all edges out state g indexed c f)
-    (followed.follows old active known (visited_turn edges old active state count known mid between offered))
+    (followed.follows old active known (visited_turn most edges old active state count known mid between offered))
 
 -- no index yet
-pub follows_none : (edges : List Edge) (items : List ℕ) (found : List (State × ℕ)) (next : List State) (state : State) (count : ℕ) → IsFollowed edges items found found next next state count 0
-follows_none edges items found next state count = record {
-  follows = λ old active known v. visited_more edges old active state count known found next (λ e. ⊥) (IsPassed edges items 0) (λ g p f. (let less = p.1 in omega arith)) v;
+pub follows_none : (most : Option ℕ) (edges : List Edge) (items : List ℕ) (found : List (State × ℕ)) (next : List State) (state : State) (count : ℕ) → IsFollowed most edges items found found next next state count 0
+follows_none most edges items found next state count = record {
+  follows = λ old active known v. visited_more most edges old active state count known found next (λ e. ⊥) (IsPassed edges items 0) (λ g p f. (let less = p.1 in omega arith)) v;
 }
 
 -- an index of another state's edge
-pub follows_other : (edges : List Edge) (items : List ℕ) (before found : List (State × ℕ)) (first next : List State) (state : State) (count i : ℕ) (e : Edge) → get_or items i 0 < length edges → e ≡ get_or edges (get_or items i 0) e →
-    (e.from ≡ state → ⊥) → IsFollowed edges items before found first next state count i → IsFollowed edges items before found first next state count (i + 1)
-follows_other edges items before found first next state count i e h f apart w = record {
-  follows = λ old active known v. visited_more edges old active state count known found next (IsPassed edges items i) (IsPassed edges items (i + 1))
+pub follows_other : (most : Option ℕ) (edges : List Edge) (items : List ℕ) (before found : List (State × ℕ)) (first next : List State) (state : State) (count i : ℕ) (e : Edge) → get_or items i 0 < length edges → e ≡ get_or edges (get_or items i 0) e →
+    (e.from ≡ state → ⊥) → IsFollowed most edges items before found first next state count i → IsFollowed most edges items before found first next state count (i + 1)
+follows_other most edges items before found first next state count i e h f apart w = record {
+  follows = λ old active known v. visited_more most edges old active state count known found next (IsPassed edges items i) (IsPassed edges items (i + 1))
       (λ g p q. elim (passed-split edges items i e h f g p) [ inl d ↦ d | inr s ↦ absurd (apart (ap (λ (z : Edge). z.from) (sym s) ∙ q)) ])
       (w.follows old active known v);
 }
 
 -- an index of an edge of the state
-pub follows_edge : (edges : List Edge) (items : List ℕ) (before mid found : List (State × ℕ)) (first between next : List State) (state : State) (count i : ℕ) (e : Edge) → get_or items i 0 < length edges → e ≡ get_or edges (get_or items i 0) e →
-    e.from ≡ state → IsOffered mid found between next e.to (e.count + count) → IsFollowed edges items before mid first between state count i → IsFollowed edges items before found first next state count (i + 1)
-follows_edge edges items before mid found first between next state count i e h f same o w = record {
-  follows = λ old active known v. visited_edge edges old active state count known mid found between next (IsPassed edges items i) (IsPassed edges items (i + 1)) e (get_or items i 0, h, sym f) same
+pub follows_edge : (most : Option ℕ) (edges : List Edge) (items : List ℕ) (before mid found : List (State × ℕ)) (first between next : List State) (state : State) (count i : ℕ) (e : Edge) → get_or items i 0 < length edges → e ≡ get_or edges (get_or items i 0) e →
+    e.from ≡ state → IsOffered most mid found between next e.to (e.count + count) → IsFollowed most edges items before mid first between state count i → IsFollowed most edges items before found first next state count (i + 1)
+follows_edge most edges items before mid found first between next state count i e h f same o w = record {
+  follows = λ old active known v. visited_edge most edges old active state count known mid found between next (IsPassed edges items i) (IsPassed edges items (i + 1)) e (get_or items i 0, h, sym f) same
       (passed-split edges items i e h f) (w.follows old active known v) o;
 }
 
@@ -248,18 +260,18 @@ agree a b r e f = by (state_eq a b) refl
     by false g = let k : r ≡ true = e ∙ ap not g in absurd (cc)
 
 -- the start alone
-pub begun : (edges : List Edge) (old new : List (State × ℕ)) (start : State) (count : ℕ) → count ≡ 0 → ((s : State) (k : ℕ) → IsKnown old s k → ⊥) →
+pub begun : (most : Option ℕ) (edges : List Edge) (old new : List (State × ℕ)) (start : State) (count : ℕ) → count ≡ 0 → ((s : State) (k : ℕ) → IsKnown old s k → ⊥) →
     ((q : State) → lookup (state_eq q) new ≡ cond (state_eq start q) (Some count) (lookup (state_eq q) old)) →
-    (AreWalks edges start new) × (IsWithin new start 0) × (AreRelaxed edges new (start ∷ []))
-begun edges old new start count zero none updates = (walks, (count, here old new start count updates start refl, omega (arith, zero)), relaxed)
+    (AreNoted most edges start new) × (IsWithin new start 0) × (AreRelaxed most edges new (start ∷ []))
+begun most edges old new start count zero none updates = (walks, (count, here old new start count updates start refl, omega (arith, zero)), relaxed)
   where
-    walks : AreWalks edges start new
+    walks : AreNoted most edges start new
     walks s k h = elim (cases old new start count updates s k (state_eq start s) refl h) [
       | inl g ↦ absurd (none s k g)
-      | inr p ↦ subst (λ z. Walk edges start z k) p.0 (subst (λ n. Walk edges start start n) (sym zero ∙ sym p.1) stays)
+      | inr p ↦ (subst (λ z. Walk edges start z k) p.0 (subst (λ n. Walk edges start start n) (sym zero ∙ sym p.1) stays), subst (Allows most) (sym zero ∙ sym p.1) (allows_nought most))
     ]
 
-    relaxed : AreRelaxed edges new (start ∷ [])
+    relaxed : AreRelaxed most edges new (start ∷ [])
     relaxed s k h = elim (cases old new start count updates s k (state_eq start s) refl h) [
       | inl g ↦ absurd (none s k g)
       | inr p ↦ inl (subst (Contains (start ∷ [])) p.0 (Contains-here start []))

@@ -14,7 +14,7 @@ use Rattle.rt_sat.specs.Numbered.{at_number, is_contra}
 use Rattle.rt_sat.specs.Probe.{IsCount, IsWeight}
 use Rattle.rt_sat.specs.Pushes.{HasWalk}
 use Rattle.rt_sat.specs.Searches.{IsKnown, IsSearch, IsWithin}
-use Rattle.rt_sat.specs.Tables.{IsTableOf}
+use Rattle.rt_sat.specs.Tables.{IsWholeTableOf}
 use Rattle.rt_sat.specs.Weighing.{signed}
 use Rattle.rt_sat.specs.Weights.{AreSearches, AreWeighed, Listed}
 use Rattle.rt_sat.proofs.Weighing.{count_law}
@@ -29,12 +29,12 @@ some_one m n e = ap held e
 pub known_one : (row : List (State × ℕ)) (s : State) (j k : ℕ) → IsKnown row s j → IsKnown row s k → j ≡ k
 known_one row s j k e f = some_one j k (sym e ∙ f)
 
-module _ (order : Below) (lines : List Line) (extra known : List Dtv) (edges : List Edge) (table : IsTableOf lines extra known edges) (i j : ℕ) (a b : Variance) (h : i < length known) (g : j < length known)
-    (row : List (State × ℕ)) (search : IsSearch edges (signed i a) row) where
+module _ (order : Below) (lines : List Line) (extra known : List Dtv) (edges : List Edge) (table : IsWholeTableOf lines extra known edges) (i j : ℕ) (a b : Variance) (h : i < length known) (g : j < length known)
+    (row : List (State × ℕ)) (search : IsSearch None edges (signed i a) row) where
   found_within : (n : ℕ) → IsCount order lines extra (at_number known i) a (at_number known j) b n → IsWithin row (signed j b) n
   found_within n c =
       let w : HasWalk edges (signed i a) (signed j b) n = (count_law order lines extra known edges table i j a b n h g).1 c in
-      let f : IsWithin row (signed j b) w.0 = search.complete (signed j b) w.0 w.1 in
+      let f : IsWithin row (signed j b) w.0 = search.complete (signed j b) w.0 w.1 tt in
       (f.0, f.1, omega (arith, f.2, w.2))
 
   pub weighed : (said : Option ℕ) → MatchOption said ((k : ℕ) → IsKnown row (signed j b) k → ⊥) (λ w. (k : ℕ) × IsKnown row (signed j b) k × (w ≡ min k 4294967295)) →
@@ -52,13 +52,13 @@ module _ (order : Below) (lines : List Line) (extra known : List Dtv) (edges : L
 pub searches_none : (edges : List Edge) (contra : Bool) → AreSearches edges contra 0 []
 searches_none edges contra = record { size = omega arith; each = λ n h. absurd (omega (arith, h)) }
 
-pub searches_more : (edges : List Edge) (contra : Bool) (number : ℕ) (rows new : List (List (State × ℕ))) (row : List (State × ℕ)) → new ≡ rows ++ row ∷ [] → IsSearch edges (record { variable = number; contra = contra }) row →
+pub searches_more : (edges : List Edge) (contra : Bool) (number : ℕ) (rows new : List (List (State × ℕ))) (row : List (State × ℕ)) → new ≡ rows ++ row ∷ [] → IsSearch None edges (record { variable = number; contra = contra }) row →
     AreSearches edges contra number rows → AreSearches edges contra (number + 1) new
 searches_more edges contra number rows new row e search are = record {
   size = ap length e ∙ length_push rows row ∙ ap (λ n. n + 1) are.size;
-  each = below_more (λ n. IsSearch edges (record { variable = n; contra = contra }) (slice_index_or new n [])) number
-      (λ n less. subst (λ r. IsSearch edges (record { variable = n; contra = contra }) r) (sym (ap (λ xs. slice_index_or xs n []) e ∙ get_or_append_left rows (row ∷ []) [] n (omega (arith, less, are.size)))) (are.each n less))
-      (subst (λ r. IsSearch edges (record { variable = number; contra = contra }) r) (sym (ap (λ xs. slice_index_or xs number []) e ∙ get_or_push rows row [] number are.size)) search);
+  each = below_more (λ n. IsSearch None edges (record { variable = n; contra = contra }) (slice_index_or new n [])) number
+      (λ n less. subst (λ r. IsSearch None edges (record { variable = n; contra = contra }) r) (sym (ap (λ xs. slice_index_or xs n []) e ∙ get_or_append_left rows (row ∷ []) [] n (omega (arith, less, are.size)))) (are.each n less))
+      (subst (λ r. IsSearch None edges (record { variable = number; contra = contra }) r) (sym (ap (λ xs. slice_index_or xs number []) e ∙ get_or_push rows row [] number are.size)) search);
 }
 
 -- by what is kept of the lines
@@ -66,12 +66,12 @@ module _ (lines : List Line) (extra known : List Dtv) (co contra : List (List (S
     (p q : ℕ) (h : p < length (named listed.lines listed.extra)) (g : q < length (named listed.lines listed.extra)) (b : Variance) (turned : Bool) (e : turned ≡ is_contra b) (rows : List (List (State × ℕ))) (said : Option ℕ)
     (says : MatchOption said ((k : ℕ) → IsKnown (slice_index_or rows p []) (record { variable = q; contra = turned }) k → ⊥) (λ w. (k : ℕ) × IsKnown (slice_index_or rows p []) (record { variable = q; contra = turned }) k × (w ≡ min k 4294967295))) where
   names : known ≡ named listed.lines listed.extra
-  names = are.table.is_named ∙ ap (λ (l : Listed). named l.lines l.extra) (sym is)
+  names = are.table.table.is_named ∙ ap (λ (l : Listed). named l.lines l.extra) (sym is)
 
   within : (n : ℕ) → n < length (named listed.lines listed.extra) → n < length known
   within n i = subst (λ xs. n < length xs) (sym names) i
 
-  said_by : (a : Variance) → IsSearch are.edges (signed p a) (slice_index_or rows p []) → (order : Below) → IsWeight order listed.lines listed.extra (at_number (named listed.lines listed.extra) p) a (at_number (named listed.lines listed.extra) q) b said
+  said_by : (a : Variance) → IsSearch None are.edges (signed p a) (slice_index_or rows p []) → (order : Below) → IsWeight order listed.lines listed.extra (at_number (named listed.lines listed.extra) p) a (at_number (named listed.lines listed.extra) q) b said
   said_by a search order =
       subst (λ (l : Listed). IsWeight order l.lines l.extra (at_number (named listed.lines listed.extra) p) a (at_number (named listed.lines listed.extra) q) b said) (sym is)
       (subst (λ xs. IsWeight order lines extra (at_number xs p) a (at_number xs q) b said) names
@@ -79,7 +79,7 @@ module _ (lines : List Line) (extra known : List Dtv) (co contra : List (List (S
       (subst (λ t. MatchOption said ((k : ℕ) → IsKnown (slice_index_or rows p []) (record { variable = q; contra = t }) k → ⊥) (λ w. (k : ℕ) × IsKnown (slice_index_or rows p []) (record { variable = q; contra = t }) k × (w ≡ min k 4294967295))) e says)))
 
   pub co_weight : (a : Variance) → a ≡ Co → rows ≡ co → (order : Below) → IsWeight order listed.lines listed.extra (at_number (named listed.lines listed.extra) p) a (at_number (named listed.lines listed.extra) q) b said
-  co_weight a f r = said_by a (subst (λ s. IsSearch are.edges (signed p s) (slice_index_or rows p [])) (sym f) (subst (λ xs. IsSearch are.edges (signed p Co) (slice_index_or xs p [])) (sym r) (are.first.each p (within p h))))
+  co_weight a f r = said_by a (subst (λ s. IsSearch None are.edges (signed p s) (slice_index_or rows p [])) (sym f) (subst (λ xs. IsSearch None are.edges (signed p Co) (slice_index_or xs p [])) (sym r) (are.first.each p (within p h))))
 
   pub contra_weight : (a : Variance) → a ≡ Contra → rows ≡ contra → (order : Below) → IsWeight order listed.lines listed.extra (at_number (named listed.lines listed.extra) p) a (at_number (named listed.lines listed.extra) q) b said
-  contra_weight a f r = said_by a (subst (λ s. IsSearch are.edges (signed p s) (slice_index_or rows p [])) (sym f) (subst (λ xs. IsSearch are.edges (signed p Contra) (slice_index_or xs p [])) (sym r) (are.second.each p (within p h))))
+  contra_weight a f r = said_by a (subst (λ s. IsSearch None are.edges (signed p s) (slice_index_or rows p [])) (sym f) (subst (λ xs. IsSearch None are.edges (signed p Contra) (slice_index_or xs p [])) (sym r) (are.second.each p (within p h))))

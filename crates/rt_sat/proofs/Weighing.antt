@@ -36,11 +36,11 @@ use Rattle.rt_sat.specs.Numbered.{at_number, edges_of, sign_of, is_contra}
 use Rattle.rt_sat.specs.Probe.{IsNew, IsCount, pointer_words, probed}
 use Rattle.rt_sat.specs.Pushes.{HasWalk}
 use Rattle.rt_sat.specs.Searches.{Walk}
-use Rattle.rt_sat.specs.Tables.{IsTableOf}
+use Rattle.rt_sat.specs.Tables.{IsTableOf, IsWholeTableOf}
 use Rattle.rt_sat.specs.Weighing.{signed, CountLaw, RisingLaw}
-use Rattle.rt_sat.proofs.Below.{L, distinct, named_all, frame, within}
+use Rattle.rt_sat.proofs.Below.{L, distinct, named_all, frame, within, where_law}
 use Rattle.rt_sat.proofs.Closed.{name_at}
-use Rattle.rt_sat.proofs.Closings.{closing_law}
+use Rattle.rt_sat.proofs.Mattering.{all_matter}
 use Rattle.rt_sat.proofs.Deciding.{are_flips}
 use Rattle.rt_sat.proofs.Frames.{side_named, extra_named}
 use Rattle.rt_sat.proofs.Numbered.{numbered_law}
@@ -129,12 +129,20 @@ sign_back : (a : Variance) → sign_of (is_contra a) ≡ a
 sign_back Co = refl
 sign_back Contra = refl
 
-module _ (order : Below) (lines : List Line) (extra known : List Dtv) (edges : List Edge) (table : IsTableOf lines extra known edges) where
+module _ (order : Below) (lines : List Line) (extra known : List Dtv) (edges : List Edge) (whole : IsWholeTableOf lines extra known edges) where
+  abbrev table : IsTableOf lines extra known edges
+  table = whole.table
+
   abbrev A : Given
   A = L order lines extra known edges table
 
   is_table : IsTable A (is_among known) (edges_of known edges)
-  is_table = closing_law A known table.flips table.first edges (named_all order lines extra known edges table) (distinct order lines extra known edges table) (frame order lines extra known edges table) table.entered table.closing
+  is_table = record {
+    sound = (where_law order lines extra known edges table).sound;
+    lines = (where_law order lines extra known edges table).lines;
+    closed = λ x y l m a b d k p q v w way push.
+        (where_law order lines extra known edges table).closed x y l m a b d k (inr (all_matter A table.graph table.marks table.shape whole.whole (dot x l) v)) p q v w way push;
+  }
 
   module _ (i j : ℕ) (h : i < length known) (g : j < length known) where
     abbrev x : Dtv
@@ -237,5 +245,5 @@ count_law order lines extra known edges table i j a b n h g = (walk_counts order
 pub rising_law : RisingLaw
 rising_law order lines extra known edges table i j h g k m v w new c e d =
     let o : Counted k (A order lines extra known edges table) (vd (at_number known i)) m (free order lines extra known edges table i j h g k new m) (exists order lines extra known edges table i j h g) (x_above order lines extra known edges table i j h g k new m)
-    (is_among known) (named_all order lines extra known edges table) (vd (at_number known j)) v w = seen order lines extra known edges table i j h g k new m v w c e d in
+    (is_among known) (named_all order lines extra known edges table.table) (vd (at_number known j)) v w = seen order lines extra known edges table i j h g k new m v w c e d in
     omega (arith, o.rises)

@@ -26,4 +26,5 @@ flips_by graph x = flips_at graph (node_of graph (dv x))
 -- the variables of lines and more, and the flips of their shape, are what counted judgements ask for
 abbrev pub DecidingLaw : Type 0
 DecidingLaw =
-    (L : Given) (extra : List Dtv) (graph : Graph) → IsShapeOf L.lines graph → AreNamed L (is_among (named L.lines extra)) × AreFlips L (flips_by graph)
+    (L : Given) (extra : List Dtv) (graph : Graph) → IsShapeOf L.lines graph → AreNamed L (is_among (named L.lines extra)) ×
+    AreFlips L (flips_by graph)

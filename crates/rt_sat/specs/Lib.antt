@@ -4,6 +4,7 @@ pub mod Deciding
 pub mod Searches
 pub mod Numbered
 pub mod Pushes
+pub mod Mattering
 pub mod Closings
 pub mod Tables
 pub mod Weighing

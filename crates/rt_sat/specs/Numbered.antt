@@ -50,5 +50,6 @@ AreWithin known edges = (e : Edge) → Contains edges e → (e.from.variable < l
 -- ways along numbered edges are those along the edges that they stand for
 abbrev pub NumberedLaw : Type 0
 NumberedLaw =
-    (known : List Dtv) (edges : List Edge) → AreDistinct known → AreWithin known edges → (s t : Place) (k : ℕ) → s.variable < length known → t.variable < length known →
+    (known : List Dtv) (edges : List Edge) → AreDistinct known → AreWithin known edges → (s t : Place) (k : ℕ) →
+    s.variable < length known → t.variable < length known →
     Walk edges s t k ↔ Way (EdgeOf (edges_of known edges)) (state_of known s) (state_of known t) k

@@ -29,7 +29,8 @@ abbrev pub all_flip : List Label → List Bool
 all_flip w = replicate (length w) true
 
 -- a pair of words counts, and its numbers are so far apart
-pub record IsCount (order : Below) (lines : List Line) (extra : List Dtv) (x : Dtv) (a : Variance) (y : Dtv) (b : Variance) (count : ℕ) : Type 0 where
+pub record IsCount (order : Below) (lines : List Line) (extra : List Dtv) (x : Dtv) (a : Variance) (y : Dtv) (b : Variance)
+    (count : ℕ) : Type 0 where
   pub offset : ℤ
   pub is_new : IsNew lines extra offset
   pub letters : ℕ
@@ -39,14 +40,17 @@ pub record IsCount (order : Below) (lines : List Line) (extra : List Dtv) (x : D
   pub right_in : Contains (pointer_words letters) right
   pub left_sign : variance_of_word left ≡ a
   pub right_sign : variance_of_word right ≡ b
-  pub below : Derivable order (probed lines x offset letters) (Sub (extended (longer x (Field 8 offset)) left) (extended (longer y (Field 8 offset)) right))
+  pub below : Derivable order (probed lines x offset letters)
+      (Sub (extended (longer x (Field 8 offset)) left) (extended (longer y (Field 8 offset)) right))
   pub apart : number_of right (all_flip right) ≡ number_of left (all_flip left) + count
 
-pub record IsLeastCount (order : Below) (lines : List Line) (extra : List Dtv) (x : Dtv) (a : Variance) (y : Dtv) (b : Variance) (count : ℕ) : Type 0 where
+pub record IsLeastCount (order : Below) (lines : List Line) (extra : List Dtv) (x : Dtv) (a : Variance) (y : Dtv) (b : Variance)
+    (count : ℕ) : Type 0 where
   pub counts : IsCount order lines extra x a y b count
   pub least : (other : ℕ) → IsCount order lines extra x a y b other → count ≤ other
 
 -- what is said of a least count: it, or the greatest number of 32 bits where that is no more, and nothing where there is none
 abbrev pub IsWeight : Below → List Line → List Dtv → Dtv → Variance → Dtv → Variance → Option ℕ → Type 0
 IsWeight order lines extra x a y b said =
-    MatchOption said ((count : ℕ) → IsCount order lines extra x a y b count → ⊥) (λ w. (count : ℕ) × IsLeastCount order lines extra x a y b count × (w ≡ min count 4294967295))
+    MatchOption said ((count : ℕ) → IsCount order lines extra x a y b count → ⊥) (λ w. (count : ℕ) ×
+    IsLeastCount order lines extra x a y b count × (w ≡ min count 4294967295))

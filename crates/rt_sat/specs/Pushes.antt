@@ -1,5 +1,5 @@
 -- What is pushed from ways between parents to edges between children, by numbers.
-use Rattle.std.specs.Prelude.{◌≡◌, ℕ, ◌+◌, ◌<◌, ◌≤◌, ◌⊎◌, ◌↔◌, List, [], Contains, Bool, true, false, length, drop, slice_index_or}
+use Rattle.std.specs.Prelude.{◌≡◌, ℕ, ◌+◌, ◌<◌, ◌≤◌, ◌⊎◌, ◌↔◌, List, [], Contains, Bool, true, false, Option, Some, None, length, drop, slice_index_or}
 use Rattle.rt_lines.specs.declared.label.Label.{Label}
 use Rattle.rt_lines.specs.declared.label.Variance.{Variance}
 use Rattle.rt_lines.specs.declared.variable.Dtv.{Dtv}
@@ -12,7 +12,7 @@ use Rattle.rt_sat.specs.declared.state.State.{State}
 use Rattle.rt_sat.specs.declared.state.Edge.{Edge}
 use Rattle.rt_sat.specs.Deciding.{is_among}
 use Rattle.rt_sat.specs.Numbered.{sign_of, at_number, state_of, AreWithin}
-use Rattle.rt_sat.specs.Searches.{Walk, IsKnown, IsWithin}
+use Rattle.rt_sat.specs.Searches.{Walk, Allows, IsKnown, IsWithin}
 
 -- the child's variable is the parent's with the letter, and its sign with the letter's is the parent's
 pub record IsChildOf (known : List Dtv) (child parent : State) (l : Label) : Type 0 where
@@ -24,7 +24,8 @@ pub record IsChildOf (known : List Dtv) (child parent : State) (l : Label) : Typ
 -- the children of variables, by their numbers
 pub record AreChildren (known : List Dtv) (children : List (List ℕ)) : Type 0 where
   pub within : (v j : ℕ) → Contains (slice_index_or children v []) j → j < length known
-  pub all : (v j : ℕ) (l : Label) → v < length known → j < length known → at_number known j ≡ longer (at_number known v) l → Contains (slice_index_or children v []) j
+  pub all : (v j : ℕ) (l : Label) → v < length known → j < length known → at_number known j ≡ longer (at_number known v) l →
+      Contains (slice_index_or children v []) j
 
 -- a half push, where the parent can be read and written through
 pub record IsHalf (flip : Bool) (l m : Label) (d : ℕ) (a b : Variance) (k : ℕ) : Type 0 where
@@ -58,15 +59,26 @@ pub record IsPushed (known : List Dtv) (flips : List Bool) (edges : List Edge) (
 abbrev pub HasWalk : List Edge → State → State → ℕ → Type 0
 HasWalk edges s t k = (n : ℕ) × Walk edges s t n × (n ≤ k)
 
--- whatever is pushed from ways of a child's parent has a walk along the pushed edges
-abbrev pub IsClosedFrom : List Dtv → List Bool → List Edge → List Edge → State → State → Label → Type 0
-IsClosedFrom known flips edges pushed child parent l =
-    (end other : State) (m : Label) (d k : ℕ) → IsChildOf known end other m → Walk edges parent other d →
-    PushBy (flip_at flips parent.variable) l m d (sign_of child.contra) (sign_of end.contra) k → HasWalk pushed child end k
+-- which counts of a child are asked for: all where counts matter at it, and nought alone elsewhere
+abbrev pub asked_of : Bool → Option ℕ
+asked_of true = None
+asked_of false = Some 0
 
--- whatever is pushed from ways along edges has a walk along the pushed ones
-abbrev pub IsClosedBy : List Dtv → List Bool → List Edge → List Edge → Type 0
-IsClosedBy known flips edges pushed = (child parent : State) (l : Label) → IsChildOf known child parent l → IsClosedFrom known flips edges pushed child parent l
+-- whether counts above nought matter at a number's variable
+abbrev pub matter_at : List Bool → ℕ → Bool
+matter_at matters n = slice_index_or matters n false
+
+-- whatever is pushed from ways of a child's parent, at counts that are asked for, has a walk along the pushed edges
+abbrev pub IsClosedFrom : List Dtv → List Bool → List Bool → List Edge → List Edge → State → State → Label → Type 0
+IsClosedFrom known flips matters edges pushed child parent l =
+    (end other : State) (m : Label) (d k : ℕ) → IsChildOf known end other m → Walk edges parent other d →
+    PushBy (flip_at flips parent.variable) l m d (sign_of child.contra) (sign_of end.contra) k →
+    Allows (asked_of (matter_at matters child.variable)) k → HasWalk pushed child end k
+
+-- whatever is pushed from ways along edges, at counts that are asked for, has a walk along the pushed ones
+abbrev pub IsClosedBy : List Dtv → List Bool → List Bool → List Edge → List Edge → Type 0
+IsClosedBy known flips matters edges pushed = (child parent : State) (l : Label) → IsChildOf known child parent l →
+    IsClosedFrom known flips matters edges pushed child parent l
 
 -- edges more, of each of which something holds
 pub record IsGrown (P : Edge → Type 0) (old new : List Edge) : Type 0 where
@@ -80,33 +92,40 @@ pub record IsFrame (L : Given) (known : List Dtv) (flips : List Bool) : Type 0 w
 
 -- the edges are counted judgements
 abbrev pub AreSound : Given → List Dtv → List Edge → Type 0
-AreSound L known edges = (e : Edge) → Contains edges e → Bridge L (Named (is_among known)) (state_of known e.from) (state_of known e.to) e.count
+AreSound L known edges = (e : Edge) → Contains edges e →
+    Bridge L (Named (is_among known)) (state_of known e.from) (state_of known e.to) e.count
 
 -- an end and its count are pushed from a count to its parent
 abbrev pub IsPushedTo : List Dtv → Bool → Label → State → ℕ → Variance → State → ℕ → Type 0
-IsPushedTo known flip first other count a end k = (m : Label) × IsChildOf known end other m × PushBy flip first m count a (sign_of end.contra) k
+IsPushedTo known flip first other count a end k = (m : Label) × IsChildOf known end other m ×
+    PushBy flip first m count a (sign_of end.contra) k
 
--- what is pushed from a count to a parent, to a child of a number, is known to be no farther
-abbrev pub IsDoneAt : List Dtv → Bool → Label → State → ℕ → Variance → List (State × ℕ) → ℕ → Type 0
-IsDoneAt known flip first other count a found number =
-    (end : State) (m : Label) (k : ℕ) → end.variable ≡ number → IsChildOf known end other m → PushBy flip first m count a (sign_of end.contra) k → IsWithin found end k
+-- what is pushed from a count to a parent, to a child of a number, is known to be no farther, where it is asked for
+abbrev pub IsDoneAt : List Dtv → Bool → Label → State → ℕ → Variance → Option ℕ → List (State × ℕ) → ℕ → Type 0
+IsDoneAt known flip first other count a most found number =
+    (end : State) (m : Label) (k : ℕ) → end.variable ≡ number → IsChildOf known end other m →
+    PushBy flip first m count a (sign_of end.contra) k → Allows most k → IsWithin found end k
 
 -- what is pushed from a count to a parent is known to be no farther
-abbrev pub IsDoneTo : List Dtv → Bool → Label → State → ℕ → Variance → List (State × ℕ) → Type 0
-IsDoneTo known flip first other count a found = (end : State) (m : Label) (k : ℕ) → IsChildOf known end other m → PushBy flip first m count a (sign_of end.contra) k → IsWithin found end k
+abbrev pub IsDoneTo : List Dtv → Bool → Label → State → ℕ → Variance → Option ℕ → List (State × ℕ) → Type 0
+IsDoneTo known flip first other count a most found = (end : State) (m : Label) (k : ℕ) → IsChildOf known end other m →
+    PushBy flip first m count a (sign_of end.contra) k → Allows most k → IsWithin found end k
 
 -- an end and its count are pushed from one of the known counts
 abbrev pub IsPushedOn : List Dtv → Bool → Label → Variance → List (State × ℕ) → State → ℕ → Type 0
-IsPushedOn known flip first a reached end k = (other : State) × (count : ℕ) × IsKnown reached other count × IsPushedTo known flip first other count a end k
+IsPushedOn known flip first a reached end k = (other : State) × (count : ℕ) × IsKnown reached other count ×
+    IsPushedTo known flip first other count a end k
 
 -- what is pushed from the known counts is known to be no farther
-abbrev pub IsDoneOn : List Dtv → Bool → Label → Variance → List (State × ℕ) → List (State × ℕ) → Type 0
-IsDoneOn known flip first a reached found = (other : State) (count : ℕ) → IsKnown reached other count → IsDoneTo known flip first other count a found
+abbrev pub IsDoneOn : List Dtv → Bool → Label → Variance → List (State × ℕ) → Option ℕ → List (State × ℕ) → Type 0
+IsDoneOn known flip first a reached most found = (other : State) (count : ℕ) → IsKnown reached other count →
+    IsDoneTo known flip first other count a most found
 
--- edges with all that is pushed from their ways behind them
-pub record IsClosing (known : List Dtv) (flips : List Bool) (lines edges : List Edge) : Type 0 where
+-- edges, and behind them what is pushed from their ways: nought wherever it comes out, and all counts where they matter
+pub record IsClosing (known : List Dtv) (flips matters : List Bool) (lines edges : List Edge) : Type 0 where
   pub lines_stay : (e : Edge) → Contains lines e → Contains edges e
   pub pushed_in : (e : Edge) → Contains (drop (length lines) edges) e → Contains edges e
-  pub closed : IsClosedBy known flips edges (drop (length lines) edges)
+  pub closed : IsClosedBy known flips matters edges (drop (length lines) edges)
   pub within : AreWithin known lines → AreWithin known edges
-  pub sound : (L : Given) → IsFrame L known flips → ((x y : Var) → HasSub L x y → Named (is_among known) x × Named (is_among known) y) → AreSound L known lines → AreSound L known edges
+  pub sound : (L : Given) → IsFrame L known flips →
+      ((x y : Var) → HasSub L x y → Named (is_among known) x × Named (is_among known) y) → AreSound L known lines → AreSound L known edges

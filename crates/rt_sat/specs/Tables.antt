@@ -1,5 +1,5 @@
 -- Which named variable lies below which, by numbered edges.
-use Rattle.std.specs.Prelude.{◌≡◌, ℕ, ◌<◌, ◌↔◌, ◌⊎◌, List, Contains, Bool, false, Option, Some, None, length, slice_get, slice_index_or}
+use Rattle.std.specs.Prelude.{◌≡◌, ℕ, ◌<◌, ◌↔◌, ◌⊎◌, List, Contains, Bool, [], false, Option, Some, None, length, slice_get, slice_index_or}
 use Rattle.rt_lines.specs.declared.label.Label.{Label}
 use Rattle.rt_lines.specs.declared.variable.Dtv.{Dtv}
 use Rattle.rt_lines.specs.declared.line.Line.{Line}
@@ -17,6 +17,7 @@ use Rattle.rt_sat.specs.declared.state.Edge.{Edge}
 use Rattle.rt_sat.specs.Deciding.{flips_at}
 use Rattle.rt_sat.specs.Numbered.{at_number}
 use Rattle.rt_sat.specs.Pushes.{flip_at, IsFrame, IsClosing}
+use Rattle.rt_sat.specs.Mattering.{AreMarked, AreMattering}
 use Rattle.rt_sat.specs.Closings.{AreLineEdges}
 use Rattle.rt_sat.specs.Searches.{Walk}
 
@@ -41,19 +42,29 @@ AreThere lines extra = (order : Below) (x : Dtv) → Contains extra x → Deriva
 -- what lines and existing variables name, with the flags of its nodes, is a frame
 abbrev pub FrameLaw : Type 0
 FrameLaw =
-    (L : Given) (extra : List Dtv) (graph : Graph) (flips : List Bool) → IsShapeOf L.lines graph → AreThere L.lines extra → AreFlagged graph (named L.lines extra) flips → IsFrame L (named L.lines extra) flips
+    (L : Given) (extra : List Dtv) (graph : Graph) (flips : List Bool) → IsShapeOf L.lines graph → AreThere L.lines extra →
+    AreFlagged graph (named L.lines extra) flips → IsFrame L (named L.lines extra) flips
 
--- the edges of the lines with all that is pushed from their ways, between the variables that the lines and others name
+-- the edges of the lines with what is pushed from their ways as far as counts matter, between the variables that the lines and others name
 pub record IsTableOf (lines : List Line) (extra known : List Dtv) (edges : List Edge) : Type 0 where
   pub graph : Graph
   pub flips : List Bool
+  pub marks : List Bool
+  pub matters : List Bool
   pub first : List Edge
   pub is_named : known ≡ named lines extra
   pub shape : IsShapeOf lines graph
   pub flagged : AreFlagged graph known flips
+  pub marked : AreMarked graph marks
+  pub mattering : AreMattering graph marks known matters
   pub extra_there : AreThere lines extra
   pub entered : AreLineEdges lines known first
-  pub closing : IsClosing known flips first edges
+  pub closing : IsClosing known flips matters first edges
+
+-- a table in which counts matter everywhere
+pub record IsWholeTableOf (lines : List Line) (extra known : List Dtv) (edges : List Edge) : Type 0 where
+  pub table : IsTableOf lines extra known edges
+  pub whole : table.marks ≡ []
 
 -- a table, and how many of its edges, the first ones, are those of the lines
 pub record IsLayered (lines : List Line) (extra known : List Dtv) (edges : List Edge) (count : ℕ) : Type 0 where
@@ -67,7 +78,8 @@ place n = record { variable = n; contra = false }
 -- in a table a way of count nought leads from one variable to another exactly if the first lies below the second
 abbrev pub BelowLaw : Type 0
 BelowLaw =
-    (order : Below) (lines : List Line) (extra known : List Dtv) (edges : List Edge) → IsTableOf lines extra known edges → (i j : ℕ) → i < length known → j < length known →
+    (order : Below) (lines : List Line) (extra known : List Dtv) (edges : List Edge) → IsTableOf lines extra known edges → (i j : ℕ) →
+    i < length known → j < length known →
     Derivable order lines (Sub (at_number known i) (at_number known j)) ↔ Walk edges (place i) (place j) 0
 
 -- one of the variables lies below one of the others
@@ -93,10 +105,14 @@ pub record AreSourced (number : ℕ) (sources : List ℕ) (edges all : List Edge
 
 -- the numbers of the variables of lower bounds at or above a constant
 pub record AreLows (order : Below) (lines : List Line) (known : List Dtv) (k : ℕ) (numbers : List ℕ) : Type 0 where
-  pub only : (n : ℕ) → Contains numbers n → (bound : ℕ) × (z : Dtv) × Contains lines (Low bound z) × IsAtOrBelow order k bound × (slice_get known n ≡ Some z)
-  pub all : (bound : ℕ) (z : Dtv) → Contains lines (Low bound z) → IsAtOrBelow order k bound → (n : ℕ) × Contains numbers n × (slice_get known n ≡ Some z)
+  pub only : (n : ℕ) → Contains numbers n → (bound : ℕ) × (z : Dtv) × Contains lines (Low bound z) × IsAtOrBelow order k bound ×
+      (slice_get known n ≡ Some z)
+  pub all : (bound : ℕ) (z : Dtv) → Contains lines (Low bound z) → IsAtOrBelow order k bound → (n : ℕ) × Contains numbers n ×
+      (slice_get known n ≡ Some z)
 
 -- the numbers of the variables of upper bounds at or below a constant
 pub record AreUps (order : Below) (lines : List Line) (known : List Dtv) (k : ℕ) (numbers : List ℕ) : Type 0 where
-  pub only : (n : ℕ) → Contains numbers n → (bound : ℕ) × (z : Dtv) × Contains lines (Up z bound) × IsAtOrBelow order bound k × (slice_get known n ≡ Some z)
-  pub all : (bound : ℕ) (z : Dtv) → Contains lines (Up z bound) → IsAtOrBelow order bound k → (n : ℕ) × Contains numbers n × (slice_get known n ≡ Some z)
+  pub only : (n : ℕ) → Contains numbers n → (bound : ℕ) × (z : Dtv) × Contains lines (Up z bound) × IsAtOrBelow order bound k ×
+      (slice_get known n ≡ Some z)
+  pub all : (bound : ℕ) (z : Dtv) → Contains lines (Up z bound) → IsAtOrBelow order bound k → (n : ℕ) × Contains numbers n ×
+      (slice_get known n ≡ Some z)

@@ -1,5 +1,5 @@
 -- What is kept of lines to tell the least counts between their variables.
-use Rattle.std.specs.Prelude.{◌≡◌, ℕ, ◌<◌, List, [], Contains, Bool, true, false, Option, Some, MatchOption, length, min, slice_get, slice_index_or}
+use Rattle.std.specs.Prelude.{◌≡◌, ℕ, ◌<◌, List, [], Contains, Bool, true, false, Option, Some, None, MatchOption, length, min, slice_get, slice_index_or}
 use Rattle.rt_lines.specs.declared.label.Variance.{Variance}
 use Rattle.rt_lines.specs.declared.variable.Dtv.{Dtv}
 use Rattle.rt_lines.specs.declared.line.Line.{Line}
@@ -10,7 +10,7 @@ use Rattle.rt_sat.specs.declared.state.Edge.{Edge}
 use Rattle.rt_sat.specs.Numbered.{at_number}
 use Rattle.rt_sat.specs.Probe.{IsWeight}
 use Rattle.rt_sat.specs.Searches.{IsKnown, IsSearch}
-use Rattle.rt_sat.specs.Tables.{IsTableOf}
+use Rattle.rt_sat.specs.Tables.{IsWholeTableOf}
 
 -- lines, and more variables
 pub record Listed : Type 0 where
@@ -37,11 +37,11 @@ IsIndex listed x said = MatchOption said (Contains (variables listed) x → ⊥)
 -- for each number what a search finds from its state that turns the order round, or that does not
 pub record AreSearches (edges : List Edge) (contra : Bool) (count : ℕ) (rows : List (List (State × ℕ))) : Type 0 where
   pub size : length rows ≡ count
-  pub each : (n : ℕ) → n < count → IsSearch edges (record { variable = n; contra = contra }) (slice_index_or rows n [])
+  pub each : (n : ℕ) → n < count → IsSearch None edges (record { variable = n; contra = contra }) (slice_index_or rows n [])
 
 -- the counts of a table, from all of its states
 pub record AreWeighed (lines : List Line) (extra known : List Dtv) (co contra : List (List (State × ℕ))) : Type 0 where
   pub edges : List Edge
-  pub table : IsTableOf lines extra known edges
+  pub table : IsWholeTableOf lines extra known edges
   pub first : AreSearches edges false (length known) co
   pub second : AreSearches edges true (length known) contra

@@ -34,7 +34,7 @@ pub(crate) fn children(alloc: Global, named: &Named) -> Result<Vec<Sequence<u32>
 }
 
 // So many lists without numbers.
-fn no_numbers(alloc: Global, count: usize) -> Result<Vec<Sequence<u32>>, Memory>
+pub(crate) fn no_numbers(alloc: Global, count: usize) -> Result<Vec<Sequence<u32>>, Memory>
     ensures length { IfOk result (λ none. length none.items ≡ count) }
     ensures none { IfOk result (λ none. (v : ℕ) → slice_index_or none.items v [] ≡ []) }
 {
@@ -45,13 +45,13 @@ fn no_numbers(alloc: Global, count: usize) -> Result<Vec<Sequence<u32>>, Memory>
     Ok(none)
 }
 
-// The edges, and behind them all that is pushed from ways along edges, as far as no way along pushed edges is as short. A
-// pass notes few edges of a source, those to the nearest ends first, and the next pass twice as many: where pushes add up to
-// others, these are seldom noted.
+// The edges, and behind them what is pushed from ways along edges, as far as no way along pushed edges is as short: all
+// counts where they matter, and nought elsewhere. A pass notes few edges of a source, those to the nearest ends first, and
+// the next pass twice as many: where pushes add up to others, these are seldom noted.
 pub(crate) fn closed(alloc: Global, frame: &Frame, lines: Vec<Edge>) -> Result<Vec<Edge>, Memory>
     requires children { AreChildren frame.now.named frame.now.children.items }
     requires distinct { AreDistinct frame.now.named }
-    ensures { IfOk result (λ edges. IsClosing frame.now.named frame.now.flips.items lines.items edges.items) }
+    ensures { IfOk result (λ edges. IsClosing frame.now.named frame.now.flips.items frame.now.matters.items lines.items edges.items) }
 {
     let count = lines.len();
     let mut edges = lines;
@@ -88,8 +88,10 @@ fn pass(
     requires children { AreChildren frame.now.named frame.now.children.items }
     requires distinct { AreDistinct frame.now.named }
     requires limit { 0 < limit }
-    ensures pushed { IfOk result (λ fresh. (e : Arrow) → Contains fresh.items e → IsPushed frame.now.named frame.now.flips.items edges.now e) }
-    ensures done { IfOk result (λ fresh. fresh.items ≡ [] → IsClosedBy frame.now.named frame.now.flips.items edges.now pushed.now) }
+    ensures pushed { IfOk result (λ fresh. (e : Arrow) → Contains fresh.items e →
+        IsPushed frame.now.named frame.now.flips.items edges.now e) }
+    ensures done { IfOk result (λ fresh. fresh.items ≡ [] →
+        IsClosedBy frame.now.named frame.now.flips.items frame.now.matters.items edges.now pushed.now) }
 {
     let leaving = indexed(alloc, edges)?;
     let leaving_pushed = indexed(alloc, pushed)?;
@@ -123,8 +125,11 @@ fn push_number(
     requires indexed { IsIndexed all.now.edges.now all.now.out.now × IsIndexed pushed.now.edges.now pushed.now.out.now }
     requires number { number < length frame.now.named }
     requires limit { 0 < limit }
-    ensures grown { OnOk result (IsGrown (IsPushed frame.now.named frame.now.flips.items all.now.edges.now) fresh.old.items fresh.new.items) }
-    ensures done { OnOk result (fresh.new.items ≡ [] → (child parent : Place) (l : Letter) → child.variable ≡ number → IsChildOf frame.now.named child parent l → IsClosedFrom frame.now.named frame.now.flips.items all.now.edges.now pushed.now.edges.now child parent l) }
+    ensures grown { OnOk result (IsGrown (IsPushed frame.now.named frame.now.flips.items all.now.edges.now)
+        fresh.old.items fresh.new.items) }
+    ensures done { OnOk result (fresh.new.items ≡ [] → (child parent : Place) (l : Letter) → child.variable ≡ number →
+        IsChildOf frame.now.named child parent l →
+        IsClosedFrom frame.now.named frame.now.flips.items frame.now.matters.items all.now.edges.now pushed.now.edges.now child parent l) }
 {
     if let Origin::Longer(parent, first) = frame.named.origin(number) {
         push_state(
@@ -157,8 +162,11 @@ fn push_state(
     requires limit { 0 < limit }
     requires below { parent < number }
     requires longer { slice_index_or frame.now.named number no_variable ≡ longer (slice_index_or frame.now.named parent no_variable) first }
-    ensures grown { OnOk result (IsGrown (IsPushed frame.now.named frame.now.flips.items all.now.edges.now) fresh.old.items fresh.new.items) }
-    ensures done { OnOk result (fresh.new.items ≡ [] → (child above : Place) (l : Letter) → child.variable ≡ number → child.contra ≡ contra → IsChildOf frame.now.named child above l → IsClosedFrom frame.now.named frame.now.flips.items all.now.edges.now pushed.now.edges.now child above l) }
+    ensures grown { OnOk result (IsGrown (IsPushed frame.now.named frame.now.flips.items all.now.edges.now)
+        fresh.old.items fresh.new.items) }
+    ensures done { OnOk result (fresh.new.items ≡ [] → (child above : Place) (l : Letter) → child.variable ≡ number →
+        child.contra ≡ contra → IsChildOf frame.now.named child above l →
+        IsClosedFrom frame.now.named frame.now.flips.items frame.now.matters.items all.now.edges.now pushed.now.edges.now child above l) }
 {
     let source = State {
         variable: number,

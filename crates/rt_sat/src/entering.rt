@@ -32,7 +32,8 @@ fn enter_line(
     line: &Line,
 ) -> Result<(), Memory>
     requires { (x : Variable) → HasSide line.now x → Contains named.now x }
-    ensures { OnOk result ((before : List Given) → AreLineEdges before named.now edges.old.items → AreLineEdges (before ++ line.now ∷ []) named.now edges.new.items) }
+    ensures { OnOk result ((before : List Given) → AreLineEdges before named.now edges.old.items →
+        AreLineEdges (before ++ line.now ∷ []) named.now edges.new.items) }
 {
     match line {
         Line::Sub(x, y) => {

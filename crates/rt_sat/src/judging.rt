@@ -190,7 +190,8 @@ fn enter_low(
     requires named { (x : Variable) → HasSide line.now x → Contains named.now x }
     requires constants { HasConstantsBelow order.now.count line.now }
     requires constant { k < order.now.count }
-    ensures { OnOk result ((before : List Given) → AreLows order.now before named.now k numbers.old.items → AreLows order.now (before ++ line.now ∷ []) named.now k numbers.new.items) }
+    ensures { OnOk result ((before : List Given) → AreLows order.now before named.now k numbers.old.items →
+        AreLows order.now (before ++ line.now ∷ []) named.now k numbers.new.items) }
 {
     match line {
         Line::Low(bound, x) => {
@@ -237,7 +238,8 @@ fn enter_up(
     requires named { (x : Variable) → HasSide line.now x → Contains named.now x }
     requires constants { HasConstantsBelow order.now.count line.now }
     requires constant { k < order.now.count }
-    ensures { OnOk result ((before : List Given) → AreUps order.now before named.now k numbers.old.items → AreUps order.now (before ++ line.now ∷ []) named.now k numbers.new.items) }
+    ensures { OnOk result ((before : List Given) → AreUps order.now before named.now k numbers.old.items →
+        AreUps order.now (before ++ line.now ∷ []) named.now k numbers.new.items) }
 {
     match line {
         Line::Up(x, bound) => {

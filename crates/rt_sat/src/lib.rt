@@ -10,6 +10,7 @@ mod entering;
 mod indexing;
 mod judging;
 pub mod laws;
+mod marking;
 mod nodes;
 mod pushing;
 mod search;

@@ -1,9 +1,11 @@
-// Which named variables can be read and written through.
+// Which named variables can be read and written through, and at which of them counts above nought matter.
 ghost use Rattle.std.specs.Prelude.{◌≡◌, length, IfOk};
 ghost use Rattle.rt_named.specs.Origins.{IsBelow};
 ghost use Rattle.rt_sat.specs.Deciding.{flips_at};
+ghost use Rattle.rt_sat.specs.Mattering.{AreMattering};
 ghost use Rattle.rt_sat.specs.Tables.{AreFlagged, node_made};
 
+use crate::marking::is_marked;
 use rt_base::Memory;
 use rt_lines::{Dtv, Label, Word};
 use rt_named::{Named, Origin};
@@ -45,7 +47,7 @@ fn node(alloc: Global, shape: &Shape, nodes: &[Option<u32>], origin: Origin) -> 
 }
 
 // Whether a node has a load and a store.
-fn is_flip(shape: &Shape, node: Option<u32>) -> bool
+pub(crate) fn is_flip(shape: &Shape, node: Option<u32>) -> bool
     ensures { result ≡ flips_at shape.now node }
 {
     match node {
@@ -54,4 +56,23 @@ fn is_flip(shape: &Shape, node: Option<u32>) -> bool
         }
         None => false,
     }
+}
+
+// For each named variable whether its node is marked.
+pub(crate) fn matters(
+    alloc: Global,
+    named: &Named,
+    shape: &Shape,
+    marks: &[bool],
+) -> Result<Vec<bool>, Memory>
+    ensures { IfOk result (λ matters. AreMattering shape.now marks.now named.now matters.items) }
+{
+    let mut nodes = Vec::new(alloc);
+    let mut matters = Vec::new(alloc);
+    for number in 0..named.len() {
+        let node = node(alloc, shape, &nodes, named.origin(number as u32));
+        matters.push(is_marked(marks, node))?;
+        nodes.push(node)?;
+    }
+    Ok(matters)
 }

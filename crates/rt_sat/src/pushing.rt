@@ -1,18 +1,19 @@
 // Pushes from ways between variables to edges between those with a letter more.
 ghost use Rattle.std.specs.Prelude.{◌≡◌, ℕ, ◌<◌, ◌≤◌, ◌↔◌, [], List, Bool, false, true, length, slice_index_or, IsTrue, IfOk, OnOk, Contains};
 ghost use Rattle.rt_lines.specs.declared.label.Label.{Label as Letter};
+ghost use Rattle.rt_lines.specs.declared.label.Variance.{Variance as Sign};
 ghost use Rattle.rt_lines.specs.Words.{label_variance, times};
 ghost use Rattle.rt_bridge.specs.Counted.{IsPointer};
 ghost use Rattle.rt_sat.specs.declared.state.State.{State as Place};
 ghost use Rattle.rt_sat.specs.declared.state.Edge.{Edge as Arrow};
 ghost use Rattle.rt_sat.specs.Numbered.{AreDistinct, AreWithin, is_contra, sign_of};
-ghost use Rattle.rt_sat.specs.Pushes.{AreChildren, HasWalk, IsChildOf, IsClosedBy, IsClosedFrom, IsDoneAt, IsDoneOn, IsDoneTo, IsGrown, IsHalf, IsPushed, IsPushedOn, IsPushedTo, PushBy, flip_at};
+ghost use Rattle.rt_sat.specs.Pushes.{AreChildren, asked_of, matter_at, HasWalk, IsChildOf, IsClosedBy, IsClosedFrom, IsDoneAt, IsDoneOn, IsDoneTo, IsGrown, IsHalf, IsPushed, IsPushedOn, IsPushedTo, PushBy, flip_at};
 ghost use Rattle.rt_sat.specs.Counts.{IsLeastHalf};
-ghost use Rattle.rt_sat.specs.Searches.{IsIndexed, IsSearch, IsWithin, Walk};
+ghost use Rattle.rt_sat.specs.Searches.{Allows, IsIndexed, IsSearch, IsWithin, Walk};
 
 use crate::count::Count;
 use crate::indexing::indexed;
-use crate::search::search;
+use crate::search::{allows, search};
 use crate::state::{Edge, State};
 use indexmap::IndexMap;
 use rt_base::{Memory, Sequence};
@@ -20,11 +21,13 @@ use rt_lines::{Label, Variance};
 use rt_named::{Named, Origin};
 use std::alloc::Global;
 
-// Named variables, which of them can be read and written through, and the numbers of those with a letter more.
+// Named variables, which of them can be read and written through, at which of them counts above nought matter, and the
+// numbers of those with a letter more.
 #[derive(Drop)]
 pub(crate) struct Frame {
     pub(crate) named: Named,
     pub(crate) flips: Vec<bool>,
+    pub(crate) matters: Vec<bool>,
     pub(crate) children: Vec<Sequence<u32>>,
 }
 
@@ -59,17 +62,23 @@ fn is_pointer(label: Label) -> bool
     }
 }
 
-// Puts an edge into the fresh ones, where no count that is as small is known of its end.
+// Puts an edge into the fresh ones, where its count is asked for and none that is as small is known of its end.
 fn note(
+    alloc: Global,
     fresh: &mut Vec<Edge>,
+    most: Option<u32>,
     known: &IndexMap<State, Count>,
     from: State,
     to: State,
     count: Count,
 ) -> Result<(), Memory>
-    ensures grown { OnOk result (IsGrown (λ (e : Arrow). (e.from ≡ from) × (e.to ≡ to) × (e.count ≡ count)) fresh.old.items fresh.new.items) }
-    ensures done { OnOk result (fresh.new.items ≡ [] → IsWithin known.now.entries to count) }
+    ensures grown { OnOk result (IsGrown (λ (e : Arrow). (e.from ≡ from) × (e.to ≡ to) ×
+        (e.count ≡ count)) fresh.old.items fresh.new.items) }
+    ensures done { OnOk result (fresh.new.items ≡ [] → Allows most count → IsWithin known.now.entries to count) }
 {
+    if !allows(alloc, most, &count) {
+        return Ok(());
+    }
     if let Some(least) = known.get(&to) {
         if !count.is_less(least) {
             return Ok(());
@@ -83,6 +92,7 @@ fn note(
 fn push_kept(
     alloc: Global,
     fresh: &mut Vec<Edge>,
+    most: Option<u32>,
     known: &IndexMap<State, Count>,
     source: State,
     first: Label,
@@ -90,11 +100,14 @@ fn push_kept(
     second: Label,
     count: &Count,
 ) -> Result<(), Memory>
-    ensures grown { OnOk result (IsGrown (λ (e : Arrow). (e.from ≡ source) × (e.to ≡ target) × (first ≡ second) × (count.now ≡ e.count)) fresh.old.items fresh.new.items) }
-    ensures done { OnOk result (fresh.new.items ≡ [] → first ≡ second → IsWithin known.now.entries target count.now) }
+    ensures grown { OnOk result (IsGrown (λ (e : Arrow). (e.from ≡ source) × (e.to ≡ target) × (first ≡ second) ×
+        (count.now ≡ e.count)) fresh.old.items fresh.new.items) }
+    ensures done { OnOk result (fresh.new.items ≡ [] → first ≡ second → Allows most count.now →
+        IsWithin known.now.entries target count.now) }
 {
     if first == second {
-        note(fresh, known, source, target, count.copy(alloc)?)?;
+        let copy = count.copy(alloc)?;
+        note(alloc, fresh, most, known, source, target, copy)?;
     }
     Ok(())
 }
@@ -104,6 +117,7 @@ fn push_half(
     alloc: Global,
     flip: bool,
     fresh: &mut Vec<Edge>,
+    most: Option<u32>,
     known: &IndexMap<State, Count>,
     source: State,
     first: Label,
@@ -111,12 +125,15 @@ fn push_half(
     second: Label,
     count: &Count,
 ) -> Result<(), Memory>
-    ensures grown { OnOk result (IsGrown (λ (e : Arrow). (e.from ≡ source) × (e.to ≡ target) × IsHalf flip first second count.now (sign_of source.contra) (sign_of target.contra) e.count) fresh.old.items fresh.new.items) }
-    ensures done { OnOk result (fresh.new.items ≡ [] → (k : ℕ) → IsHalf flip first second count.now (sign_of source.contra) (sign_of target.contra) k → IsWithin known.now.entries target k) }
+    ensures grown { OnOk result (IsGrown (λ (e : Arrow). (e.from ≡ source) × (e.to ≡ target) ×
+        IsHalf flip first second count.now (sign_of source.contra) (sign_of target.contra) e.count) fresh.old.items fresh.new.items) }
+    ensures done { OnOk result (fresh.new.items ≡ [] → (k : ℕ) →
+        IsHalf flip first second count.now (sign_of source.contra) (sign_of target.contra) k → Allows most k →
+        IsWithin known.now.entries target k) }
 {
     if flip && is_pointer(first) && is_pointer(second) {
         let half = half_between(alloc, source, first, target, second, count)?;
-        note(fresh, known, source, target, half)?;
+        note(alloc, fresh, most, known, source, target, half)?;
     }
     Ok(())
 }
@@ -130,7 +147,8 @@ fn half_between(
     second: Label,
     count: &Count,
 ) -> Result<Count, Memory>
-    ensures { IfOk result (λ half. IsLeastHalf count.now (times (label_variance first) (sign_of source.contra)) (times (label_variance second) (sign_of target.contra)) (sign_of source.contra) (sign_of target.contra) half) }
+    ensures { IfOk result (λ half. IsLeastHalf count.now (times (label_variance first) (sign_of source.contra))
+        (times (label_variance second) (sign_of target.contra)) (sign_of source.contra) (sign_of target.contra) half) }
 {
     let a = sign(source.contra);
     let b = sign(target.contra);
@@ -144,6 +162,7 @@ fn push_between(
     alloc: Global,
     flip: bool,
     fresh: &mut Vec<Edge>,
+    most: Option<u32>,
     known: &IndexMap<State, Count>,
     source: State,
     first: Label,
@@ -151,12 +170,17 @@ fn push_between(
     second: Label,
     count: &Count,
 ) -> Result<(), Memory>
-    ensures grown { OnOk result (IsGrown (λ (e : Arrow). (e.from ≡ source) × (e.to ≡ target) × PushBy flip first second count.now (sign_of source.contra) (sign_of target.contra) e.count) fresh.old.items fresh.new.items) }
-    ensures done { OnOk result (fresh.new.items ≡ [] → (k : ℕ) → PushBy flip first second count.now (sign_of source.contra) (sign_of target.contra) k → IsWithin known.now.entries target k) }
+    ensures grown { OnOk result (IsGrown (λ (e : Arrow). (e.from ≡ source) × (e.to ≡ target) ×
+        PushBy flip first second count.now (sign_of source.contra) (sign_of target.contra) e.count) fresh.old.items fresh.new.items) }
+    ensures done { OnOk result (fresh.new.items ≡ [] → (k : ℕ) →
+        PushBy flip first second count.now (sign_of source.contra) (sign_of target.contra) k → Allows most k →
+        IsWithin known.now.entries target k) }
 {
-    push_kept(alloc, fresh, known, source, first, target, second, count)?;
+    push_kept(
+        alloc, fresh, most, known, source, first, target, second, count,
+    )?;
     push_half(
-        alloc, flip, fresh, known, source, first, target, second, count,
+        alloc, flip, fresh, most, known, source, first, target, second, count,
     )?;
     Ok(())
 }
@@ -166,6 +190,7 @@ fn push_to(
     alloc: Global,
     frame: &Frame,
     fresh: &mut Vec<Edge>,
+    most: Option<u32>,
     known: &IndexMap<State, Count>,
     flip: bool,
     source: State,
@@ -175,22 +200,24 @@ fn push_to(
 ) -> Result<(), Memory>
     requires children { AreChildren frame.now.named frame.now.children.items }
     requires distinct { AreDistinct frame.now.named }
-    ensures grown { OnOk result (IsGrown (λ (e : Arrow). (e.from ≡ source) × IsPushedTo frame.now.named flip first other count.now (sign_of source.contra) e.to e.count) fresh.old.items fresh.new.items) }
-    ensures done { OnOk result (fresh.new.items ≡ [] → IsDoneTo frame.now.named flip first other count.now (sign_of source.contra) known.now.entries) }
+    ensures grown { OnOk result (IsGrown (λ (e : Arrow). (e.from ≡ source) ×
+        IsPushedTo frame.now.named flip first other count.now (sign_of source.contra) e.to e.count) fresh.old.items fresh.new.items) }
+    ensures done { OnOk result (fresh.new.items ≡ [] →
+        IsDoneTo frame.now.named flip first other count.now (sign_of source.contra) most known.now.entries) }
 {
-    for child in children_of(&frame.children, other.variable) {
+    for child in numbers_at(&frame.children, other.variable) {
         push_child(
-            alloc, frame, fresh, known, flip, source, first, other, count, *child,
+            alloc, frame, fresh, most, known, flip, source, first, other, count, *child,
         )?;
     }
     Ok(())
 }
 
-// The numbers of the variables with a letter more.
-fn children_of(children: &[Sequence<u32>], variable: u32) -> &[u32]
-    ensures { result.now ≡ slice_index_or children.now variable [] }
+// The numbers that are noted at one, none past the end.
+pub(crate) fn numbers_at(lists: &[Sequence<u32>], number: u32) -> &[u32]
+    ensures { result.now ≡ slice_index_or lists.now number [] }
 {
-    match children.get(variable as usize) {
+    match lists.get(number as usize) {
         Some(numbers) => numbers.items(),
         None => &[],
     }
@@ -201,6 +228,7 @@ fn push_child(
     alloc: Global,
     frame: &Frame,
     fresh: &mut Vec<Edge>,
+    most: Option<u32>,
     known: &IndexMap<State, Count>,
     flip: bool,
     source: State,
@@ -211,8 +239,10 @@ fn push_child(
 ) -> Result<(), Memory>
     requires child { child < length frame.now.named }
     requires distinct { AreDistinct frame.now.named }
-    ensures grown { OnOk result (IsGrown (λ (e : Arrow). (e.from ≡ source) × IsPushedTo frame.now.named flip first other count.now (sign_of source.contra) e.to e.count) fresh.old.items fresh.new.items) }
-    ensures done { OnOk result (fresh.new.items ≡ [] → IsDoneAt frame.now.named flip first other count.now (sign_of source.contra) known.now.entries child) }
+    ensures grown { OnOk result (IsGrown (λ (e : Arrow). (e.from ≡ source) ×
+        IsPushedTo frame.now.named flip first other count.now (sign_of source.contra) e.to e.count) fresh.old.items fresh.new.items) }
+    ensures done { OnOk result (fresh.new.items ≡ [] →
+        IsDoneAt frame.now.named flip first other count.now (sign_of source.contra) most known.now.entries child) }
 {
     match frame.named.origin(child) {
         Origin::Longer(parent, second) => {
@@ -225,7 +255,7 @@ fn push_child(
                 contra,
             };
             push_between(
-                alloc, flip, fresh, known, source, first, target, second, count,
+                alloc, flip, fresh, most, known, source, first, target, second, count,
             )?;
             Ok(())
         }
@@ -257,16 +287,42 @@ pub(crate) fn push_from(
     requires indexed { IsIndexed all.now.edges.now all.now.out.now × IsIndexed pushed.now.edges.now pushed.now.out.now }
     requires child { IsChildOf frame.now.named source parent first }
     requires limit { 0 < limit }
-    ensures grown { OnOk result (IsGrown (IsPushed frame.now.named frame.now.flips.items all.now.edges.now) fresh.old.items fresh.new.items) }
-    ensures done { OnOk result (fresh.new.items ≡ [] → IsClosedFrom frame.now.named frame.now.flips.items all.now.edges.now pushed.now.edges.now source parent first) }
+    ensures grown { OnOk result (IsGrown (IsPushed frame.now.named frame.now.flips.items all.now.edges.now)
+        fresh.old.items fresh.new.items) }
+    ensures done { OnOk result (fresh.new.items ≡ [] →
+        IsClosedFrom frame.now.named frame.now.flips.items frame.now.matters.items all.now.edges.now pushed.now.edges.now
+        source parent first) }
 {
-    let reached = search(alloc, all.edges, all.out, parent)?;
-    let known = search(alloc, pushed.edges, pushed.out, source)?;
     let flip = flag(&frame.flips, parent.variable);
+    let matters = flag(&frame.matters, source.variable);
+    let most = asked(matters);
+    let bound = needed(matters, flip, first);
+    let reached = search(alloc, all.edges, all.out, parent, bound)?;
+    let known = search(alloc, pushed.edges, pushed.out, source, most)?;
     push_reached(
-        alloc, frame, fresh, &known, flip, source, first, &reached, limit,
+        alloc, frame, fresh, most, &known, flip, source, first, &reached, limit,
     )?;
     Ok(())
+}
+
+// The bound of the counts that are asked for: none where counts matter, and nought elsewhere.
+fn asked(matters: bool) -> Option<u32>
+    ensures { result ≡ asked_of matters }
+{
+    if matters { None } else { Some(0) }
+}
+
+// A bound of the counts from which counts that are asked for are pushed: half pushes give nought from one.
+fn needed(matters: bool, flip: bool, first: Label) -> Option<u32>
+    ensures { (m : Letter) (d k : ℕ) (a b : Sign) → PushBy flip first m d a b k → Allows (asked_of matters) k → Allows result d }
+{
+    if matters {
+        return None;
+    }
+    if flip && is_pointer(first) {
+        return Some(1);
+    }
+    Some(0)
 }
 
 // The flag of a number, false past the end.
@@ -284,6 +340,7 @@ fn push_reached(
     alloc: Global,
     frame: &Frame,
     fresh: &mut Vec<Edge>,
+    most: Option<u32>,
     known: &IndexMap<State, Count>,
     flip: bool,
     source: State,
@@ -294,19 +351,21 @@ fn push_reached(
     requires children { AreChildren frame.now.named frame.now.children.items }
     requires distinct { AreDistinct frame.now.named }
     requires limit { 0 < limit }
-    ensures grown { OnOk result (IsGrown (λ (e : Arrow). (e.from ≡ source) × IsPushedOn frame.now.named flip first (sign_of source.contra) reached.now.entries e.to e.count) fresh.old.items fresh.new.items) }
-    ensures done { OnOk result (fresh.new.items ≡ [] → IsDoneOn frame.now.named flip first (sign_of source.contra) reached.now.entries known.now.entries) }
+    ensures grown { OnOk result (IsGrown (λ (e : Arrow). (e.from ≡ source) ×
+        IsPushedOn frame.now.named flip first (sign_of source.contra) reached.now.entries e.to e.count) fresh.old.items fresh.new.items) }
+    ensures done { OnOk result (fresh.new.items ≡ [] →
+        IsDoneOn frame.now.named flip first (sign_of source.contra) reached.now.entries most known.now.entries) }
 {
-    let most = fresh.len().saturating_add(limit);
+    let wanted = fresh.len().saturating_add(limit);
     for i in 0..reached.len() {
-        if has_enough(fresh, most) {
+        if has_enough(fresh, wanted) {
             return Ok(());
         }
         let Some((other, count)) = reached.get_index(i) else {
             unreachable!()
         };
         push_to(
-            alloc, frame, fresh, known, flip, source, first, *other, count,
+            alloc, frame, fresh, most, known, flip, source, first, *other, count,
         )?;
     }
     Ok(())

@@ -1,6 +1,6 @@
 // Least counts from a state along edges.
-ghost use Rattle.std.specs.Prelude.{◌≡◌, ℕ, ◌<◌, ◌++◌, ◌∷◌, [], List, Contains, IfOk, OnOk, length, slice_index_or};
-ghost use Rattle.rt_sat.specs.Searches.{AreFallen, AreRelaxed, AreWalks, IsFollowed, IsIndexed, IsOffered, IsSearch, turned};
+ghost use Rattle.std.specs.Prelude.{◌≡◌, ℕ, ◌<◌, ◌++◌, ◌∷◌, ◌↔◌, [], List, Contains, IsTrue, IfOk, OnOk, length, slice_index_or};
+ghost use Rattle.rt_sat.specs.Searches.{Allows, AreFallen, AreNoted, AreRelaxed, IsFollowed, IsIndexed, IsOffered, IsSearch, turned};
 ghost use Rattle.rt_sat.specs.declared.state.State.{State as Place};
 
 use crate::count::Count;
@@ -12,16 +12,18 @@ use std::alloc::{AllocError, Global};
 // More rounds than there are states.
 const ROUNDS: u64 = 0xff_ffff_ffff;
 
-// The least count of a way to each state that a way leads to from the start. The edges that leave a variable are given by
+// The least count of a way to each state that a way leads to from the start, or, where a bound is given, of each state
+// whose least count is no greater. With the bound nought no turn is followed. The edges that leave a variable are given by
 // their indices. Each round goes on from the states whose counts fell in the one before.
 pub(crate) fn search(
     alloc: Global,
     edges: &[Edge],
     out: &[Sequence<usize>],
     start: State,
+    most: Option<u32>,
 ) -> Result<IndexMap<State, Count>, Memory>
     requires { IsIndexed edges.now out.now }
-    ensures { IfOk result (λ found. IsSearch edges.now start found.entries) }
+    ensures { IfOk result (λ found. IsSearch most edges.now start found.entries) }
 {
     let mut found = IndexMap::new(alloc);
     found.insert(start, Count::small(alloc, 0))?;
@@ -31,7 +33,7 @@ pub(crate) fn search(
         if active.is_empty() {
             return Ok(found);
         }
-        active = round(alloc, edges, out, &mut found, &active)?;
+        active = round(alloc, most, edges, out, &mut found, &active)?;
     }
     Err(AllocError)
 }
@@ -39,19 +41,22 @@ pub(crate) fn search(
 // Goes on from each active state, and gives those whose counts fell.
 fn round(
     alloc: Global,
+    most: Option<u32>,
     edges: &[Edge],
     out: &[Sequence<usize>],
     found: &mut IndexMap<State, Count>,
     active: &[State],
 ) -> Result<Vec<State>, Memory>
     requires { IsIndexed edges.now out.now }
-    ensures walks { OnOk result ((start : Place) → AreWalks edges.now start found.old.entries → AreWalks edges.now start found.new.entries) }
+    ensures walks { OnOk result ((start : Place) → AreNoted most edges.now start found.old.entries →
+        AreNoted most edges.now start found.new.entries) }
     ensures fallen { OnOk result (AreFallen found.old.entries found.new.entries) }
-    ensures relaxed { IfOk result (λ next. AreRelaxed edges.now found.old.entries active.now → AreRelaxed edges.now found.new.entries next.items) }
+    ensures relaxed { IfOk result (λ next. AreRelaxed most edges.now found.old.entries active.now →
+        AreRelaxed most edges.now found.new.entries next.items) }
 {
     let mut next = Vec::new(alloc);
     for state in active {
-        visit(alloc, edges, out, found, &mut next, *state)?;
+        visit(alloc, most, edges, out, found, &mut next, *state)?;
     }
     Ok(next)
 }
@@ -59,6 +64,7 @@ fn round(
 // Goes on from a state, and notes those whose counts fell.
 fn visit(
     alloc: Global,
+    most: Option<u32>,
     edges: &[Edge],
     out: &[Sequence<usize>],
     found: &mut IndexMap<State, Count>,
@@ -66,9 +72,11 @@ fn visit(
     state: State,
 ) -> Result<(), Memory>
     requires { IsIndexed edges.now out.now }
-    ensures walks { OnOk result ((start : Place) → AreWalks edges.now start found.old.entries → AreWalks edges.now start found.new.entries) }
+    ensures walks { OnOk result ((start : Place) → AreNoted most edges.now start found.old.entries →
+        AreNoted most edges.now start found.new.entries) }
     ensures fallen { OnOk result (AreFallen found.old.entries found.new.entries) }
-    ensures relaxed { OnOk result ((rest : List Place) → AreRelaxed edges.now found.old.entries (next.old.items ++ state ∷ rest) → AreRelaxed edges.now found.new.entries (next.new.items ++ rest)) }
+    ensures relaxed { OnOk result ((rest : List Place) → AreRelaxed most edges.now found.old.entries (next.old.items ++ state ∷ rest) →
+        AreRelaxed most edges.now found.new.entries (next.new.items ++ rest)) }
 {
     let Some(known) = found.get(&state) else {
         return Ok(());
@@ -79,9 +87,9 @@ fn visit(
         variable: state.variable,
         contra: !state.contra,
     };
-    offer(found, next, other, turn)?;
+    offer(alloc, most, found, next, other, turn)?;
     let leaving = leaving(out, state.variable);
-    follow(alloc, edges, leaving, found, next, state, &count)?;
+    follow(alloc, most, edges, leaving, found, next, state, &count)?;
     Ok(())
 }
 
@@ -98,6 +106,7 @@ fn leaving(out: &[Sequence<usize>], variable: u32) -> &[usize]
 // Goes on along the edges of these indices that leave the state, of which a count is known.
 fn follow(
     alloc: Global,
+    most: Option<u32>,
     edges: &[Edge],
     leaving: &[usize],
     found: &mut IndexMap<State, Count>,
@@ -106,7 +115,8 @@ fn follow(
     count: &Count,
 ) -> Result<(), Memory>
     requires { (i : ℕ) → Contains leaving.now i → i < length edges.now }
-    ensures { OnOk result (IsFollowed edges.now leaving.now found.old.entries found.new.entries next.old.items next.new.items state count.now (length leaving.now)) }
+    ensures { OnOk result (IsFollowed most edges.now leaving.now found.old.entries found.new.entries next.old.items next.new.items state
+        count.now (length leaving.now)) }
 {
     for index in leaving {
         let edge = &edges[*index];
@@ -114,20 +124,25 @@ fn follow(
             continue;
         }
         let sum = edge.count.plus(alloc, count)?;
-        offer(found, next, edge.to, sum)?;
+        offer(alloc, most, found, next, edge.to, sum)?;
     }
     Ok(())
 }
 
-// Notes a count of a state, where none that is as small is known.
+// Notes a count of a state, where it is asked for and none that is as small is known.
 fn offer(
+    alloc: Global,
+    most: Option<u32>,
     found: &mut IndexMap<State, Count>,
     next: &mut Vec<State>,
     to: State,
     count: Count,
 ) -> Result<(), Memory>
-    ensures { OnOk result (IsOffered found.old.entries found.new.entries next.old.items next.new.items to count) }
+    ensures { OnOk result (IsOffered most found.old.entries found.new.entries next.old.items next.new.items to count) }
 {
+    if !allows(alloc, most, &count) {
+        return Ok(());
+    }
     if let Some(known) = found.get(&to) {
         if !count.is_less(known) {
             return Ok(());
@@ -136,4 +151,14 @@ fn offer(
     found.insert(to, count)?;
     next.push(to)?;
     Ok(())
+}
+
+// Whether a count is asked for, where those up to a bound are, or all.
+pub(crate) fn allows(alloc: Global, most: Option<u32>, count: &Count) -> bool
+    ensures { IsTrue result ↔ Allows most count.now }
+{
+    match most {
+        Some(bound) => !Count::small(alloc, bound).is_less(count),
+        None => true,
+    }
 }

@@ -3,13 +3,15 @@ ghost use Rattle.std.specs.Prelude.{◌≡◌, ◌∷◌, ℕ, ◌<◌, ◌↔�
 ghost use Rattle.rt_shape.specs.Shapes.{IsShapeOf};
 ghost use Rattle.rt_sat.specs.Numbered.{AreWithin};
 ghost use Rattle.rt_sat.specs.Searches.{IsKnown};
-ghost use Rattle.rt_sat.specs.Tables.{AreSourced, AreThere, HasNought, IsLayered, place};
+ghost use Rattle.rt_sat.specs.Mattering.{AreMarked};
+ghost use Rattle.rt_sat.specs.Tables.{AreSourced, AreThere, HasNought, IsLayered, IsWholeTableOf, place};
 
 use crate::closing::{children, closed};
 use crate::count::Count;
 use crate::entering::{edge, line_edges};
 use crate::indexing::indexed;
-use crate::nodes::flips;
+use crate::marking::marks;
+use crate::nodes::{flips, matters};
 use crate::pushing::Frame;
 use crate::search::search;
 use crate::state::{Edge, State};
@@ -20,7 +22,8 @@ use rt_named::Named;
 use rt_shape::Shape;
 use std::alloc::Global;
 
-/// Named variables, and edges between their numbers: those of the lines, and behind them what is pushed from ways.
+/// Named variables, and edges between their numbers: those of the lines, and behind them what is pushed from ways, as far as
+/// counts matter.
 #[derive(Drop)]
 pub struct Table {
     /// The variables.
@@ -42,14 +45,51 @@ pub fn saturated(
     requires there { AreThere lines.now extra.now }
     ensures { IfOk result (λ t. IsLayered lines.now extra.now t.named t.edges.items t.lines) }
 {
+    let marks = marks(alloc, shape)?;
+    let table = saturated_by(alloc, lines, shape, extra, &marks)?;
+    Ok(table)
+}
+
+// The table of the lines that has all counts.
+pub(crate) fn whole(
+    alloc: Global,
+    lines: &[Line],
+    shape: &Shape,
+    extra: &[Dtv],
+) -> Result<Table, Memory>
+    requires shape { IsShapeOf lines.now shape.now }
+    requires there { AreThere lines.now extra.now }
+    ensures { IfOk result (λ t. IsWholeTableOf lines.now extra.now t.named t.edges.items) }
+{
+    let marks = Vec::new(alloc);
+    let table = saturated_by(alloc, lines, shape, extra, &marks)?;
+    Ok(table)
+}
+
+// The table of the lines that has all counts at marked nodes, and nought elsewhere.
+fn saturated_by(
+    alloc: Global,
+    lines: &[Line],
+    shape: &Shape,
+    extra: &[Dtv],
+    marks: &[bool],
+) -> Result<Table, Memory>
+    requires shape { IsShapeOf lines.now shape.now }
+    requires there { AreThere lines.now extra.now }
+    requires marked { AreMarked shape.now marks.now }
+    ensures layered { IfOk result (λ t. IsLayered lines.now extra.now t.named t.edges.items t.lines) }
+    ensures whole { IfOk result (λ t. marks.now ≡ [] → IsWholeTableOf lines.now extra.now t.named t.edges.items) }
+{
     let named = Named::of(alloc, lines, extra)?;
     let flips = flips(alloc, &named, shape)?;
+    let matters = matters(alloc, &named, shape, marks)?;
     let children = children(alloc, &named)?;
     let first = line_edges(alloc, &named, lines)?;
     let count = first.len();
     let frame = Frame {
         named,
         flips,
+        matters,
         children,
     };
     let edges = closed(alloc, &frame, first)?;
@@ -81,7 +121,7 @@ pub(crate) fn meets(
         variable: number,
         contra: false,
     };
-    let found = search(alloc, &all, &leaving, start)?;
+    let found = search(alloc, &all, &leaving, start, Some(0))?;
     Ok(has_nought(&found, targets))
 }
 

@@ -9,7 +9,7 @@ use crate::indexing::indexed;
 use crate::pushing::turns;
 use crate::search::search;
 use crate::state::{Edge, State};
-use crate::table::{Table, saturated};
+use crate::table::{Table, whole};
 use indexmap::IndexMap;
 use rt_base::{Memory, Sequence};
 use rt_lines::{Dtv, Line, Variance};
@@ -71,7 +71,7 @@ pub fn saturate(alloc: Global, lines: &[Line], extra: &[Dtv]) -> Result<Sat, Mem
     ensures { IfOk result (λ sat. sat ≡ record { lines = lines.now; extra = extra.now }) }
 {
     let shape = rt_shape::of(alloc, lines)?;
-    let table = saturated(alloc, lines, &shape, extra)?;
+    let table = whole(alloc, lines, &shape, extra)?;
     let leaving = indexed(alloc, &table.edges)?;
     let co = rows(alloc, &table.named, &table.edges, &leaving, false)?;
     let contra = rows(alloc, &table.named, &table.edges, &leaving, true)?;
@@ -133,7 +133,7 @@ fn rows(
             variable: number as u32,
             contra,
         };
-        let found = search(alloc, edges, leaving, start)?;
+        let found = search(alloc, edges, leaving, start, None)?;
         rows.push(Row { found })?;
     }
     Ok(rows)

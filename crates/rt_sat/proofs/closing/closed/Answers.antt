@@ -8,10 +8,10 @@ use Rattle.rt_sat.proofs.closing.closed.Goals as goal
 pub returns-then-is_empty : goal.returns-then-is_empty
 returns-then-is_empty c =
     let empty : c.in_ok-fresh.fresh.items ≡ [] = grind (arith, common_steps) in
-    growing_closed c.args.frame.now.named c.args.frame.now.flips.items c.args.lines.items c.loop-edges.edges.items c.len-count.result c.loop-edges.invariant.count c.loop-edges.invariant.growing
-    (subst (λ (xs : List Edge). IsClosedBy c.args.frame.now.named c.args.frame.now.flips.items xs (drop c.len-count.result c.loop-edges.edges.items)) c.deref.ensures.value
-    (subst (λ (xs : List Edge). IsClosedBy c.args.frame.now.named c.args.frame.now.flips.items c.deref.result.now (drop c.len-count.result xs)) c.deref-in-loop-edges.ensures.value
-    (subst (λ (xs : List Edge). IsClosedBy c.args.frame.now.named c.args.frame.now.flips.items c.deref.result.now xs) (tail_whole c.len-count.result c.deref-in-loop-edges.result.now) (c.in_ok-fresh.ensures.done empty))))
+    growing_closed c.args.frame.now.named c.args.frame.now.flips.items c.args.frame.now.matters.items c.args.lines.items c.loop-edges.edges.items c.len-count.result c.loop-edges.invariant.count c.loop-edges.invariant.growing
+    (subst (λ (xs : List Edge). IsClosedBy c.args.frame.now.named c.args.frame.now.flips.items c.args.frame.now.matters.items xs (drop c.len-count.result c.loop-edges.edges.items)) c.deref.ensures.value
+    (subst (λ (xs : List Edge). IsClosedBy c.args.frame.now.named c.args.frame.now.flips.items c.args.frame.now.matters.items c.deref.result.now (drop c.len-count.result xs)) c.deref-in-loop-edges.ensures.value
+    (subst (λ (xs : List Edge). IsClosedBy c.args.frame.now.named c.args.frame.now.flips.items c.args.frame.now.matters.items c.deref.result.now xs) (tail_whole c.len-count.result c.deref-in-loop-edges.result.now) (c.in_ok-fresh.ensures.done empty))))
 
 pub loop-edges-preserved : goal.loop-edges-preserved
 loop-edges-preserved c = record {

@@ -9,5 +9,5 @@ abbrev pub invariant-loop-number : goal.invariant-loop-number
 invariant-loop-number l = record {
   pushed : (e : Edge) → Contains l.fresh.items e → IsPushed l.frame.named l.frame.flips.items l.edges e;
   done : l.fresh.items ≡ [] → (i : ℕ) → i < l.number → (child parent : State) (m : Label) → child.variable ≡ i → IsChildOf l.frame.named child parent m →
-      IsClosedFrom l.frame.named l.frame.flips.items l.edges l.pushed child parent m;
+      IsClosedFrom l.frame.named l.frame.flips.items l.frame.matters.items l.edges l.pushed child parent m;
 }

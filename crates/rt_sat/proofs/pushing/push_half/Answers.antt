@@ -1,7 +1,9 @@
-use Rattle.std.proofs.Common.{◌≡◌, sym, subst}
+use Rattle.std.proofs.Common.{◌≡◌, ◌≤◌, sym, subst, arith}
 use Rattle.rt_sat.specs.declared.state.Edge.{Edge}
 use Rattle.rt_sat.specs.Numbered.{sign_of}
 use Rattle.rt_sat.specs.Pushes.{IsHalf}
+use Rattle.rt_sat.specs.Searches.{IsWithin}
+use Rattle.rt_sat.proofs.Searching.{allows_less}
 use Rattle.rt_sat.proofs.Pushed.{grown_as}
 use Rattle.rt_sat.proofs.pushing.push_half.Goals as goal
 
@@ -19,3 +21,9 @@ returns-in_ok-note-clause-grown c = grown_as _ _ _ _
       }),
     ))
     c.in_ok-note.ensures.grown
+
+pub returns-in_ok-note-clause-done : goal.returns-in_ok-note-clause-done
+returns-in_ok-note-clause-done c = λ h k i a.
+    let less : c.in_ok-half.half ≤ k = c.in_ok-half.ensures.least k i.enough i.parity in
+    let w : IsWithin c.args.known.now.entries c.args.target c.in_ok-half.half = c.in_ok-note.ensures.done h (allows_less c.args.most c.in_ok-half.half k less a) in
+    (w.0, w.1, omega (arith, w.2, less))

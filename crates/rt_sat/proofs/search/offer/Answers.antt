@@ -14,5 +14,5 @@ returns c =
           omega (arith, f, g)
       | in_default w ↦ let e : ◌≡◌ {A = Option ℕ} None (Some k) = w.in_default.ensures.value ∙ h in absurd (cc)
     ]) in
-    subst (λ active. IsOffered c.args.found.now.entries c.insert.new.self.entries c.args.next.now.items active c.args.to c.args.count) (sym c.in_ok-push.ensures.items)
-    (offered_new c.args.found.now.entries c.insert.new.self.entries c.args.to c.args.count c.in_ok-insert.ensures.updates.0 c.args.next.now.items less)
+    subst (λ active. IsOffered c.args.most c.args.found.now.entries c.insert.new.self.entries c.args.next.now.items active c.args.to c.args.count) (sym c.in_ok-push.ensures.items)
+    (offered_new c.args.found.now.entries c.insert.new.self.entries c.args.to c.args.count c.in_ok-insert.ensures.updates.0 c.args.most c.args.next.now.items (c.allows.ensures.0 c.if-not-allows.false) less)

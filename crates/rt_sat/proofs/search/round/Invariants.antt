@@ -1,11 +1,11 @@
 use Rattle.std.proofs.Common.{◌++◌, drop}
 use Rattle.rt_sat.specs.declared.state.State.{State}
-use Rattle.rt_sat.specs.Searches.{AreWalks, AreFallen, AreRelaxed}
+use Rattle.rt_sat.specs.Searches.{AreNoted, AreFallen, AreRelaxed}
 use Rattle.rt_sat.proofs.search.round.Given as goal
 
 abbrev pub invariant-loop-state : goal.invariant-loop-state
 invariant-loop-state l = record {
-  walks : (start : State) → AreWalks l.edges start l.fn.found.entries → AreWalks l.edges start l.found.entries;
+  walks : (start : State) → AreNoted l.most l.edges start l.fn.found.entries → AreNoted l.most l.edges start l.found.entries;
   fallen : AreFallen l.fn.found.entries l.found.entries;
-  relaxed : AreRelaxed l.edges l.fn.found.entries l.active → AreRelaxed l.edges l.found.entries (l.next.items ++ drop l.state-index l.active);
+  relaxed : AreRelaxed l.most l.edges l.fn.found.entries l.active → AreRelaxed l.most l.edges l.found.entries (l.next.items ++ drop l.state-index l.active);
 }

@@ -1,9 +1,9 @@
-use Rattle.rt_sat.specs.Searches.{AreWalks, AreRelaxed, IsWithin}
+use Rattle.rt_sat.specs.Searches.{AreNoted, AreRelaxed, IsWithin}
 use Rattle.rt_sat.proofs.search.search.Given as goal
 
 abbrev pub invariant-loop : goal.invariant-loop
 invariant-loop l = record {
-  walks : AreWalks l.edges l.fn.start l.found.entries;
+  walks : AreNoted l.most l.edges l.fn.start l.found.entries;
   within : IsWithin l.found.entries l.fn.start 0;
-  relaxed : AreRelaxed l.edges l.found.entries l.active.items;
+  relaxed : AreRelaxed l.most l.edges l.found.entries l.active.items;
 }

@@ -1,25 +1,6 @@
-use Rattle.std.proofs.Common.{rules}
-use Rattle.rt_sat.proofs.Frames.{named_distinct, side_named}
+use Rattle.std.proofs.Common.{Bool, List, sym, subst}
+use Rattle.rt_sat.specs.Mattering.{AreMarked}
 use Rattle.rt_sat.proofs.table.saturated.Goals as goal
 
-pub line_edges-requires : goal.line_edges-requires
-line_edges-requires c = side_named c.args.lines.now c.args.extra.now c.in_ok-named.named c.in_ok-named.ensures
-
-pub closed-requires-clause-distinct : goal.closed-requires-clause-distinct
-closed-requires-clause-distinct c = named_distinct c.args.lines.now c.args.extra.now c.in_ok-named.named c.in_ok-named.ensures
-
-pub returns : goal.returns
-returns c = record {
-  table = record {
-    graph = c.args.shape.now;
-    flips = c.in_ok-flips.flips.items;
-    first = c.in_ok-first.first.items;
-    is_named = c.in_ok-named.ensures;
-    shape = c.requires.shape;
-    flagged = c.in_ok-flips.ensures;
-    extra_there = c.requires.there;
-    entered = c.in_ok-first.ensures;
-    closing = c.in_ok-edges.ensures;
-  };
-  counted = search rules;
-}
+pub saturated_by-requires-clause-marked : goal.saturated_by-requires-clause-marked
+saturated_by-requires-clause-marked c = subst (λ (xs : List Bool). AreMarked c.args.shape.now xs) (sym c.deref.ensures.value) c.in_ok-marks.ensures

@@ -1,0 +1,35 @@
+use Rattle.std.proofs.Common.{rules}
+use Rattle.rt_sat.specs.Tables.{IsTableOf}
+use Rattle.rt_sat.proofs.Frames.{named_distinct, side_named}
+use Rattle.rt_sat.proofs.table.saturated_by.Goals as goal
+
+pub line_edges-requires : goal.line_edges-requires
+line_edges-requires c = side_named c.args.lines.now c.args.extra.now c.in_ok-named.named c.in_ok-named.ensures
+
+pub closed-requires-clause-distinct : goal.closed-requires-clause-distinct
+closed-requires-clause-distinct c = named_distinct c.args.lines.now c.args.extra.now c.in_ok-named.named c.in_ok-named.ensures
+
+pub returns : goal.returns
+returns c =
+    let table : IsTableOf c.args.lines.now c.args.extra.now c.in_ok-named.named c.in_ok-edges.edges.items = record {
+      graph = c.args.shape.now;
+      flips = c.in_ok-flips.flips.items;
+      marks = c.args.marks.now;
+      matters = c.in_ok-matters.matters.items;
+      first = c.in_ok-first.first.items;
+      is_named = c.in_ok-named.ensures;
+      shape = c.requires.shape;
+      flagged = c.in_ok-flips.ensures;
+      marked = c.requires.marked;
+      mattering = c.in_ok-matters.ensures;
+      extra_there = c.requires.there;
+      entered = c.in_ok-first.ensures;
+      closing = c.in_ok-edges.ensures;
+    } in
+    record {
+      layered = record { table = table; counted = search rules };
+      whole = λ h. record { table = table; whole = h };
+    }
+
+pub children-requires : goal.children-requires
+children-requires c = named_distinct c.args.lines.now c.args.extra.now c.in_ok-named.named c.in_ok-named.ensures
