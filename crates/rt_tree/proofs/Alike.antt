@@ -14,11 +14,11 @@ use Rattle.rt_lines.specs.Equality.{label_eq}
 use Rattle.rt_tree.specs.declared.equality.Found.{Found}
 use Rattle.rt_tree.specs.declared.equality.Found.TheVariants.{Same, Unlike, Apart}
 use Rattle.rt_tree.specs.Trees.{Nodes, leaf, edge_of, step_of, walk, marks_of, marks_from, node_at, AreLike, IsEdge, IsNode}
-use Rattle.rt_tree.specs.Pairs.{shifted_edges, ArePaired, InOneClass, IsFound, IsFoundOf, AreClasses, AreClosed, Follows, renamed_class}
+use Rattle.rt_tree.specs.Pairs.{shifted_edges, ArePaired, InOneClass, AreAlikeIn, IsFound, IsFoundOf, AreClasses, AreClosed, Follows, renamed_class}
 use Rattle.rt_tree.proofs.Words.{AreNodes, then_some, node_of, step_in, marked, leads}
 use Rattle.rt_tree.proofs.One.{paired, same_marks}
 
-at_node : (t : Nodes) (x : ℕ) (l : Label) → x < length t → step_of t x l ≡ lookup (label_eq l) (node_at t x).edges
+pub at_node : (t : Nodes) (x : ℕ) (l : Label) → x < length t → step_of t x l ≡ lookup (label_eq l) (node_at t x).edges
 at_node t x l less = ap (option_and_then (edge_of l)) (slice_get-get_or t x (leaf 0 0) less)
 
 pub edges_of : (t : Nodes) → AreNodes t → (x : ℕ) → x < length t → IsNode (length t) (node_at t x)
@@ -105,7 +105,7 @@ found_of class t good x y i j xs ys (Apart m n) less less' e f marks h =
     (rw h.5 (range_at i (length t) xs h.0 h.1 (in_range i (length t) xs (subst (AllByRecursion (IsEdge (length t))) (sym e) (edges_of t good x less).each)) h.3), rw h.6 (range_at j (length t) ys h.0 h.2 (in_range j (length t) ys (subst (AllByRecursion (IsEdge (length t))) (sym f) (edges_of t good y less').each)) h.4), λ like. rw (h.5, h.6) (paired_at (λ m n. AreLike t (i + m) (j + n)) xs ys h.0 h.1 h.2 (like_shifted t good x y i j xs ys less less' e f like) h.3 h.4), h.7)
 
 -- steps of two nodes whose edges are paired
-paired_lookup : (R : ℕ → ℕ → Type 0) (xs ys : List (Label × ℕ)) (l : Label) → ArePaired R xs ys → ((lookup (label_eq l) xs ≡ None) × (lookup (label_eq l) ys ≡ None)) ⊎ ((i : ℕ) × (j : ℕ) × (lookup (label_eq l) xs ≡ Some i) × (lookup (label_eq l) ys ≡ Some j) × R i j)
+pub paired_lookup : (R : ℕ → ℕ → Type 0) (xs ys : List (Label × ℕ)) (l : Label) → ArePaired R xs ys → ((lookup (label_eq l) xs ≡ None) × (lookup (label_eq l) ys ≡ None)) ⊎ ((i : ℕ) × (j : ℕ) × (lookup (label_eq l) xs ≡ Some i) × (lookup (label_eq l) ys ≡ Some j) × R i j)
 paired_lookup R [] [] l h = inl (refl, refl)
 paired_lookup R [] (y ∷ ys) l h = absurd h
 paired_lookup R (x ∷ xs) [] l h = absurd h
@@ -117,24 +117,24 @@ paired_lookup R (x ∷ xs) (y ∷ ys) l h = by (label_eq l x.0) (label_eq l y.0)
     by false true e rest = cc
     by false false e rest = rest
 
-module _ (t : Nodes) (good : AreNodes t) (root : ℕ) (class : List ℕ) (are : AreClasses t root class) (closed : AreClosed t root class) where
+module _ (t : Nodes) (good : AreNodes t) (class : List ℕ) (within : (x : ℕ) → x < length t → slice_index class x < length t) (closed : (x : ℕ) → x < length t → AreAlikeIn class t x (slice_index class x)) where
   -- each node is like the one that names its class
-  named : (w : List Label) (x : ℕ) → x < length t → marks_from t x w ≡ marks_from t (slice_index class x) w
+  pub named : (w : List Label) (x : ℕ) → x < length t → marks_from t x w ≡ marks_from t (slice_index class x) w
   named [] x less =
-      let less' = are.within x less in
+      let less' = within x less in
       ap (option_map marks_of) (slice_get-get_or t x (leaf 0 0) less)
-      ∙ (ap Some (closed.nodes x less).marks ∙ sym (ap (option_map marks_of) (slice_get-get_or t (slice_index class x) (leaf 0 0) less')))
+      ∙ (ap Some (closed x less).marks ∙ sym (ap (option_map marks_of) (slice_get-get_or t (slice_index class x) (leaf 0 0) less')))
   named (l ∷ w) x less =
       by (step_of t x l) (step_of t (slice_index class x) l) steps (λ i p. step_in t good x i l p) (λ i p. step_in t good (slice_index class x) i l p) (λ i inside. named w i inside)
     where
       less' : slice_index class x < length t
-      less' = are.within x less
+      less' = within x less
 
       steps : ((step_of t x l ≡ None) × (step_of t (slice_index class x) l ≡ None)) ⊎ ((i : ℕ) × (j : ℕ) × (step_of t x l ≡ Some i) × (step_of t (slice_index class x) l ≡ Some j) × InOneClass class i j)
       steps =
           subst (λ o. ((o ≡ None) × (step_of t (slice_index class x) l ≡ None)) ⊎ ((i : ℕ) × (j : ℕ) × (o ≡ Some i) × (step_of t (slice_index class x) l ≡ Some j) × InOneClass class i j)) (sym (at_node t x l less))
           (subst (λ o. ((lookup (label_eq l) (node_at t x).edges ≡ None) × (o ≡ None)) ⊎ ((i : ℕ) × (j : ℕ) × (lookup (label_eq l) (node_at t x).edges ≡ Some i) × (o ≡ Some j) × InOneClass class i j)) (sym (at_node t (slice_index class x) l less'))
-          (paired_lookup (InOneClass class) (node_at t x).edges (node_at t (slice_index class x)).edges l (closed.nodes x less).edges))
+          (paired_lookup (InOneClass class) (node_at t x).edges (node_at t (slice_index class x)).edges l (closed x less).edges))
 
       by : (o p : Option ℕ) → ((o ≡ None) × (p ≡ None)) ⊎ ((i : ℕ) × (j : ℕ) × (o ≡ Some i) × (p ≡ Some j) × InOneClass class i j) → ((i : ℕ) → o ≡ Some i → i < length t) → ((i : ℕ) → p ≡ Some i → i < length t) → ((i : ℕ) → i < length t → marks_from t i w ≡ marks_from t (slice_index class i) w) → option_and_then (λ m. option_map marks_of (slice_get t m)) (option_and_then (λ m. walk t m w) o) ≡ option_and_then (λ m. option_map marks_of (slice_get t m)) (option_and_then (λ m. walk t m w) p)
       by o p (inl h) f g rest = ap (λ q. option_and_then (λ m. option_map marks_of (slice_get t m)) (option_and_then (λ m. walk t m w) q)) (h.0 ∙ sym h.1)
@@ -143,8 +143,9 @@ module _ (t : Nodes) (good : AreNodes t) (root : ℕ) (class : List ℕ) (are : 
           ∙ (rest h.0 (f h.0 h.2) ∙ (ap (λ k. marks_from t k w) h.4 ∙ (sym (rest h.1 (g h.1 h.3))
           ∙ sym (ap (λ q. option_and_then (λ m. option_map marks_of (slice_get t m)) (option_and_then (λ m. walk t m w) q)) h.3))))
 
-  pub roots_alike : 0 < length t → root < length t → AreLike t 0 root
-  roots_alike less less' w = named w 0 less ∙ (ap (λ k. marks_from t k w) closed.roots ∙ sym (named w root less'))
+pub roots_alike : (t : Nodes) → AreNodes t → (root : ℕ) (class : List ℕ) → AreClasses t root class → AreClosed t root class → 0 < length t → root < length t → AreLike t 0 root
+roots_alike t good root class are closed less less' w =
+    named t good class are.within closed.nodes w 0 less ∙ (ap (λ k. marks_from t k w) closed.roots ∙ sym (named t good class are.within closed.nodes w root less'))
 
 -- the classes when two of them are made one
 is_renamed : (a b c : ℕ) → c ≡ max a b → renamed_class a b c ≡ min a b

@@ -214,6 +214,12 @@ number_fits Load h = omega arith
 number_fits Store h = omega arith
 number_fits (Field w k) h = h.1
 
+-- labels of one kind with one number are equal
+pub label_by_parts : (k l : Label) → IsLabel k → IsLabel l → rank_of k ≡ rank_of l → number_of k ≡ number_of l → k ≡ l
+label_by_parts k l good good' ranks numbers =
+    let kinds : kind_of k ≡ kind_of l = sym (kind_by_rank (kind_of k)) ∙ (ap kind_at ranks ∙ kind_by_rank (kind_of l)) in
+    sym (label_by k good) ∙ (ap (λ kind. label_from kind (number_of k)) kinds ∙ (ap (label_from (kind_of l)) numbers ∙ label_by l good'))
+
 -- lists that compare as equal are equal
 one_list : (xs ys : List ℕ) → slice_cmp nat_cmp xs ys ≡ Equal → xs ≡ ys
 one_list [] [] e = refl

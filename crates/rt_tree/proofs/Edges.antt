@@ -1,5 +1,5 @@
 -- Edges in order, and one more among them.
-use Rattle.std.proofs.Common.{◌≡◌, ℕ, suc, ◌<◌, ◌≤◌, Bool, true, false, cond, Option, Some, None, List, [], ◌∷◌, ◌++◌, length, take, drop, refl, sym, ap, subst, ◌∙◌, arith}
+use Rattle.std.proofs.Common.{◌≡◌, ℕ, zero, suc, ◌<◌, ◌≤◌, Bool, true, false, cond, Option, Some, None, List, [], ◌∷◌, ◌++◌, length, get_or, take, drop, refl, sym, ap, subst, ◌∙◌, arith}
 use Rattle.std.specs.List.{AllByRecursion}
 use Rattle.std.specs.Map.{lookup}
 use Rattle.std.specs.Cmp.{IsTotalOrder}
@@ -35,6 +35,11 @@ less_chain j k l p q = labels_total.trans j k l p q
 pub each_weaker : {X : Type 0} (P Q : X → Type 0) → ((x : X) → P x → Q x) → (xs : List X) → AllByRecursion P xs → AllByRecursion Q xs
 each_weaker P Q f [] h = tt
 each_weaker P Q f (x ∷ xs) h = (f x h.0, each_weaker P Q f xs h.1)
+
+pub each_at : {X : Type 0} (P : X → Type 0) (xs : List X) (k : ℕ) (d : X) → k < length xs → AllByRecursion P xs → P (get_or xs k d)
+each_at P [] k d less h = absurd (omega arith)
+each_at P (x ∷ xs) zero d less h = h.0
+each_at P (x ∷ xs) (suc k) d less h = each_at P xs k d (omega arith) h.1
 
 pub each_with : (P : Label × ℕ → Type 0) (edges : List (Label × ℕ)) (l : Label) (to : ℕ) → AllByRecursion P edges → P (l, to) → AllByRecursion P (with_edge edges l to)
 each_with P [] l to h p = (p, tt)

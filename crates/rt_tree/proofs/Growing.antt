@@ -1,5 +1,5 @@
 -- Trees stay trees when they grow.
-use Rattle.std.proofs.Common.{◌≡◌, ℕ, ◌⊎◌, inl, inr, zero, suc, ◌+◌, ◌<◌, ◌≤◌, ◌^◌, None, All, [], ◌∷◌, ◌++◌, length, set, refl, sym, ap, subst, ◌∙◌, arith, length-append}
+use Rattle.std.proofs.Common.{◌≡◌, ℕ, zero, suc, ◌+◌, ◌<◌, ◌≤◌, ◌^◌, None, All, [], ◌∷◌, ◌++◌, length, set, refl, sym, ap, subst, ◌∙◌, arith, length-append}
 use Rattle.std.specs.List.{slice_get}
 use Rattle.std.specs.Option.{option_and_then}
 use Rattle.std.specs.Map.{lookup}
@@ -41,28 +41,20 @@ none_at : (tree : Nodes) (n : ℕ) (l : Label) → n < length tree → step_of t
 none_at tree n l less e = sym (ap (option_and_then (edge_of l)) (slice_get-get_or tree n (leaf 0 0) less)) ∙ e
 
 -- with one edge more, of a label that the node has no edge of
+pub joined_nodes : (tree : Nodes) (from : ℕ) (l : Label) (to : ℕ) → All (IsNode (length tree)) tree → from < length tree → IsLabel l → to < length tree → step_of tree from l ≡ None → All (IsNode (length (joined tree from l to))) (joined tree from l to)
+joined_nodes tree from l to good less label less' none =
+    let node = longer_node (node_at tree from) l to in
+    let was : IsNode (length tree) (node_at tree from) = All-get_or (IsNode (length tree)) tree from (leaf 0 0) less good in
+    let now : IsNode (length tree) node = edges_with (length tree) (node_at tree from).edges l to was label less' (none_at tree from l less none) in
+    subst (λ n. All (IsNode n) (set tree from node)) (sym (length-set tree from node)) (All-set (IsNode (length tree)) tree from node now good)
+
 pub with_joined : (tree : Nodes) (from : ℕ) (l : Label) (to : ℕ) → IsTree tree → from < length tree → IsLabel l → to < length tree → step_of tree from l ≡ None → IsTree (joined tree from l to)
 with_joined tree from l to good less label less' none =
-    let node = longer_node (node_at tree from) l to in
-    let same : length (set tree from node) ≡ length tree = length-set tree from node in
-    let was : IsNode (length tree) (node_at tree from) = All-get_or (IsNode (length tree)) tree from (leaf 0 0) less good.nodes in
-    let now : IsNode (length tree) node = edges_with (length tree) (node_at tree from).edges l to was label less' (none_at tree from l less none) in
+    let same : length (joined tree from l to) ≡ length tree = length-set tree from (longer_node (node_at tree from) l to) in
     record {
       rooted = subst (λ n. 0 < n) (sym same) good.rooted;
       numbered = subst (λ n. n < 2 ^ 32) (sym same) good.numbered;
-      nodes = subst (λ n. All (IsNode n) (set tree from node)) (sym same) (All-set (IsNode (length tree)) tree from node now good.nodes);
-    }
-
--- with the edge, or as it was for want of memory
-pub with_edge_or_same : (tree : Nodes) (from : ℕ) (l : Label) (to : ℕ) (node : Node) → IsTree tree → from < length tree → IsLabel l → to < length tree → step_of tree from l ≡ None → (node ≡ longer_node (node_at tree from) l to) ⊎ (node ≡ node_at tree from) → IsTree (set tree from node)
-with_edge_or_same tree from l to node good less label less' none (inl e) = subst (λ n. IsTree (set tree from n)) (sym e) (with_joined tree from l to good less label less' none)
-with_edge_or_same tree from l to node good less label less' none (inr e) =
-    let same : length (set tree from node) ≡ length tree = length-set tree from node in
-    let was : IsNode (length tree) node = subst (IsNode (length tree)) (sym e) (All-get_or (IsNode (length tree)) tree from (leaf 0 0) less good.nodes) in
-    record {
-      rooted = subst (λ n. 0 < n) (sym same) good.rooted;
-      numbered = subst (λ n. n < 2 ^ 32) (sym same) good.numbered;
-      nodes = subst (λ n. All (IsNode n) (set tree from node)) (sym same) (All-set (IsNode (length tree)) tree from node was good.nodes);
+      nodes = joined_nodes tree from l to good.nodes less label less' none;
     }
 
 -- what a node has, it has in a longer tree too

@@ -2,8 +2,14 @@ pub mod Comparing
 pub mod Edges
 pub mod Words
 pub mod Growing
+pub mod Reaching
 pub mod One
 pub mod Machines
 pub mod Both
 pub mod Alike
 pub mod Sound
+pub mod Rows
+pub mod Firsts
+pub mod Coarse
+pub mod Numbers
+pub mod Quotients

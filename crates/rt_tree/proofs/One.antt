@@ -176,7 +176,7 @@ stood R match (x ∷ xs) (y ∷ ys) pairs before m n fixed (inr p) (inr q) =
     more : (x y : Label × ℕ) (xs ys : List (Label × ℕ)) (m n : ℕ) → x.1 ≡ y.1 → x.0 ≡ y.0 → Stood R xs ys m n → Stood R (x ∷ xs) (y ∷ ys) m n
     more x y xs ys m n ends labels rest = record { edges = rw (same_edge x y labels ends, rest.edges) refl; counts = rest.counts; fixed = rest.fixed }
 
-at_drop : {X : Type 0} (xs : List X) (n : ℕ) (x : X) (rest : List X) → drop n xs ≡ x ∷ rest → (slice_get xs n ≡ Some x) × (drop (suc n) xs ≡ rest)
+pub at_drop : {X : Type 0} (xs : List X) (n : ℕ) (x : X) (rest : List X) → drop n xs ≡ x ∷ rest → (slice_get xs n ≡ Some x) × (drop (suc n) xs ≡ rest)
 at_drop [] zero x rest e = cc
 at_drop [] (suc n) x rest e = cc
 at_drop {X} (y ∷ xs) zero x rest e = let h : y ≡ x = cc in let t : xs ≡ rest = cc in (rw h refl, t)

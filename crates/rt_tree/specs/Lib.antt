@@ -4,3 +4,5 @@ pub mod Trees
 pub mod Pairs
 pub mod Rooms
 pub mod Laws
+pub mod Partitions
+pub mod Quotients

@@ -39,6 +39,18 @@ impl Entry {
         }
     }
 
+    /// The node with these marks, the lower one first, and these edges.
+    pub(crate) fn of(mark: (u16, u16), edges: Vec<(Label, u32)>) -> Entry
+        ensures marks { marks_of result ≡ mark }
+        ensures edges { result.edges ≡ edges.items }
+    {
+        Entry {
+            low: mark.0,
+            up: mark.1,
+            edges,
+        }
+    }
+
     /// Its marks, the lower one first.
     pub(crate) fn mark(&self) -> (u16, u16)
         ensures { result ≡ marks_of self.now }

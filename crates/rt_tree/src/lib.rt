@@ -6,8 +6,16 @@ mod entry;
 mod equality;
 pub mod laws;
 mod order;
+mod parting;
+mod quotient;
+mod refining;
 mod spreading;
 mod tree;
 
 pub use equality::{Work, equal};
+pub use parting::{Graph, Partition};
+pub use quotient::minimal;
 pub use tree::Tree;
+
+#[cfg(test)]
+mod tests;

@@ -12,7 +12,7 @@ use rt_lines::{Label, Loc};
 use std::cmp::Ordering;
 
 // Which of the kinds of labels this is, in the order of their texts.
-fn rank(label: Label) -> u8
+pub(crate) fn rank(label: Label) -> u8
     ensures { result ≡ rank_of label }
 {
     match label {
@@ -28,7 +28,7 @@ fn rank(label: Label) -> u8
 }
 
 // The number in a label's text.
-fn number(label: Label) -> i32
+pub(crate) fn number(label: Label) -> i32
     requires { IsLabel label }
     ensures { result ≡ number_of label }
 {

@@ -1,7 +1,7 @@
 // Trees.
 ghost use Rattle.std.specs.Prelude.{◌≡◌, ◌∷◌, ◌<◌, [], IfOk, OnOk, OnErr, None, length};
 ghost use Rattle.rt_lines.specs.Words.{IsLabel};
-ghost use Rattle.rt_tree.specs.Trees.{leaf, step_of, node_at, marks_of, joined, grown, IsTree};
+ghost use Rattle.rt_tree.specs.Trees.{leaf, step_of, node_at, marks_of, joined, grown, IsTree, IsReachedTree};
 
 use crate::entry::Entry;
 use rt_base::Memory;
@@ -10,20 +10,21 @@ use std::alloc::{AllocError, Global};
 use std::marker::Model;
 
 /// A regular tree: nodes, which are the numbers below a count, with marks and with edges by labels. Node 0 is the root. A node
-/// has at most one edge of a label, and each edge leads to a node. Contracts see the list of the nodes.
+/// has at most one edge of a label, each edge leads to a node, and some word leads to each node from the root. Contracts see the
+/// list of the nodes.
 #[derive(Drop)]
 pub struct Tree {
     nodes: Vec<Entry>,
 }
 
 impl Model for Tree {
-    ghost use Rattle.rt_tree.specs.Trees.{Nodes, IsTree};
+    ghost use Rattle.rt_tree.specs.Trees.{Nodes, IsReachedTree};
 
     ghost Value = { Nodes };
 
     ghost view = { λ t. t.nodes.items };
 
-    ghost invariant = { λ t. IsTree t.nodes.items };
+    ghost invariant = { λ t. IsReachedTree t.nodes.items };
 }
 
 impl Tree {
@@ -52,7 +53,7 @@ impl Tree {
         }
         let alloc = *self.nodes.allocator();
         self.nodes.push(Entry::new(alloc, low, up))?;
-        match self.edge(from, label, number) {
+        match self.nodes[from as usize].add(*label, number) {
             Ok(()) => Ok(number),
             Err(why) => {
                 self.nodes.pop();
@@ -77,6 +78,7 @@ impl Tree {
     pub fn size(&self) -> u32
         ensures count { result ≡ length self.now }
         ensures tree { IsTree self.now }
+        ensures reached { IsReachedTree self.now }
     {
         self.nodes.len() as u32
     }
@@ -95,5 +97,21 @@ impl Tree {
         ensures { result.now ≡ (node_at self.now node).edges }
     {
         self.nodes[node as usize].edges()
+    }
+
+    // The nodes.
+    pub(crate) fn nodes(&self) -> &[Entry]
+        ensures nodes { result.now ≡ self.now }
+        ensures tree { IsTree result.now }
+    {
+        self.nodes.as_slice()
+    }
+
+    // The tree of these nodes.
+    pub(crate) fn of(nodes: Vec<Entry>) -> Tree
+        requires { IsReachedTree nodes.items }
+        ensures { result ≡ nodes.items }
+    {
+        Tree { nodes }
     }
 }
