@@ -1,0 +1,10 @@
+pub mod Loosely
+pub mod Paths
+pub mod Eliminating
+pub mod Entering
+pub mod Known
+pub mod Steps
+pub mod Sound
+pub mod Marks
+pub mod Flat
+pub mod Lawful
