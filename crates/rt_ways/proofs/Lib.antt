@@ -1,0 +1,10 @@
+pub mod Following
+pub mod Entering
+pub mod Pushing
+pub mod Closed
+pub mod Knowing
+pub mod Noding
+pub mod Hubs
+pub mod Meaning
+pub mod Backwards
+pub mod Netted
