@@ -1,0 +1,107 @@
+-- How outer arcs are built: nodes with more behind them, arcs with more.
+use Rattle.std.proofs.Common.{◌≡◌, ℕ, zero, suc, ◌<◌, ◌≤◌, inl, inr, Bool, true, List, [], ◌∷◌, ◌++◌, Option, Some, None, length, replicate, sym, ap, subst, ◌∙◌, arith}
+use Rattle.std.specs.Prelude.{slice_get}
+use Rattle.rt_lines.specs.declared.label.Label.{Label}
+use Rattle.rt_lines.specs.declared.variable.Dtv.{Dtv}
+use Rattle.rt_lines.specs.declared.line.Line.{Line}
+use Rattle.rt_named.specs.Naming.{named as named_by}
+use Rattle.rt_shape.specs.Graphs.{Graph}
+use Rattle.rt_shape.specs.Shapes.{IsShapeOf}
+use Rattle.rt_outline.specs.declared.arc.Arc.{Arc}
+use Rattle.rt_outline.specs.Arcs.{HasArc}
+use Rattle.rt_outline.specs.Enclosing.{IsOuter}
+use Rattle.rt_outline.specs.Frames.{Origins, IsMade, IsClosed, IsPushedMore, IsStepped, AreOriginsOf, AreKept, AreLinesKept, AreMore, HavePointers, IsPointerPair}
+use Rattle.rt_outline.specs.Hubs.{HasAccess, HaveHubs, IsGrownBy}
+use Rattle.rt_outline.specs.Lines.{AreLineArcs}
+use Rattle.rt_outline.specs.Nodes.{AreClassesOf, AreFlipsOf}
+use Rattle.rt_outline.proofs.Outer.{outer_of}
+use Rattle.rt_outline.proofs.Standing.{all_set}
+
+slice_left : {X : Type 0} (xs ys : List X) (n : ℕ) (x : X) → slice_get xs n ≡ Some x → slice_get (xs ++ ys) n ≡ Some x
+slice_left [] ys n x e = absurd (cc)
+slice_left (z ∷ xs) ys zero x e = e
+slice_left (z ∷ xs) ys (suc n) x e = slice_left xs ys n x e
+
+slice_before : {X : Type 0} (xs ys : List X) (n : ℕ) (x : X) → n < length xs → slice_get (xs ++ ys) n ≡ Some x → slice_get xs n ≡ Some x
+slice_before [] ys n x h e = absurd (omega (arith, h))
+slice_before (z ∷ xs) ys zero x h e = e
+slice_before (z ∷ xs) ys (suc n) x h e = slice_before xs ys n x (omega (arith, h)) e
+
+pub grown_made : (old new more : Origins) → new ≡ old ++ more → (n p : ℕ) (l : Label) → IsMade old n p l → IsMade new n p l
+grown_made old new more e n p l m = ap (λ (xs : Origins). slice_get xs n) e ∙ slice_left old more n (Some (p, l)) m
+
+pub grown_access : (old new more : Origins) → new ≡ old ++ more → (n : ℕ) → HasAccess old n → HasAccess new n
+grown_access old new more e n a = ((a.0.0, grown_made old new more e a.0.0 n _ a.0.1), (a.1.0, grown_made old new more e a.1.0 n _ a.1.1))
+
+longer_list : {X : Type 0} (xs ys : List X) → length xs ≤ length (xs ++ ys)
+longer_list [] ys = omega arith
+longer_list (x ∷ xs) ys = let h : length xs ≤ length (xs ++ ys) = longer_list xs ys in omega (arith, h)
+
+pub grown_length : (old new more : Origins) → new ≡ old ++ more → length old ≤ length new
+grown_length old new more e = subst (λ (xs : Origins). length old ≤ length xs) (sym e) (longer_list old more)
+
+-- what a named variable is made of is before it, though there are more nodes
+pub made_before : (known : List Dtv) (first new more : Origins) → AreOriginsOf known first → new ≡ first ++ more → (n p : ℕ) (l : Label) → n < length known → IsMade new n p l → p < n
+made_before known first new more are e n p l h m =
+    (are.only n p l (slice_before first more n (Some (p, l)) (omega (arith, h, are.each)) (sym (ap (λ (xs : Origins). slice_get xs n) e) ∙ m))).0
+
+pub hubs_kept : (origins : Origins) (arcs next : List (List Arc)) (classes : List (Option ℕ)) (flips : List Bool) → AreKept arcs next → HaveHubs origins arcs classes flips → HaveHubs origins next classes flips
+hubs_kept origins arcs next classes flips kept have = (have.0, have.1, λ n f key e. (let r = have.2 n f key e in (r.0, r.1, kept r.0 n None r.2)))
+
+-- before the arcs of lines are entered there are none
+pub lines_absent : (lines : List Line) (named : List Dtv) (arcs : List (List Arc)) → ((v w i : ℕ) → HasArc arcs v w (Some i) → ⊥) → AreLineArcs lines 0 named arcs
+lines_absent lines named arcs none = record { all = λ i x y h f. absurd (omega (arith, h)); only = λ v w i c. absurd (none v w i c) }
+
+pub lines_kept : (lines : List Line) (count : ℕ) (named : List Dtv) (arcs next : List (List Arc)) → AreKept arcs next → AreLinesKept arcs next → AreLineArcs lines count named arcs → AreLineArcs lines count named next
+lines_kept lines count named arcs next kept same are = record {
+  all = λ i x y h f. (let r = are.all i x y h f in (r.0, r.1, r.2, r.3, kept r.0 r.1 (Some i) r.4));
+  only = λ v w i c. are.only v w i (same v w i c);
+}
+
+-- pointers enter no arcs of lines
+pub pointers_lines : (origins : Origins) (arcs next : List (List Arc)) → AreMore (IsPointerPair origins) arcs next → AreLinesKept arcs next
+pointers_lines origins arcs next more v w i c = elim (more v w (Some i) c) [ inl d ↦ d | inr p ↦ absurd (let e : Some i ≡ None = p.0 in cc) ]
+
+pub pointers_kept : (origins : Origins) (arcs next : List (List Arc)) → AreKept arcs next → HavePointers origins arcs → HavePointers origins next
+pointers_kept origins arcs next kept have p v w m n = kept v w None (have p v w m n)
+
+-- what the steps of building give
+pub built : (lines : List Line) (extra known : List Dtv) (is : known ≡ named_by lines extra) (graph : Graph) (shape : IsShapeOf lines graph)
+    (classes : List (Option ℕ)) (flips : List Bool) (classed : AreClassesOf graph known classes) (flagged : AreFlipsOf graph classes flips)
+    (first stepped grown lined pointed last : Origins) (none some hubbed entered opened all : List (List Arc)) (are : AreOriginsOf known first)
+    (steps : IsStepped first none stepped some) (accesses : (n : ℕ) → slice_get flips n ≡ Some true → HasAccess stepped n)
+    (grows : IsGrownBy stepped some grown hubbed) (hubs : HaveHubs grown hubbed classes flips)
+    (same_lined : lined ≡ grown) (are_lines : AreLineArcs lines (length lines) known entered) (kept : AreKept hubbed entered)
+    (same_pointed : pointed ≡ lined) (kept_opened : AreKept entered opened) (pointers : HavePointers pointed opened) (only : AreMore (IsPointerPair lined) entered opened)
+    (same_last : last ≡ pointed) (stands : List Bool) (pushed : IsPushedMore pointed stands opened all) (closed : IsClosed last all stands)
+    (whole : stands ≡ replicate (length lines) true) →
+    IsOuter lines known all × AreLineArcs lines (length lines) known all × (length known ≤ length last)
+built lines extra known is graph shape classes flips classed flagged first stepped grown lined pointed last none some hubbed entered opened all are
+    steps accesses grows hubs same_lined are_lines kept same_pointed kept_opened pointers only same_last stands pushed closed whole = (
+      outer_of lines extra known is graph shape classes flips classed flagged first last are behind all stands (all_set stands (length lines) whole) closed
+          (pointers_kept last opened all pushed.kept (subst (λ (os : Origins). HavePointers os opened) (sym same_last) pointers))
+          (λ n f. subst (λ (os : Origins). HasAccess os n) (sym same) (grown_access stepped grown grows.more grows.behind n (accesses n f)))
+          (hubs_kept last hubbed all classes flips (λ v w line c. pushed.kept v w line (kept_opened v w line (kept v w line c)))
+          (subst (λ (os : Origins). HaveHubs os hubbed classes flips) (sym same) hubs)) lines_all,
+      lines_all,
+      subst (λ (os : Origins). length known ≤ length os) (sym same) longer_known,
+    )
+  where
+    same : last ≡ grown
+    same = same_last ∙ same_pointed ∙ same_lined
+
+    behind : (n p : ℕ) (l : Label) → IsMade first n p l → IsMade last n p l
+    behind n p l m =
+        subst (λ (os : Origins). IsMade os n p l) (sym same)
+        (grown_made stepped grown grows.more grows.behind n p l (grown_made first stepped steps.more steps.behind n p l m))
+
+    lines_all : AreLineArcs lines (length lines) known all
+    lines_all =
+        lines_kept lines (length lines) known opened all pushed.kept pushed.lines
+        (lines_kept lines (length lines) known entered opened kept_opened (pointers_lines lined entered opened only) are_lines)
+
+    longer_known : length known ≤ length grown
+    longer_known =
+        let h : length first ≤ length stepped = grown_length first stepped steps.more steps.behind in
+        let k : length stepped ≤ length grown = grown_length stepped grown grows.more grows.behind in
+        omega (arith, are.each, h, k)

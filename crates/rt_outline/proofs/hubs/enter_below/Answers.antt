@@ -1,0 +1,16 @@
+use Rattle.std.proofs.Common.{◌<◌, length, arith}
+use Rattle.rt_outline.proofs.Gathered.{grown_joined, hub_at}
+use Rattle.rt_outline.proofs.hubs.enter_below.Goals as goal
+
+pub returns-in_ok-join-in-Some-clause-more : goal.returns-in_ok-join-in-Some-clause-more
+returns-in_ok-join-in-Some-clause-more c =
+    grown_joined c.args.frame.now.origins.items c.hub_of.new.frame.origins.items c.join.new.self.origins.items c.args.frame.now.arcs.items c.hub_of.new.frame.arcs.items c.join.new.self.arcs.items
+    c.in_ok-hub-in-Some.hub c.args.node c.in_ok-hub-in-Some.ensures.more c.in_ok-join-in-Some.ensures.origins c.in_ok-join-in-Some.ensures.added
+
+pub returns-in_ok-join-in-Some-clause-joined : goal.returns-in_ok-join-in-Some-clause-joined
+returns-in_ok-join-in-Some-clause-joined c =
+    let grown = grown_joined c.args.frame.now.origins.items c.hub_of.new.frame.origins.items c.join.new.self.origins.items c.args.frame.now.arcs.items c.hub_of.new.frame.arcs.items c.join.new.self.arcs.items
+    c.in_ok-hub-in-Some.hub c.args.node c.in_ok-hub-in-Some.ensures.more c.in_ok-join-in-Some.ensures.origins c.in_ok-join-in-Some.ensures.added in
+    let small : c.args.node < length c.args.frame.now.origins.items = omega (arith, c.requires.node, c.requires.flips) in
+    hub_at c.args.frame.now.origins.items grown.more c.join.new.self.origins.items c.join.new.self.arcs.items c.args.classes.now c.args.flips.now c.hub_of.new.hubs.entries c.args.node c.in-Some.key c.in_ok-hub-in-Some.hub
+    grown.behind small c.in-Some.ensures c.in_ok-hub-in-Some.ensures.found c.in_ok-join-in-Some.ensures.added.added

@@ -1,0 +1,18 @@
+use Rattle.std.proofs.Common.{sym, subst}
+use Rattle.std.proofs.lemmas.Option.{get_or_from_slice_get, slice_get_within}
+use Rattle.rt_outline.specs.Arcs.{IsLeft, Leads}
+use Rattle.rt_outline.proofs.Following.{past_end, spreading_first, spreading_next, spreading_whole}
+use Rattle.rt_outline.proofs.spreading.spread.Goals as goal
+
+pub loop-i-init : goal.loop-i-init
+loop-i-init c = spreading_first (Leads c.args.arcs.now c.args.stands.now c.args.pushed) c.args.found.now
+
+pub returns-in_default : goal.returns-in_default
+returns-in_default c =
+    spreading_whole (Leads c.args.arcs.now c.args.stands.now c.args.pushed) c.args.found.now c.loop-i.found c.loop-i.i (past_end c.loop-i.found c.loop-i.i (sym c.in_default.ensures)) c.loop-i.invariant
+
+pub loop-i-preserved : goal.loop-i-preserved
+loop-i-preserved c =
+    spreading_next (Leads c.args.arcs.now c.args.stands.now c.args.pushed) c.args.found.now c.loop-i.found c.leave.new.found c.loop-i.i (slice_get_within c.loop-i.found c.loop-i.i c.in-Some.next (sym c.in-Some.ensures))
+    (subst (λ n. IsLeft (Leads c.args.arcs.now c.args.stands.now c.args.pushed n) c.loop-i.found c.leave.new.found) (sym (get_or_from_slice_get c.loop-i.found c.loop-i.i c.in-Some.next 0 (sym c.in-Some.ensures))) c.in_ok-leave.ensures)
+    c.loop-i.invariant

@@ -1,0 +1,34 @@
+-- Classes of named variables by the shape of lines.
+use Rattle.std.specs.Prelude.{◌≡◌, ℕ, ◌<◌, List, Bool, ◌&&◌, false, Option, Some, None, is_some, length, slice_index_or}
+use Rattle.rt_lines.specs.declared.label.Label.{Label}
+use Rattle.rt_lines.specs.declared.label.Label.TheVariants.{Load, Store}
+use Rattle.rt_lines.specs.declared.variable.Dtv.{Dtv}
+use Rattle.rt_named.specs.Origins.{no_variable}
+use Rattle.rt_named.specs.declared.origin.Origin.{Origin}
+use Rattle.rt_named.specs.declared.origin.Origin.TheVariants.{Bare, Longer}
+use Rattle.rt_shape.specs.Graphs.{Graph, bare, node_of, step_of}
+
+-- the node after a node, if there is one
+abbrev pub stepped : Graph → Option ℕ → Label → Option ℕ
+stepped graph None l = None
+stepped graph (Some n) l = step_of graph n l
+
+-- the node of a variable that is made of an earlier one, by the nodes of those
+abbrev pub node_made : Graph → List (Option ℕ) → Origin → Option ℕ
+node_made graph nodes (Bare b) = node_of graph (bare b)
+node_made graph nodes (Longer n l) = stepped graph (slice_index_or nodes n None) l
+
+-- the node has a load and a store
+abbrev pub flips_at : Graph → Option ℕ → Bool
+flips_at graph None = false
+flips_at graph (Some n) = is_some (step_of graph n Load) && is_some (step_of graph n Store)
+
+-- the class of each named variable is its node
+pub record AreClassesOf (graph : Graph) (named : List Dtv) (classes : List (Option ℕ)) : Type 0 where
+  pub each : length classes ≡ length named
+  pub class : (n : ℕ) → n < length named → slice_index_or classes n None ≡ node_of graph (slice_index_or named n no_variable)
+
+-- each flag says whether its class has a load and a store
+pub record AreFlipsOf (graph : Graph) (classes : List (Option ℕ)) (flips : List Bool) : Type 0 where
+  pub each : length flips ≡ length classes
+  pub flag : (n : ℕ) → n < length classes → slice_index_or flips n false ≡ flips_at graph (slice_index_or classes n None)

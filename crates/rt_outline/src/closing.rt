@@ -1,0 +1,106 @@
+// Arcs with all that is pushed from their ways.
+ghost use Rattle.std.specs.Prelude.{◌≡◌, ℕ, ◌<◌, false, [], Contains, IfOk, OnOk, length};
+ghost use Rattle.rt_outline.specs.Frames.{AreKept, AreMore, IsClosed, IsFrame, IsPushedMore};
+ghost use Rattle.rt_outline.specs.Sweeps.{IsDoneAt};
+
+use crate::arc::Arc;
+use crate::frame::Frame;
+use crate::sweeping::{Room, ends};
+use rt_base::Memory;
+use std::alloc::{AllocError, Global};
+
+// More passes than can be made.
+const PASSES: u64 = 0xff_ffff_ffff;
+
+// Adds pushed arcs until ways of them lead wherever something is pushed from a way of arcs. A pass adds few arcs of a node,
+// to the nearest of these alone, and the next pass twice as many: where ways of pushed arcs lead there need be none.
+pub(crate) fn close(alloc: Global, frame: &mut Frame, stands: &[bool]) -> Result<(), Memory>
+    requires { IsFrame frame.old.origins.items frame.old.steps.entries frame.old.arcs.items frame.old.back.items }
+    ensures frame { OnOk result (IsFrame frame.new.origins.items frame.new.steps.entries frame.new.arcs.items frame.new.back.items) }
+    ensures origins { OnOk result (frame.new.origins.items ≡ frame.old.origins.items) }
+    ensures more { OnOk result (IsPushedMore frame.old.origins.items stands.now frame.old.arcs.items frame.new.arcs.items) }
+    ensures closed { OnOk result (IsClosed frame.new.origins.items frame.new.arcs.items stands.now) }
+{
+    let mut limit: usize = 1;
+    for _round in 0..PASSES {
+        let added = pass(alloc, frame, stands, limit)?;
+        if !added {
+            return Ok(());
+        }
+        limit = limit.saturating_mul(2);
+    }
+    Err(AllocError)
+}
+
+// Adds what is pushed to the nearest nodes from each node, those first of which others are made. Whether there was any.
+fn pass(alloc: Global, frame: &mut Frame, stands: &[bool], limit: usize) -> Result<bool, Memory>
+    requires limit { 0 < limit }
+    requires frame { IsFrame frame.old.origins.items frame.old.steps.entries frame.old.arcs.items frame.old.back.items }
+    ensures frame { OnOk result (IsFrame frame.new.origins.items frame.new.steps.entries frame.new.arcs.items frame.new.back.items) }
+    ensures origins { OnOk result (frame.new.origins.items ≡ frame.old.origins.items) }
+    ensures more { OnOk result (IsPushedMore frame.old.origins.items stands.now frame.old.arcs.items frame.new.arcs.items) }
+    ensures closed { IfOk result (λ added. added ≡ false → IsClosed frame.new.origins.items frame.new.arcs.items stands.now) }
+{
+    let count = frame.origins.len();
+    let mut room = Room::new(alloc, count)?;
+    let mut added = false;
+    for node in 0..count as u32 {
+        if push_node(alloc, frame, stands, &mut room, node, limit)? {
+            added = true;
+        }
+    }
+    Ok(added)
+}
+
+// Adds what is pushed to the nearest nodes from one node. Whether there was any.
+fn push_node(
+    alloc: Global,
+    frame: &mut Frame,
+    stands: &[bool],
+    room: &mut Room,
+    node: u32,
+    limit: usize,
+) -> Result<bool, Memory>
+    requires limit { 0 < limit }
+    requires frame { IsFrame frame.old.origins.items frame.old.steps.entries frame.old.arcs.items frame.old.back.items }
+    requires node { node < length frame.old.origins.items }
+    ensures frame { OnOk result (IsFrame frame.new.origins.items frame.new.steps.entries frame.new.arcs.items frame.new.back.items) }
+    ensures origins { OnOk result (frame.new.origins.items ≡ frame.old.origins.items) }
+    ensures steps { frame.new.steps.entries ≡ frame.old.steps.entries }
+    ensures more { OnOk result (IsPushedMore frame.old.origins.items stands.now frame.old.arcs.items frame.new.arcs.items) }
+    ensures done { IfOk result (λ added. added ≡ false → (frame.new.arcs.items ≡ frame.old.arcs.items) ×
+        IsDoneAt frame.old.origins.items frame.old.steps.entries frame.old.arcs.items stands.now node) }
+{
+    match frame.origins[node as usize] {
+        Some(origin) => {
+            let fresh = ends(alloc, frame, stands, room, node, origin, limit)?;
+            enter(frame, node, &fresh)?;
+            Ok(!fresh.is_empty())
+        }
+        None => Ok(false),
+    }
+}
+
+// Adds pushed arcs from a node.
+fn enter(frame: &mut Frame, node: u32, fresh: &[u32]) -> Result<(), Memory>
+    requires frame { IsFrame frame.old.origins.items frame.old.steps.entries frame.old.arcs.items frame.old.back.items }
+    requires node { node < length frame.old.origins.items }
+    requires within { (w : ℕ) → Contains fresh.now w → w < length frame.old.origins.items }
+    ensures frame { OnOk result (IsFrame frame.new.origins.items frame.new.steps.entries frame.new.arcs.items frame.new.back.items) }
+    ensures origins { frame.new.origins.items ≡ frame.old.origins.items }
+    ensures steps { frame.new.steps.entries ≡ frame.old.steps.entries }
+    ensures kept { OnOk result (AreKept frame.old.arcs.items frame.new.arcs.items) }
+    ensures more { OnOk result (AreMore (λ v w. (v ≡ node) × Contains fresh.now w) frame.old.arcs.items frame.new.arcs.items) }
+    ensures none { fresh.now ≡ [] → frame.new.arcs.items ≡ frame.old.arcs.items }
+{
+    for target in fresh {
+        frame.join(
+            node,
+            Arc {
+                to: *target,
+                line: None,
+            },
+        )?;
+    }
+    Ok(())
+}

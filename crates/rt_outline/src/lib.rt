@@ -1,0 +1,26 @@
+//! Arcs between the variables that lines name which enclose derivability of `X <= Y` from inside and from outside, without
+//! counts. The inner ones have derivable pairs alone; the outer ones lead wherever a pair is derivable, also from some of
+//! the lines. Both are closed under what is pushed from ways of arcs behind a letter.
+#![tactic(auto)]
+
+mod adding;
+mod arc;
+mod classes;
+mod closing;
+mod entering;
+mod found;
+mod frame;
+mod grouping;
+mod hubs;
+mod led;
+mod lower;
+mod nodes;
+mod spreading;
+mod sweeping;
+mod upper;
+
+pub use arc::Arc;
+pub use grouping::{Classes, together};
+pub use led::Led;
+pub use lower::Lower;
+pub use upper::Upper;

@@ -1,0 +1,122 @@
+// Outer arcs.
+ghost use Rattle.std.specs.Prelude.{◌≡◌, ◌∷◌, [], Contains, IfOk};
+ghost use Rattle.rt_lines.specs.declared.variable.Dtv.{Dtv as Variable};
+ghost use Rattle.rt_lines.specs.Orders.{Below};
+ghost use Rattle.rt_named.specs.Naming.{named};
+ghost use Rattle.rt_outline.specs.Equal.{AreOuterEquals};
+ghost use Rattle.rt_outline.specs.Lines.{HasBelow, standing};
+ghost use Rattle.rt_outline.specs.declared.led.Led.TheVariants.{No as Never, Yes as Always};
+
+use crate::classes::classes;
+use crate::closing::close;
+use crate::entering::{enter_lines, enter_pointers, number, numbers};
+use crate::frame::Frame;
+use crate::grouping::Classes;
+use crate::hubs::{enter_accesses, enter_hubs};
+use crate::led::Led;
+use crate::lower::copied;
+use crate::nodes::{flips, shape_classes};
+use crate::spreading::between;
+use rt_base::Memory;
+use rt_lines::{Dtv, Line};
+use rt_named::Named;
+use std::alloc::Global;
+use std::marker::Model;
+
+/// Arcs between the variables that lines name, and hubs, which lead wherever some of the lines say that one variable lies
+/// below another.
+#[derive(Drop)]
+pub struct Upper {
+    lines: Vec<Line>,
+    named: Named,
+    frame: Frame,
+}
+
+impl Model for Upper {
+    ghost use Rattle.std.specs.Prelude.{◌≤◌, length};
+    ghost use Rattle.rt_outline.specs.Lines.{AreLineArcs, Lined};
+    ghost use Rattle.rt_outline.specs.Enclosing.{IsOuter};
+    ghost use Rattle.rt_outline.specs.Frames.{IsFrame};
+
+    ghost Value = { Lined };
+
+    ghost view = { λ t. record { lines = t.lines.items; named = t.named } };
+
+    ghost invariant = { λ t. IsOuter t.lines.items t.named t.frame.arcs.items ×
+        AreLineArcs t.lines.items (length t.lines.items) t.named t.frame.arcs.items ×
+        IsFrame t.frame.origins.items t.frame.steps.entries t.frame.arcs.items t.frame.back.items ×
+        (length t.named ≤ length t.frame.origins.items) };
+}
+
+impl Upper {
+    /// The arcs of the lines and of hubs, closed under what is pushed from ways of them. The error is want of memory.
+    pub fn of(alloc: Global, lines: &[Line], extra: &[Dtv]) -> Result<Upper, Memory>
+        ensures { IfOk result (λ upper. upper ≡ record { lines = lines.now; named = named lines.now extra.now }) }
+    {
+        let shape = rt_shape::of(alloc, lines)?;
+        let named = Named::of(alloc, lines, extra)?;
+        let classes = shape_classes(alloc, &named, &shape)?;
+        let flips = flips(alloc, &shape, &classes)?;
+        let mut frame = Frame::of(alloc, &named)?;
+        let stands = vec![in alloc; true; lines.len()]?;
+        enter_accesses(alloc, &mut frame, &flips)?;
+        enter_hubs(alloc, &mut frame, &classes, &flips)?;
+        enter_lines(&named, lines, &mut frame)?;
+        enter_pointers(&mut frame)?;
+        close(alloc, &mut frame, &stands)?;
+        let lines = copied(alloc, lines)?;
+        Ok(Upper {
+            lines,
+            named,
+            frame,
+        })
+    }
+
+    /// Whether one of the variables lies below the last one by the lines that stand, those whose flags are set. All are
+    /// named. The error is want of memory.
+    pub fn led(&self, alloc: Global, stands: &[bool], from: &[Dtv], to: &Dtv) -> Result<Led, Memory>
+        requires from { (x : Variable) → Contains from.now x → Contains self.now.named x }
+        requires to { Contains self.now.named to.now }
+        ensures no { IfOk result (λ led. led ≡ Never → (order : Below) →
+            HasBelow order (standing self.now.lines stands.now) from.now (to.now ∷ []) → ⊥) }
+        ensures yes { IfOk result (λ led. led ≡ Always → (order : Below) →
+            HasBelow order (standing self.now.lines stands.now) from.now (to.now ∷ [])) }
+    {
+        let sources = numbers(alloc, &self.named, from)?;
+        let target = number(&self.named, to);
+        let led = between(alloc, &self.frame.arcs, stands, &sources, &[target])?;
+        Ok(led)
+    }
+
+    /// Whether the first variable lies below one of the others by the lines that stand, those whose flags are set. All are
+    /// named. The error is want of memory.
+    pub fn leads(
+        &self,
+        alloc: Global,
+        stands: &[bool],
+        from: &Dtv,
+        to: &[Dtv],
+    ) -> Result<Led, Memory>
+        requires from { Contains self.now.named from.now }
+        requires to { (x : Variable) → Contains to.now x → Contains self.now.named x }
+        ensures no { IfOk result (λ led. led ≡ Never → (order : Below) →
+            HasBelow order (standing self.now.lines stands.now) (from.now ∷ []) to.now → ⊥) }
+        ensures yes { IfOk result (λ led. led ≡ Always → (order : Below) →
+            HasBelow order (standing self.now.lines stands.now) (from.now ∷ []) to.now) }
+    {
+        let source = number(&self.named, from);
+        let targets = numbers(alloc, &self.named, to)?;
+        let led = between(alloc, &self.frame.arcs, stands, &[source], &targets)?;
+        Ok(led)
+    }
+
+    /// Classes of the variables; those that lie below each other are in one class. The error is want of memory.
+    pub fn equals(&self, alloc: Global) -> Result<Classes, Memory>
+        ensures { IfOk result (λ classes. AreOuterEquals self.now.lines self.now.named classes.count classes.numbers.items) }
+    {
+        let stands = vec![in alloc; true; self.lines.len()]?;
+        let mut classes = classes(alloc, &self.frame.arcs, &stands)?;
+        classes.numbers.truncate(self.named.len());
+        Ok(classes)
+    }
+}
