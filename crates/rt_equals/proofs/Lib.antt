@@ -1,0 +1,4 @@
+pub mod Pairing
+pub mod Equal
+pub mod Marking
+pub mod Outlining

@@ -1,0 +1,8 @@
+use Rattle.std.proofs.Common.{◌≡◌, ℕ, ◌<◌, length, get_or}
+use Rattle.rt_equals.proofs.comparison.apart.Given as goal
+
+abbrev pub invariant-loop-i : goal.invariant-loop-i
+invariant-loop-i l = record {
+  each : length l.numbers.items ≡ l.i;
+  own : (k : ℕ) → k < l.i → get_or l.numbers.items k 0 ≡ k;
+}

@@ -1,0 +1,106 @@
+// Variables that lines name, compared.
+ghost use Rattle.std.specs.Prelude.{◌≡◌, [], ℕ, ◌<◌, Contains, IfOk, IfSome, MatchOption, Some, length, slice_get, slice_index_or};
+ghost use Rattle.rt_named.specs.Naming.{named as named_by};
+ghost use Rattle.rt_equals.specs.Comparing.{AreEquals};
+
+use crate::agreeing::agree;
+use crate::counted::counted;
+use rt_base::Memory;
+use rt_lines::{Dtv, Line};
+use rt_named::Named;
+use rt_outline::{Lower, Upper};
+use std::alloc::Global;
+use std::marker::Model;
+
+/// Lines, and the variables that they name, each of which has its index for its number.
+#[derive(Drop)]
+pub struct Comparison {
+    lines: Vec<Line>,
+    named: Named,
+}
+
+impl Model for Comparison {
+    ghost use Rattle.std.specs.Prelude.{◌≡◌, []};
+    ghost use Rattle.rt_named.specs.Naming.{named as named_by};
+    ghost use Rattle.rt_equals.specs.Comparing.{Lined};
+
+    ghost Value = { Lined };
+
+    ghost view = { λ t. record { lines = t.lines.items; named = t.named } };
+
+    ghost invariant = { λ t. t.named ≡ named_by t.lines.items [] };
+}
+
+impl Comparison {
+    /// The lines, with the variables that they name. The error is want of memory.
+    pub fn of(alloc: Global, lines: &[Line]) -> Result<Comparison, Memory>
+        ensures { IfOk result (λ made. made ≡ record { lines = lines.now; named = named_by lines.now [] }) }
+    {
+        let named = Named::of(alloc, lines, &[])?;
+        let lines = copied(alloc, lines)?;
+        Ok(Comparison { lines, named })
+    }
+
+    /// The number of a variable, or `None` where it isn't named.
+    pub fn number(&self, x: &Dtv) -> Option<u32>
+        ensures { MatchOption result (Contains self.now.named x.now → ⊥) (λ i. slice_get self.now.named i ≡ Some x.now) }
+    {
+        self.named.index(x)
+    }
+
+    /// A number for each variable; another one has that of an existential exactly where each of the two lies below the
+    /// other by the lines. The error is want of memory.
+    pub fn equals(&self, alloc: Global) -> Result<Vec<usize>, Memory>
+        ensures { IfOk result (λ numbers. AreEquals self.now.lines self.now.named numbers.items) }
+    {
+        match outlined(alloc, &self.named, &self.lines)? {
+            Some(numbers) => Ok(numbers),
+            None => {
+                let numbers = counted(alloc, &self.lines)?;
+                Ok(numbers)
+            }
+        }
+    }
+}
+
+// Such numbers, where arcs from outside and from inside tell the same of existentials.
+fn outlined(alloc: Global, named: &Named, lines: &[Line]) -> Result<Option<Vec<usize>>, Memory>
+    requires { named.now ≡ named_by lines.now [] }
+    ensures { IfOk result (λ found. IfSome found (λ numbers. AreEquals lines.now named.now numbers.items)) }
+{
+    let upper = Upper::of(alloc, lines, &[])?;
+    let outer = upper.equals(alloc)?;
+    let apart = apart(alloc, named.len())?;
+    if agree(alloc, named, &outer, &apart)? {
+        return Ok(Some(outer.numbers));
+    }
+    let lower = Lower::of(alloc, lines, &[])?;
+    let inner = lower.equals(alloc)?;
+    if agree(alloc, named, &outer, &inner.numbers)? {
+        return Ok(Some(outer.numbers));
+    }
+    Ok(None)
+}
+
+// So many numbers, no two of them equal.
+fn apart(alloc: Global, count: usize) -> Result<Vec<usize>, Memory>
+    ensures each { IfOk result (λ numbers. length numbers.items ≡ count) }
+    ensures own { IfOk result (λ numbers. (i : ℕ) → i < count → slice_index_or numbers.items i 0 ≡ i) }
+{
+    let mut numbers = Vec::with_capacity(alloc, count)?;
+    for i in 0..count {
+        numbers.push(i)?;
+    }
+    Ok(numbers)
+}
+
+// The lines, once more.
+fn copied(alloc: Global, lines: &[Line]) -> Result<Vec<Line>, Memory>
+    ensures { IfOk result (λ copied. copied.items ≡ lines.now) }
+{
+    let mut copied = Vec::new(alloc);
+    for line in lines {
+        copied.push(line.copy()?)?;
+    }
+    Ok(copied)
+}

@@ -1,7 +1,0 @@
-use Rattle.std.proofs.Common.{false, [], take}
-use Rattle.rt_standing.specs.Arcs.{IsLeft, Leads}
-use Rattle.rt_standing.proofs.Following.{OfSome}
-use Rattle.rt_standing.proofs.spreading.are_led.Given as goal
-
-abbrev pub invariant-loop-source : goal.invariant-loop-source
-invariant-loop-source l = IsLeft (OfSome (Leads l.arcs l.stands false) (take l.source-index l.sources)) [] l.found.keys

@@ -1,7 +1,0 @@
-use Rattle.std.proofs.Common.{take}
-use Rattle.rt_standing.specs.Arcs.{IsLeft}
-use Rattle.rt_standing.proofs.Following.{LeadsOf}
-use Rattle.rt_standing.proofs.spreading.leave.Given as goal
-
-abbrev pub invariant-loop-arc : goal.invariant-loop-arc
-invariant-loop-arc l = IsLeft (LeadsOf l.stands l.pushed (take l.arc-index l.arc-items)) l.fn.found.keys l.found.keys

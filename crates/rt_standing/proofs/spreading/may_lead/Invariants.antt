@@ -1,7 +1,0 @@
-use Rattle.std.proofs.Common.{◌≡◌, ℕ, [], take}
-use Rattle.rt_standing.specs.Arcs.{IsLeft}
-use Rattle.rt_standing.proofs.Following.{OfSome}
-use Rattle.rt_standing.proofs.spreading.may_lead.Given as goal
-
-abbrev pub invariant-loop-source : goal.invariant-loop-source
-invariant-loop-source l = IsLeft (OfSome (λ (s w : ℕ). s ≡ w) (take l.source-index l.sources)) [] l.found.keys
