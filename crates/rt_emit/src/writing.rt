@@ -77,7 +77,8 @@ fn turn(
     written: &mut Vec<Line>,
     x: Dtv,
 ) -> Result<(), Memory>
-    ensures turn { OnOk result (Has shape.now x → IsTurn shape.now x letters.old letters.new words.old words.new queue.old queue.new written.old.items written.new.items) }
+    ensures turn { OnOk result (Has shape.now x →
+        IsTurn shape.now x letters.old letters.new words.old words.new queue.old queue.new written.old.items written.new.items) }
     ensures less { OnOk result (total letters.new + length queue.new ≤ total letters.old + length queue.old) }
 {
     let Some(node) = shape.node(&x) else {

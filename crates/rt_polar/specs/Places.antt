@@ -78,7 +78,8 @@ ArePending pending slots = (sign : Variance) (n : ℕ) (z : Dtv) (slot : ℕ) �
 
 -- slots that hold the same lines, but for those that name pending existentials
 abbrev pub Agrees : (ℕ → Bool) → List (Option Line) → List (Option Line) → Type 0
-Agrees pending first second = (n : ℕ) (l : Line) → pending n ≡ false → Names n l → (Stands first l → Stands second l) × (Stands second l → Stands first l)
+Agrees pending first second = (n : ℕ) (l : Line) → pending n ≡ false → Names n l → (Stands first l → Stands second l) ×
+    (Stands second l → Stands first l)
 
 -- the line with z in the place of the existential n, but that `var X` stands for a variable beside itself
 abbrev pub moved : ℕ → Dtv → Line → Line

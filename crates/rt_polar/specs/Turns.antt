@@ -25,4 +25,5 @@ other_lines slots slot = lines_of (take slot slots) ++ lines_of (drop (suc slot)
 abbrev pub GivesAway : ℕ → Dtv → List (Option Line) → ℕ → List Line → Type 0
 GivesAway n z slots slot lines =
     (NamesBase (other_lines slots slot) (Exist n) × (lines ≡ tidied (put_lines n z (other_lines slots slot))))
-    ⊎ ((NamesBase (other_lines slots slot) (Exist n) → ⊥) × (lines ≡ tidied (lines_of (take slot slots) ++ Var z ∷ lines_of (drop (suc slot) slots))))
+    ⊎ ((NamesBase (other_lines slots slot) (Exist n) → ⊥) ×
+    (lines ≡ tidied (lines_of (take slot slots) ++ Var z ∷ lines_of (drop (suc slot) slots))))

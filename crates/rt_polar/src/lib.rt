@@ -13,6 +13,6 @@ mod row;
 mod tidying;
 
 pub use choosing::{Side, candidate};
-pub use putting::put;
+pub use putting::{put, put_in};
 pub use putting_away::put_away;
 pub use tidying::tidy;

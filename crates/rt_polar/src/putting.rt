@@ -7,8 +7,8 @@ use rt_base::{Memory, Sequence};
 use rt_lines::{Base, Dtv, Line, Lines};
 use std::alloc::Global;
 
-// The variable with the side in the existential's place.
-fn put_in(x: &Dtv, v: u32, side: &Dtv) -> Result<Dtv, Memory>
+/// The variable with the side in the existential's place. The error is out of memory.
+pub fn put_in(x: &Dtv, v: u32, side: &Dtv) -> Result<Dtv, Memory>
     ensures { IfOk result (λ r. r ≡ put_there v side.now x.now) }
 {
     if x.base != Base::Exist(v) {

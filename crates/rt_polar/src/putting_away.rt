@@ -106,9 +106,11 @@ fn move_line(
     requires places { ArePlaces places.old }
     requires within { slot < length places.old.slots.items }
     ensures places { OnOk result (ArePlaces places.new) }
-    ensures moved { OnOk result ((l : TheLine) → Holds places.old.slots.items slot l → Settles (slice_set places.old.slots.items slot None) slot (moved v side l) places.new.slots.items) }
+    ensures moved { OnOk result ((l : TheLine) → Holds places.old.slots.items slot l →
+        Settles (slice_set places.old.slots.items slot None) slot (moved v side l) places.new.slots.items) }
     ensures kept { OnOk result ((n : ℕ) → contains nat_cmp pending.old n ≡ true → contains nat_cmp pending.new n ≡ true) }
-    ensures added { OnOk result ((n : ℕ) (l : TheLine) → Holds places.old.slots.items slot l → Names n l → contains nat_cmp pending.new n ≡ true) }
+    ensures added { OnOk result ((n : ℕ) (l : TheLine) → Holds places.old.slots.items slot l → Names n l →
+        contains nat_cmp pending.new n ≡ true) }
 {
     let Some(row) = places.clear(slot) else {
         return Ok(());
@@ -188,7 +190,8 @@ fn give_away(places: &mut Places, pending: &mut Pending, turn: Turn) -> Result<(
     requires turn { (z : Variable) × IsNextTurn turn.existential z turn.slot places.old.slots.items (contains nat_cmp pending.old) }
     ensures places { OnOk result (ArePlaces places.new) }
     ensures pending { OnOk result (ArePending (contains nat_cmp pending.new) places.new.slots.items) }
-    ensures gives { OnOk result ((z : Variable) × IsNextTurn turn.existential z turn.slot places.old.slots.items (contains nat_cmp pending.old)
+    ensures gives { OnOk result ((z : Variable) ×
+        IsNextTurn turn.existential z turn.slot places.old.slots.items (contains nat_cmp pending.old)
         × GivesAway turn.existential z places.old.slots.items turn.slot (lines_of places.new.slots.items)) }
 {
     let Turn { existential, slot } = turn;

@@ -2,6 +2,7 @@
 use Rattle.std.proofs.Common.{◌≡◌, ℕ, ◌+◌, ◌<◌, ◌≤◌, length, take, get_or, ◌⊎◌, inl, inr, List, [], ◌∷◌, ◌++◌, Contains, Option, Some}
 use Rattle.std.proofs.Common.{None, Bool, true, false, cond, MatchOption}
 use Rattle.std.proofs.Common.{refl, sym, ap, subst, ◌∙◌, arith}
+use Rattle.std.specs.Prelude.{◌↔◌}
 use Rattle.std.specs.List.{flat_map}
 use Rattle.std.specs.Ordering.{is_eq, is_gt, nat_cmp}
 use Rattle.std.specs.declared.cmp.Ordering.{Ordering}
@@ -153,12 +154,12 @@ module _ (order : Below) (lines : List Line) (n : ℕ) where
   like_of z e = record { other_base = e.other_base; above = e.above; below = e.below }
 
   -- the first among the sides of lines is the first equal
-  pub first_of_sides : (all : List Dtv) (found : Option Dtv) → all ≡ flat_map sides lines → IsFirstAmong order lines n all found →
-      MatchOption found (HasEqual order lines n → ⊥) (λ z. IsFirstEqual order lines n z)
-  first_of_sides all None e first = λ has. first has.0 (subst (λ xs. Contains xs has.0) (sym e) (side_of has.0 has.1)) (like_of has.0 has.1)
+  pub first_of_sides : (all : List Dtv) (found : Option Dtv) → ((x : Dtv) → Contains all x ↔ Contains (flat_map sides lines) x) →
+      IsFirstAmong order lines n all found → MatchOption found (HasEqual order lines n → ⊥) (λ z. IsFirstEqual order lines n z)
+  first_of_sides all None e first = λ has. first has.0 ((e has.0).1 (side_of has.0 has.1)) (like_of has.0 has.1)
   first_of_sides all (Some z) e first = record {
-    equal = equal_of z (subst (λ xs. Contains xs z) e first.0) first.1;
-    first = λ y is. first.2 y (subst (λ xs. Contains xs y) (sym e) (side_of y is)) (like_of y is);
+    equal = equal_of z ((e z).0 first.0) first.1;
+    first = λ y is. first.2 y ((e y).1 (side_of y is)) (like_of y is);
   }
 
 -- the least existential that has an equal, where each that has one was pending

@@ -13,9 +13,9 @@ use Rattle.rt_lines.specs.declared.line.Line.{Line}
 use Rattle.rt_rules.specs.Rules.{HasSide}
 use Rattle.rt_named.specs.Naming.{named as named_by}
 use Rattle.rt_sat.proofs.Frames.{side_named}
-use Rattle.rt_standing.specs.Standing.{Lined, standing}
-use Rattle.rt_standing.proofs.Standing.{standing_line}
-use Rattle.rt_reduce.specs.Deciding.{AreStanding, IsOwnTable, IsTableFor}
+use Rattle.rt_outline.specs.Lines.{Lined, standing}
+use Rattle.rt_outline.proofs.Standing.{standing_line}
+use Rattle.rt_reduce.specs.Deciding.{AreStanding, IsOwnOuter, IsOuterFor}
 use Rattle.rt_reduce.specs.Dropping.{IsMoved}
 use Rattle.rt_reduce.proofs.Places.{All-removed}
 
@@ -55,32 +55,32 @@ removed_of lines i l c =
     (All-removed (Contains lines) lines i (All-from_contains (Contains lines) lines (λ k d. d))) c
 
 -- before the first step
-pub first_standing : (lines left : List Line) (stands : List Bool) (place : ℕ) (table : Lined) → IsOwnTable lines table → left ≡ lines →
-    stands ≡ replicate (length lines) true → place ≡ length lines → AreStanding left stands place table
-first_standing lines left stands place table own e f g = record {
+pub first_standing : (lines left : List Line) (stands : List Bool) (place : ℕ) (outer : Lined) → IsOwnOuter lines outer → left ≡ lines →
+    stands ≡ replicate (length lines) true → place ≡ length lines → AreStanding left stands place outer
+first_standing lines left stands place outer own e f g = record {
   own = own.1 ∙ ap (λ ls. named_by ls []) (sym own.0);
   left_are = e ∙ sym (all_stand lines) ∙ ap (λ ls. standing ls (replicate (length lines) true)) (sym own.0)
-      ∙ ap (standing table.lines) (sym f);
+      ∙ ap (standing outer.lines) (sym f);
   before = λ i h. ap (λ fs. get_or fs i false) f ∙ get_or-replicate (length lines) i true false (omega (arith, h, g));
 }
 
-module _ (left : List Line) (stands : List Bool) (place : ℕ) (table : Lined) (are : AreStanding left stands (place + 1) table) where
-  out : remove left place ≡ standing table.lines (set stands place false)
-  out = ap (λ ls. remove ls place) are.left_are ∙ sym (standing_out table.lines stands place are.before)
+module _ (left : List Line) (stands : List Bool) (place : ℕ) (outer : Lined) (are : AreStanding left stands (place + 1) outer) where
+  out : remove left place ≡ standing outer.lines (set stands place false)
+  out = ap (λ ls. remove ls place) are.left_are ∙ sym (standing_out outer.lines stands place are.before)
 
-  named_side : (l : Line) (x : Dtv) → Contains left l → HasSide l x → Contains table.named x
+  named_side : (l : Line) (x : Dtv) → Contains left l → HasSide l x → Contains outer.named x
   named_side l x c h =
-      side_named table.lines [] table.named are.own l x (standing_of table.lines stands l (subst (λ ls. Contains ls l) are.left_are c)) h
+      side_named outer.lines [] outer.named are.own l x (standing_of outer.lines stands l (subst (λ ls. Contains ls l) are.left_are c)) h
 
   -- the line is left out
-  pub table_for : (line : Line) → Contains left line → IsTableFor (remove left place) (set stands place false) line table
-  table_for line c = record {
+  pub outer_for : (line : Line) → Contains left line → IsOuterFor (remove left place) (set stands place false) line outer
+  outer_for line c = record {
     left_are = out;
     sides = λ l x d h. named_side l x (removed_of left place l d) h;
     line_sides = λ x h. named_side line x c h;
   }
 
-  pub standing_gone : AreStanding (remove left place) (set stands place false) place table
+  pub standing_gone : AreStanding (remove left place) (set stands place false) place outer
   standing_gone = record {
     own = are.own;
     left_are = out;
@@ -88,30 +88,30 @@ module _ (left : List Line) (stands : List Bool) (place : ℕ) (table : Lined) (
   }
 
   -- it is put back
-  pub standing_kept : AreStanding left (set (set stands place false) place true) place table
+  pub standing_kept : AreStanding left (set (set stands place false) place true) place outer
   standing_kept =
       let same : set (set stands place false) place true ≡ stands = set_again stands place (are.before place (omega arith)) in
       record {
         own = are.own;
-        left_are = are.left_are ∙ ap (standing table.lines) (sym same);
+        left_are = are.left_are ∙ ap (standing outer.lines) (sym same);
         before = λ i h. ap (λ fs. get_or fs i false) same ∙ are.before i (omega (arith, h));
       }
 
--- what is said of a table is said of a reference to it
-pub referred : {T : Type 0} (P : T → Type 0) (made : Option T) (table : Option (Bor T)) → option_copied table ≡ made → IfSome made P →
-    IfSome table (λ t. P t.now)
+-- what is said of arcs is said of a reference to it
+pub referred : {T : Type 0} (P : T → Type 0) (made : Option T) (outer : Option (Bor T)) → option_copied outer ≡ made → IfSome made P →
+    IfSome outer (λ t. P t.now)
 referred P made None e h = tt
 referred P made (Some t) e h = subst (λ o. IfSome o P) (sym e) h
 
 -- the line of the place has gone or stays
-pub moved_standing : (left now : List Line) (stands flags : List Bool) (place : ℕ) (table : Lined) → IsMoved left stands place now flags →
-    AreStanding left stands (place + 1) table → AreStanding now flags place table
-moved_standing left now stands flags place table (inl m) are =
-    subst (λ ls. AreStanding ls flags place table) (sym m.0)
-    (subst (λ fs. AreStanding (remove left place) fs place table) (sym m.1) (standing_gone left stands place table are))
-moved_standing left now stands flags place table (inr m) are =
-    subst (λ ls. AreStanding ls flags place table) (sym m.0)
-    (subst (λ fs. AreStanding left fs place table) (sym m.1) (standing_kept left stands place table are))
+pub moved_standing : (left now : List Line) (stands flags : List Bool) (place : ℕ) (outer : Lined) → IsMoved left stands place now flags →
+    AreStanding left stands (place + 1) outer → AreStanding now flags place outer
+moved_standing left now stands flags place outer (inl m) are =
+    subst (λ ls. AreStanding ls flags place outer) (sym m.0)
+    (subst (λ fs. AreStanding (remove left place) fs place outer) (sym m.1) (standing_gone left stands place outer are))
+moved_standing left now stands flags place outer (inr m) are =
+    subst (λ ls. AreStanding ls flags place outer) (sym m.0)
+    (subst (λ fs. AreStanding left fs place outer) (sym m.1) (standing_kept left stands place outer are))
 
 pub moved_long : (left now : List Line) (stands flags : List Bool) (place : ℕ) → IsMoved left stands place now flags →
     length flags ≡ length stands

@@ -12,3 +12,6 @@ pub mod Telling
 pub mod Bounding
 pub mod Numbering
 pub mod Noting
+pub mod Opening
+pub mod Compared
+pub mod Going

@@ -22,7 +22,7 @@ use Rattle.rt_named.specs.Naming.{named}
 use Rattle.rt_named.specs.Origins.{no_variable}
 use Rattle.rt_named.proofs.Contents.{contents_law}
 use Rattle.rt_sat.specs.Numbered.{at_number}
-use Rattle.rt_standing.specs.Standing.{AreEquals}
+use Rattle.rt_equals.specs.Comparing.{AreEquals}
 use Rattle.rt_reduction.specs.Merges.{HasEqual, IsMerge}
 use Rattle.rt_reduction.proofs.Naming.{base_named}
 use Rattle.rt_reduce.specs.declared.bases.Bases.{Bases}
@@ -34,12 +34,12 @@ use Rattle.rt_reduce.proofs.Firsts.{side_of, taken_more}
 
 -- equal numbers are those of variables that lie below each other
 pub same_number : (order : Below) (lines : List Line) (known : List Dtv) (equals : List ℕ) (x y : Dtv) (k m : ℕ) →
-    AreEquals lines known equals → HasNumber known equals x k → HasNumber known equals y m →
+    AreEquals lines known equals → (n : ℕ) → x ≡ exist n → HasNumber known equals x k → HasNumber known equals y m →
     (k ≡ m) ↔ (Derivable order lines (Sub x y) × Derivable order lines (Sub y x))
-same_number order lines known equals x y k m are (i, e, f) (j, g, h) =
+same_number order lines known equals x y k m are n is (i, e, f) (j, g, h) =
     let u : at_number known i ≡ x = get_or_from_slice_get known i x no_variable e in
     let v : at_number known j ≡ y = get_or_from_slice_get known j y no_variable g in
-    let t = are.equal order i j (slice_get_within known i x e) (slice_get_within known j y g) in (
+    let t = are.equal order i j (slice_get_within known i x e) (slice_get_within known j y g) (n, u ∙ is) in (
       λ q. (let p = t.0 (f ∙ q ∙ sym h) in (
         subst (λ z. Derivable order lines (Sub z y)) u (subst (λ z. Derivable order lines (Sub (at_number known i) z)) v p.0),
         subst (λ z. Derivable order lines (Sub y z)) u (subst (λ z. Derivable order lines (Sub z (at_number known i))) v p.1),
@@ -58,8 +58,8 @@ pub alike_at : (order : Below) (lines : List Line) (known : List Dtv) (equals : 
     AreEquals lines known equals → AreNumbered known equals all numbers → HasNumber known equals (exist n) own →
     AreAlikeAt order lines n all numbers own
 alike_at order lines known equals all numbers n own are numbered has i h =
-    let r = same_number order lines known equals (get_or all i no_side) (exist n) (get_or numbers i 0) own are (numbered.number i h) has in
-    (λ e. (let p = r.0 e in (p.1, p.0)), λ d. r.1 (d.1, d.0))
+    let r = same_number order lines known equals (exist n) (get_or all i no_side) own (get_or numbers i 0) are n refl has (numbered.number i h) in
+    (λ e. r.0 (sym e), λ d. sym (r.1 d))
 
 -- the bases of named variables are named
 pub own_in : (lines : List Line) (known : List Dtv) (n : ℕ) → known ≡ named lines [] → NamesBase lines (Exist n) → Contains known (exist n)

@@ -1,4 +1,4 @@
--- What sides of lines, and a table, tell of a line.
+-- What sides of lines, and arcs from outside, tell of a line.
 use Rattle.std.proofs.Common.{◌≡◌, ℕ, ◌+◌, ◌<◌, ◌≤◌, ◌⊎◌, inl, inr, List, [], ◌∷◌, ◌++◌, Bool, true, All, Contains, IsTrue, length, take}
 use Rattle.std.proofs.Common.{drop, get_or, refl, sym, ap, subst}
 use Rattle.std.specs.Bool.{Decides}
@@ -23,9 +23,9 @@ use Rattle.rt_shape.specs.Shapes.{IsFront, IsNamed}
 use Rattle.rt_bridge.specs.Bounds.{HasLow, HasUp}
 use Rattle.rt_bridge.proofs.Bounds.{low_from, up_from}
 use Rattle.rt_bridge.proofs.Lawful.{low_law, up_law}
-use Rattle.rt_standing.specs.declared.led.Led.{Led}
-use Rattle.rt_standing.specs.declared.led.Led.TheVariants.{No, Yes, Open}
-use Rattle.rt_standing.specs.Standing.{HasBelow}
+use Rattle.rt_outline.specs.declared.led.Led.{Led}
+use Rattle.rt_outline.specs.declared.led.Led.TheVariants.{No, Yes, Open}
+use Rattle.rt_outline.specs.Lines.{HasBelow}
 use Rattle.rt_reduce.specs.Deciding.{AreAbove, AreBelow, HasFront, Tells}
 use Rattle.rt_reduce.proofs.Firsts.{more_cases}
 
@@ -89,7 +89,7 @@ only_one x y xs e c = by (Contains-cons_cases x [] y (subst (λ zs. Contains zs 
     by (inl f) = f
     by (inr d) = absurd (Contains-none y d)
 
--- an answer of a table
+-- an answer of arcs
 abbrev pub Denies : List Line → List Dtv → List Dtv → Led → Type 0
 Denies lines from to led = led ≡ No → (order : Below) → HasBelow order lines from to → ⊥
 

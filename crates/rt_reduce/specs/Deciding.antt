@@ -7,25 +7,25 @@ use Rattle.rt_lines.specs.Orders.{Below, IsAtOrBelow}
 use Rattle.rt_rules.specs.Rules.{HasSide, Derivable}
 use Rattle.rt_shape.specs.Shapes.{IsFront}
 use Rattle.rt_named.specs.Naming.{named as named_by}
-use Rattle.rt_standing.specs.declared.led.Led.{Led}
-use Rattle.rt_standing.specs.declared.led.Led.TheVariants.{No, Yes}
-use Rattle.rt_standing.specs.Standing.{Lined, standing}
+use Rattle.rt_outline.specs.declared.led.Led.{Led}
+use Rattle.rt_outline.specs.declared.led.Led.TheVariants.{No, Yes}
+use Rattle.rt_outline.specs.Lines.{Lined, standing}
 
--- a table of lines between the variables that they name
-abbrev pub IsOwnTable : List Line → Lined → Type 0
-IsOwnTable lines table = (table.lines ≡ lines) × (table.named ≡ named_by lines [])
+-- arcs of lines between the variables that they name
+abbrev pub IsOwnOuter : List Line → Lined → Type 0
+IsOwnOuter lines outer = (outer.lines ≡ lines) × (outer.named ≡ named_by lines [])
 
--- what is left are those of the table's lines whose flags are set, among them all before a place
-pub record AreStanding (left : List Line) (stands : List Bool) (place : ℕ) (table : Lined) : Type 0 where
-  pub own : table.named ≡ named_by table.lines []
-  pub left_are : left ≡ standing table.lines stands
+-- what is left are those of the lines of arcs whose flags are set, among them all before a place
+pub record AreStanding (left : List Line) (stands : List Bool) (place : ℕ) (outer : Lined) : Type 0 where
+  pub own : outer.named ≡ named_by outer.lines []
+  pub left_are : left ≡ standing outer.lines stands
   pub before : (i : ℕ) → i < place → slice_index_or stands i false ≡ true
 
--- what is left are those of the table's lines whose flags are set, and it names the sides of these and of another line
-pub record IsTableFor (left : List Line) (stands : List Bool) (line : Line) (table : Lined) : Type 0 where
-  pub left_are : left ≡ standing table.lines stands
-  pub sides : (l : Line) (x : Dtv) → Contains left l → HasSide l x → Contains table.named x
-  pub line_sides : (x : Dtv) → HasSide line x → Contains table.named x
+-- what is left are those of the lines of arcs whose flags are set, and they name the sides of these and of another line
+pub record IsOuterFor (left : List Line) (stands : List Bool) (line : Line) (outer : Lined) : Type 0 where
+  pub left_are : left ≡ standing outer.lines stands
+  pub sides : (l : Line) (x : Dtv) → Contains left l → HasSide l x → Contains outer.named x
+  pub line_sides : (x : Dtv) → HasSide line x → Contains outer.named x
 
 -- the answer says no only of a line that isn't derivable, and yes only of one that is
 pub record Tells (order : Below) (lines : List Line) (line : Line) (led : Led) : Type 0 where

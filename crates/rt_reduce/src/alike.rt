@@ -4,16 +4,16 @@ ghost use Rattle.rt_lines.specs.declared.variable.Dtv.{Dtv as Variable};
 ghost use Rattle.rt_reduce.specs.Alike.{AreNumbered, HasNumber};
 
 use rt_base::Memory;
+use rt_equals::Comparison;
 use rt_lines::Dtv;
-use rt_standing::Table;
 use std::alloc::Global;
 
 /// The number that stands for a variable, or `None` where it isn't named.
-pub fn number(table: &Table, equals: &[usize], x: &Dtv) -> Option<usize>
-    requires { length equals.now ≡ length table.now.named }
-    ensures { MatchOption result (Contains table.now.named x.now → ⊥) (λ k. HasNumber table.now.named equals.now x.now k) }
+pub fn number(comparison: &Comparison, equals: &[usize], x: &Dtv) -> Option<usize>
+    requires { length equals.now ≡ length comparison.now.named }
+    ensures { MatchOption result (Contains comparison.now.named x.now → ⊥) (λ k. HasNumber comparison.now.named equals.now x.now k) }
 {
-    match table.number(x) {
+    match comparison.number(x) {
         Some(i) => Some(equals[i as usize]),
         None => None,
     }
@@ -22,28 +22,28 @@ pub fn number(table: &Table, equals: &[usize], x: &Dtv) -> Option<usize>
 /// The numbers that stand for named variables. The error is want of memory.
 pub fn numbers(
     alloc: Global,
-    table: &Table,
+    comparison: &Comparison,
     equals: &[usize],
     sides: &[Dtv],
 ) -> Result<Vec<usize>, Memory>
-    requires each { length equals.now ≡ length table.now.named }
-    requires named { (x : Variable) → Contains sides.now x → Contains table.now.named x }
-    ensures { IfOk result (λ numbers. AreNumbered table.now.named equals.now sides.now numbers.items) }
+    requires each { length equals.now ≡ length comparison.now.named }
+    requires named { (x : Variable) → Contains sides.now x → Contains comparison.now.named x }
+    ensures { IfOk result (λ numbers. AreNumbered comparison.now.named equals.now sides.now numbers.items) }
 {
     let mut numbers = Vec::with_capacity(alloc, sides.len())?;
     for side in sides {
-        numbers.push(known(table, equals, side))?;
+        numbers.push(known(comparison, equals, side))?;
     }
     Ok(numbers)
 }
 
 // The number that stands for a named variable.
-fn known(table: &Table, equals: &[usize], x: &Dtv) -> usize
-    requires each { length equals.now ≡ length table.now.named }
-    requires named { Contains table.now.named x.now }
-    ensures { HasNumber table.now.named equals.now x.now result }
+fn known(comparison: &Comparison, equals: &[usize], x: &Dtv) -> usize
+    requires each { length equals.now ≡ length comparison.now.named }
+    requires named { Contains comparison.now.named x.now }
+    ensures { HasNumber comparison.now.named equals.now x.now result }
 {
-    match number(table, equals, x) {
+    match number(comparison, equals, x) {
         Some(number) => number,
         None => unreachable!(),
     }

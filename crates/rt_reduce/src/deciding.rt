@@ -1,52 +1,52 @@
-// Whether a line is derivable from others, which are some of the lines of a table.
+// Whether a line is derivable from others, which are some of the lines of arcs from outside.
 ghost use Rattle.std.specs.Prelude.{◌↔◌, ◌<◌, All, Contains, IsTrue, IfOk, IfSome};
-ghost use Rattle.rt_lines.specs.declared.line.Line.TheVariants.{Low as Lower, Sub as Subtype, Up as Upper, Var as Exists};
+ghost use Rattle.rt_lines.specs.declared.line.Line.TheVariants.{Low as LowerBound, Sub as Subtype, Up as UpperBound, Var as Exists};
 ghost use Rattle.rt_lines.specs.Lines.{HasConstantsBelow};
 ghost use Rattle.rt_lines.specs.Orders.{Below};
 ghost use Rattle.rt_rules.specs.Rules.{Derivable};
 ghost use Rattle.rt_shape.specs.Shapes.{IsFront, IsNamed};
-ghost use Rattle.rt_standing.specs.Standing.{standing};
-ghost use Rattle.rt_reduce.specs.Deciding.{HasFront, IsTableFor, Tells};
+ghost use Rattle.rt_outline.specs.Lines.{standing};
+ghost use Rattle.rt_reduce.specs.Deciding.{HasFront, IsOuterFor, Tells};
 
 use crate::bounds::{lows, ups};
-use crate::derivable::derives_line;
+use crate::opened::derives_open;
 use rt_base::Memory;
 use rt_lines::{Dtv, Line, Order};
-use rt_standing::{Led, Table};
+use rt_outline::{Led, Upper};
 use std::alloc::Global;
 use std::slice;
 
-// Whether the line is derivable from the lines left: by the table, where it tells, else by a saturation of what is left.
+// Whether the line is derivable from the lines left: by arcs from outside, where they tell, else by what is left.
 pub fn is_derivable(
     alloc: Global,
-    table: Option<&Table>,
+    outer: Option<&Upper>,
     stands: &[bool],
     left: &[Line],
     order: &Order,
     line: &Line,
 ) -> Result<bool, Memory>
-    requires table { IfSome table (λ t. IsTableFor left.now stands.now line.now t.now) }
+    requires outer { IfSome outer (λ t. IsOuterFor left.now stands.now line.now t.now) }
     requires constants { All (HasConstantsBelow order.now.count) left.now }
     requires constant { HasConstantsBelow order.now.count line.now }
     ensures { IfOk result (λ yes. IsTrue yes ↔ Derivable order.now left.now line.now) }
 {
-    match told(alloc, table, stands, left, order, line)? {
+    match told(alloc, outer, stands, left, order, line)? {
         Led::No => Ok(false),
         Led::Yes => Ok(true),
-        Led::Open => derives_line(alloc, left, order, line),
+        Led::Open => derives_open(alloc, left, order, line),
     }
 }
 
-// Whether the line is derivable from the lines left, as far as their sides and the table tell.
+// Whether the line is derivable from the lines left, as far as their sides and arcs from outside tell.
 fn told(
     alloc: Global,
-    table: Option<&Table>,
+    outer: Option<&Upper>,
     stands: &[bool],
     left: &[Line],
     order: &Order,
     line: &Line,
 ) -> Result<Led, Memory>
-    requires table { IfSome table (λ t. IsTableFor left.now stands.now line.now t.now) }
+    requires outer { IfSome outer (λ t. IsOuterFor left.now stands.now line.now t.now) }
     requires constants { All (HasConstantsBelow order.now.count) left.now }
     requires constant { HasConstantsBelow order.now.count line.now }
     ensures { IfOk result (Tells order.now left.now line.now) }
@@ -54,8 +54,8 @@ fn told(
     if let Line::Var(x) = line {
         return Ok(told_named(left, x));
     }
-    match table {
-        Some(table) => told_by(alloc, table, stands, left, order, line),
+    match outer {
+        Some(outer) => told_by(alloc, outer, stands, left, order, line),
         None => Ok(Led::Open),
     }
 }
@@ -103,16 +103,16 @@ fn is_front(front: &Dtv, whole: &Dtv) -> bool
     front.base == whole.base && whole.word.items().starts_with(front.word.items())
 }
 
-// Whether the line is derivable from the lines left, as far as the table tells.
+// Whether the line is derivable from the lines left, as far as arcs from outside tell.
 fn told_by(
     alloc: Global,
-    table: &Table,
+    outer: &Upper,
     stands: &[bool],
     left: &[Line],
     order: &Order,
     line: &Line,
 ) -> Result<Led, Memory>
-    requires table { IsTableFor left.now stands.now line.now table.now }
+    requires outer { IsOuterFor left.now stands.now line.now outer.now }
     requires constants { All (HasConstantsBelow order.now.count) left.now }
     requires constant { HasConstantsBelow order.now.count line.now }
     ensures { IfOk result (Tells order.now left.now line.now) }
@@ -120,43 +120,43 @@ fn told_by(
     match line {
         Line::Var(_) => Ok(Led::Open),
         Line::Same(_, _) => Ok(Led::Open),
-        Line::Sub(x, y) => told_below(alloc, table, stands, x, y),
-        Line::Low(k, x) => told_low(alloc, table, stands, left, order, *k, x),
-        Line::Up(x, k) => told_up(alloc, table, stands, left, order, x, *k),
+        Line::Sub(x, y) => told_below(alloc, outer, stands, x, y),
+        Line::Low(k, x) => told_low(alloc, outer, stands, left, order, *k, x),
+        Line::Up(x, k) => told_up(alloc, outer, stands, left, order, x, *k),
     }
 }
 
-// Whether the first variable is a subtype of the second by the lines that stand, as far as the table tells.
+// Whether the first variable is a subtype of the second by the lines that stand, as far as arcs from outside tell.
 fn told_below(
     alloc: Global,
-    table: &Table,
+    outer: &Upper,
     stands: &[bool],
     x: &Dtv,
     y: &Dtv,
 ) -> Result<Led, Memory>
-    requires first { Contains table.now.named x.now }
-    requires second { Contains table.now.named y.now }
-    ensures { IfOk result (λ led. (order : Below) → Tells order (standing table.now.lines stands.now) (Subtype x.now y.now) led) }
+    requires first { Contains outer.now.named x.now }
+    requires second { Contains outer.now.named y.now }
+    ensures { IfOk result (λ led. (order : Below) → Tells order (standing outer.now.lines stands.now) (Subtype x.now y.now) led) }
 {
     let from = slice::from_ref(x);
-    let led = table.led(alloc, stands, from, y)?;
+    let led = outer.led(alloc, stands, from, y)?;
     Ok(led)
 }
 
-// Whether the constant is a lower bound of the variable, as far as the table tells.
+// Whether the constant is a lower bound of the variable, as far as arcs from outside tell.
 fn told_low(
     alloc: Global,
-    table: &Table,
+    outer: &Upper,
     stands: &[bool],
     left: &[Line],
     order: &Order,
     k: u16,
     x: &Dtv,
 ) -> Result<Led, Memory>
-    requires table { IsTableFor left.now stands.now (Lower k x.now) table.now }
+    requires outer { IsOuterFor left.now stands.now (LowerBound k x.now) outer.now }
     requires constants { All (HasConstantsBelow order.now.count) left.now }
     requires constant { k < order.now.count }
-    ensures { IfOk result (Tells order.now left.now (Lower k x.now)) }
+    ensures { IfOk result (Tells order.now left.now (LowerBound k x.now)) }
 {
     // The call says that the order is transitive.
     order.count();
@@ -167,24 +167,24 @@ fn told_low(
     if from.contains(x) {
         return Ok(Led::Yes);
     }
-    let led = table.led(alloc, stands, &from, x)?;
+    let led = outer.led(alloc, stands, &from, x)?;
     Ok(led)
 }
 
-// Whether the constant is an upper bound of the variable, as far as the table tells.
+// Whether the constant is an upper bound of the variable, as far as arcs from outside tell.
 fn told_up(
     alloc: Global,
-    table: &Table,
+    outer: &Upper,
     stands: &[bool],
     left: &[Line],
     order: &Order,
     x: &Dtv,
     k: u16,
 ) -> Result<Led, Memory>
-    requires table { IsTableFor left.now stands.now (Upper x.now k) table.now }
+    requires outer { IsOuterFor left.now stands.now (UpperBound x.now k) outer.now }
     requires constants { All (HasConstantsBelow order.now.count) left.now }
     requires constant { k < order.now.count }
-    ensures { IfOk result (Tells order.now left.now (Upper x.now k)) }
+    ensures { IfOk result (Tells order.now left.now (UpperBound x.now k)) }
 {
     // The call says that the order is transitive.
     order.count();
@@ -195,6 +195,6 @@ fn told_up(
     if to.contains(x) {
         return Ok(Led::Yes);
     }
-    let led = table.leads(alloc, stands, x, &to)?;
+    let led = outer.leads(alloc, stands, x, &to)?;
     Ok(led)
 }

@@ -49,7 +49,7 @@ pub fn derives_line(
 }
 
 // Whether the variable exists.
-fn exists(shape: &Shape, x: &Dtv) -> bool
+pub fn exists(shape: &Shape, x: &Dtv) -> bool
     ensures { (lines : List Given) (order : Below) → IsShapeOf lines shape.now → IsTrue result ↔ Derivable order lines (Exists x.now) }
 {
     shape.node(x).is_some()

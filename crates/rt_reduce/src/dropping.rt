@@ -4,45 +4,45 @@ ghost use Rattle.rt_lines.specs.declared.line.Line.{Line as Given};
 ghost use Rattle.rt_lines.specs.Lines.{HasConstantsBelow};
 ghost use Rattle.rt_reduction.specs.Drops.{Drops};
 ghost use Rattle.rt_reduction.specs.Emits.{is_flow as is_flow_line};
-ghost use Rattle.rt_reduce.specs.Deciding.{AreStanding, IsOwnTable};
+ghost use Rattle.rt_reduce.specs.Deciding.{AreStanding, IsOwnOuter};
 ghost use Rattle.rt_reduce.specs.Dropping.{Decides, IsKeptOrGone, IsMoved};
 
 use crate::copying::copies;
 use crate::deciding::is_derivable;
 use rt_base::{Memory, Sequence};
 use rt_lines::{Line, Lines, Order};
-use rt_standing::Table;
+use rt_outline::Upper;
 use std::alloc::Global;
 
 /// What stays of the lines when, from the last to the first, each line goes that the lines before it and those that stayed
-/// behind it derive with the order of constants. One table tells of most lines whether they are derivable; where it
-/// doesn't, the others are saturated. The error is want of memory.
+/// behind it derive with the order of constants. Arcs from outside tell of most lines whether they are derivable; where they
+/// don't, arcs from inside of what is left do, or it is saturated. The error is want of memory.
 pub fn drop_derivable(alloc: Global, lines: &[Line], order: &Order) -> Result<Lines, Memory>
     requires { All (HasConstantsBelow order.now.count) lines.now }
     ensures drops { IfOk result (λ left. Drops order.now [] lines.now left) }
     ensures stood { IfOk result (λ left. (l : Given) → Contains left l → Contains lines.now l) }
 {
-    let made = table_of(alloc, lines)?;
-    let table = made.as_ref();
+    let made = outer_of(alloc, lines)?;
+    let outer = made.as_ref();
     let mut stands = vec![in alloc; true; lines.len()]?;
     let mut left = copies(alloc, lines)?;
     let mut place = left.len();
     while place > 0 {
         place -= 1;
-        drop_at(alloc, table, &mut stands, &mut left, order, place)?;
+        drop_at(alloc, outer, &mut stands, &mut left, order, place)?;
     }
     Ok(Sequence::from_vec(left))
 }
 
-// A table of the lines, if there is a `<=` line or a bound among them.
-fn table_of(alloc: Global, lines: &[Line]) -> Result<Option<Table>, Memory>
-    ensures { IfOk result (λ table. IfSome table (IsOwnTable lines.now)) }
+// Arcs from outside of the lines, if there is a `<=` line or a bound among them.
+fn outer_of(alloc: Global, lines: &[Line]) -> Result<Option<Upper>, Memory>
+    ensures { IfOk result (λ outer. IfSome outer (IsOwnOuter lines.now)) }
 {
     if !has_flow(lines) {
         return Ok(None);
     }
-    let table = Table::of(alloc, lines, &[])?;
-    Ok(Some(table))
+    let outer = Upper::of(alloc, lines, &[])?;
+    Ok(Some(outer))
 }
 
 // Whether there is a `<=` line or a bound among the lines.
@@ -70,7 +70,7 @@ fn is_flow(line: &Line) -> bool
 // Takes out the line at the place, if the others derive it.
 fn drop_at(
     alloc: Global,
-    table: Option<&Table>,
+    outer: Option<&Upper>,
     stands: &mut Vec<bool>,
     left: &mut Vec<Line>,
     order: &Order,
@@ -79,14 +79,14 @@ fn drop_at(
     requires within { place < length left.old.items }
     requires flags { place < length stands.old.items }
     requires constants { All (HasConstantsBelow order.now.count) left.old.items }
-    requires standing { IfSome table (λ t. AreStanding left.old.items stands.old.items (place + 1) t.now) }
+    requires standing { IfSome outer (λ t. AreStanding left.old.items stands.old.items (place + 1) t.now) }
     ensures lines { OnOk result (IsKeptOrGone left.old.items place left.new.items) }
     ensures decides { OnOk result (Decides order.now left.old.items place left.new.items) }
     ensures moved { OnOk result (IsMoved left.old.items stands.old.items place left.new.items stands.new.items) }
 {
     let line = left.remove(place);
     stands[place] = false;
-    let derived = is_derivable(alloc, table, stands, left, order, &line)?;
+    let derived = is_derivable(alloc, outer, stands, left, order, &line)?;
     if derived {
         return Ok(());
     }

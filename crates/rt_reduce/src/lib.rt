@@ -12,6 +12,7 @@ mod deciding;
 mod derivable;
 mod dropping;
 mod merging;
+mod opened;
 mod reducing;
 mod rounds;
 mod settling;

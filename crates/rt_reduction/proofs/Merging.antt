@@ -49,7 +49,7 @@ module _ (order : Below) (lines : List Line) (n : ℕ) (z : Dtv) (above : Deriva
       (inr refl)))
 
   -- a variable and what becomes of it lie below each other
-  near : (x : Dtv) → Derivable order lines (Var x) → IsNear x (put n z x)
+  pub near : (x : Dtv) → Derivable order lines (Var x) → IsNear x (put n z x)
   near x d = by (one_base x.base (Exist n))
     where
       own : x.base ≡ Exist n → extended (exist n) x.word ≡ x

@@ -69,7 +69,8 @@ fn merge_of(alloc: Global, lines: &[Line], sign: Variance) -> Result<Option<Line
 /// The lines in which all twins by their definitions became one with the least of them, or all those by their consumers
 /// where there are none by definitions; `None` where there are neither. The error is out of memory.
 pub fn merge_twins(alloc: Global, lines: &[Line]) -> Result<Option<Lines>, Memory>
-    ensures { IfOk result (λ merged. MatchOption merged (HasNoTwins Defining lines.now × HasNoTwins Consuming lines.now) (BecomeOne lines.now)) }
+    ensures { IfOk result (λ merged. MatchOption merged (HasNoTwins Defining lines.now × HasNoTwins Consuming lines.now)
+        (BecomeOne lines.now)) }
 {
     if let Some(merged) = merge_of(alloc, lines, Variance::Co)? {
         return Ok(Some(merged));

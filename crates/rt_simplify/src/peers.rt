@@ -21,7 +21,8 @@ type Numbers = BTreeMap<Vec<Rank>, usize>;
 
 // The number that the ranks have, or else a fresh one, which they have then.
 fn number_of(numbers: &mut Numbers, ranks: Vec<Rank>, fresh: usize) -> Result<usize, Memory>
-    ensures { IfOk result (λ number. IsNumbered ranks.items fresh number (HasNumber rank_cmp numbers.old) (HasNumber rank_cmp numbers.new)) }
+    ensures { IfOk result (λ number. IsNumbered ranks.items fresh number (HasNumber rank_cmp numbers.old)
+        (HasNumber rank_cmp numbers.new)) }
 {
     if let Some(number) = numbers.get(&ranks) {
         return Ok(*number);

@@ -89,7 +89,8 @@ fn note_base(
     base: Base,
     sign: Variance,
 ) -> Result<(), Memory>
-    ensures { OnOk result (AreNoted (λ n. (base ≡ Existential n) × IsOtherUse sign n line.now) (contains nat_cmp found.old) (contains nat_cmp found.new)) }
+    ensures { OnOk result (AreNoted (λ n. (base ≡ Existential n) × IsOtherUse sign n line.now) (contains nat_cmp found.old)
+        (contains nat_cmp found.new)) }
 {
     if let Base::Exist(v) = base {
         if is_other_use(line, v, sign) {

@@ -3,4 +3,4 @@ use Rattle.rt_reduce.specs.Alike.{AreNumbered}
 use Rattle.rt_reduce.proofs.alike.numbers.Given as goal
 
 abbrev pub invariant-loop-side : goal.invariant-loop-side
-invariant-loop-side l = AreNumbered l.table.named l.equals (take l.side-index l.sides) l.numbers.items
+invariant-loop-side l = AreNumbered l.comparison.named l.equals (take l.side-index l.sides) l.numbers.items

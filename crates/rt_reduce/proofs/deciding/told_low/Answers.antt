@@ -1,7 +1,7 @@
 use Rattle.std.proofs.Common.{◌≡◌, [], List, sym, subst, ◌∙◌, arith}
 use Rattle.std.proofs.lemmas.Grind.{common_steps}
 use Rattle.rt_lines.specs.declared.variable.Dtv.{Dtv}
-use Rattle.rt_standing.specs.Standing.{standing}
+use Rattle.rt_outline.specs.Lines.{standing}
 use Rattle.rt_reduce.specs.Deciding.{AreAbove}
 use Rattle.rt_reduce.proofs.Telling.{above_named, low_none, low_self, low_tells}
 use Rattle.rt_reduce.proofs.deciding.told_low.Goals as goal
@@ -21,7 +21,7 @@ returns-then-contains c =
 
 pub led-requires-clause-from : goal.led-requires-clause-from
 led-requires-clause-from c =
-    above_named c.args.order.now c.args.left.now c.args.k c.args.table.now.named c.deref-2.result.now c.requires.table.sides
+    above_named c.args.order.now c.args.left.now c.args.k c.args.outer.now.named c.deref-2.result.now c.requires.outer.sides
     (subst (λ (xs : List Dtv). AreAbove c.args.order.now c.args.left.now c.args.k xs) (sym c.deref-2.ensures.value) c.in_ok-from.ensures)
 
 pub returns : goal.returns
@@ -29,5 +29,5 @@ returns c =
     low_tells c.args.order.now c.args.left.now c.count.ensures.order c.requires.constants
     c.args.k c.args.x.now c.deref-2.result.now
     (subst (λ (xs : List Dtv). AreAbove c.args.order.now c.args.left.now c.args.k xs) (sym c.deref-2.ensures.value) c.in_ok-from.ensures)
-    (standing c.args.table.now.lines c.args.stands.now) c.in_ok-led.led c.requires.table.left_are
+    (standing c.args.outer.now.lines c.args.stands.now) c.in_ok-led.led c.requires.outer.left_are
     c.in_ok-led.ensures.no c.in_ok-led.ensures.yes

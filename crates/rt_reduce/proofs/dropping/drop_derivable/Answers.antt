@@ -26,7 +26,7 @@ loop-place-init c =
       stood = λ m h. subst (λ (ls : List Line). Contains ls m) e h;
       are_left = AreLeft-all c.args.order.now lines left c.len-place.result e f;
       flags = omega (arith, g, n);
-      standing = referred (AreStanding left stands c.len-place.result) c.in_ok-made.made c.as_ref-table.result c.as_ref-table.ensures.value
+      standing = referred (AreStanding left stands c.len-place.result) c.in_ok-made.made c.as_ref-outer.result c.as_ref-outer.ensures.value
           (IfSome_then c.in_ok-made.made c.in_ok-made.ensures (λ t own. first_standing lines left stands c.len-place.result t own e s g));
     }
 
@@ -37,7 +37,7 @@ pub drop_at-requires-clause-standing : goal.drop_at-requires-clause-standing
 drop_at-requires-clause-standing c =
     let place = c.loop-place.place in
     let e : place ≡ (place - 1) + 1 = omega (arith, c.loop-place-test.true) in
-    IfSome_then c.as_ref-table.result c.loop-place.invariant.standing
+    IfSome_then c.as_ref-outer.result c.loop-place.invariant.standing
     (λ t are. subst (λ n. AreStanding c.loop-place.left.items c.loop-place.stands.items n t.now) e are)
 
 pub loop-place-preserved : goal.loop-place-preserved
@@ -60,6 +60,6 @@ loop-place-preserved c =
       are_left = AreLeft-next c.args.order.now c.args.lines.now left now place (place - 1) next inv.inside inv.are_left
           c.in_ok-drop_at.ensures.decides;
       flags = omega (arith, n, inv.flags);
-      standing = IfSome_then c.as_ref-table.result inv.standing
+      standing = IfSome_then c.as_ref-outer.result inv.standing
           (λ t are. moved_standing left now stands flags (place - 1) t.now moved (subst (λ k. AreStanding left stands k t.now) e are));
     }

@@ -14,7 +14,7 @@ invariant-loop-place l = record {
   stood : (m : Line) → Contains l.left.items m → Contains l.lines m;
   are_left : AreLeft l.order l.lines l.place l.left.items;
   flags : l.place ≤ length l.stands.items;
-  standing : IfSome l.table (λ t. AreStanding l.left.items l.stands.items l.place t.now);
+  standing : IfSome l.outer (λ t. AreStanding l.left.items l.stands.items l.place t.now);
 }
 
 abbrev pub decreases-loop-place : goal.decreases-loop-place

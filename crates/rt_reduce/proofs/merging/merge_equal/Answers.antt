@@ -1,79 +1,91 @@
-use Rattle.std.proofs.Common.{◌≡◌, ℕ, ◌<◌, List, All, Option, MatchOption, sym, ap, subst, ◌∙◌}
+use Rattle.std.proofs.Common.{◌≡◌, ℕ, [], ◌<◌, List, All, Contains, length, sym, ap, subst, ◌∙◌}
+use Rattle.std.specs.List.{flat_map}
+use Rattle.rt_lines.specs.declared.variable.Base.TheVariants.{Exist}
+use Rattle.rt_lines.specs.declared.variable.Dtv.{Dtv}
 use Rattle.rt_lines.specs.declared.line.Line.{Line}
 use Rattle.rt_lines.specs.Lines.{HasConstantsBelow}
-use Rattle.rt_lines.specs.declared.variable.Base.TheVariants.{Exist}
+use Rattle.rt_lines.specs.Sides.{sides}
 use Rattle.rt_rules.specs.Laws.{NamesBase}
-use Rattle.rt_rules.specs.Put.{put_lines}
-use Rattle.rt_polar.specs.Tidied.{tidied}
+use Rattle.rt_named.specs.Naming.{named}
+use Rattle.rt_equals.specs.Comparing.{AreEquals, Lined}
 use Rattle.rt_reduction.specs.Emits.{AreOfScheme}
-use Rattle.rt_reduction.specs.Merges.{HasEqual, IsMerge, Merges}
-use Rattle.rt_reduction.specs.Merges.Merges.{none_left, merges}
-use Rattle.rt_reduce.specs.declared.merging.Merge.{Merge}
-use Rattle.rt_reduce.specs.Merging.{IsNamedPair}
-use Rattle.rt_reduce.proofs.Falling.{AreOfNumbers, merge_falls, merge_numbers, named_by, named_count, number_of, put-below}
-use Rattle.rt_reduce.proofs.Keeping.{put_scheme}
-use Rattle.rt_reduce.proofs.Numbering.{pair_of}
+use Rattle.rt_reduction.specs.Merges.{HasEqual, Merges}
+use Rattle.rt_reduction.specs.Merges.Merges.{none_left}
+use Rattle.rt_reduce.specs.Alike.{AreNumbered}
+use Rattle.rt_reduce.specs.Bases.{AreNoted, IsAloneAt}
+use Rattle.rt_reduce.specs.Compared.{IsCompared}
+use Rattle.rt_reduce.proofs.Compared.{compared_first}
+use Rattle.rt_reduce.proofs.Firsts.{equal_side}
+use Rattle.rt_reduce.proofs.Numbering.{alone_none, side_in}
 use Rattle.rt_reduce.proofs.merging.merge_equal.Goals as goal
 
-pub loop-now-init : goal.loop-now-init
-loop-now-init c =
-    let lines = c.args.lines.now in
-    let e : c.from_vec-now.result ≡ lines = c.from_vec-now.ensures ∙ c.in_ok-start.ensures in
-    record {
-      constants = subst (All (HasConstantsBelow c.args.order.now.count)) (sym e) c.requires;
-      scheme = λ h. subst AreOfScheme (sym e) h;
-      numbers = λ n h. number_of lines n (subst (λ (ls : List Line). NamesBase ls (Exist n)) e h);
-      merges = λ left m. subst (Merges c.args.order.now left) e m;
-    }
+pub returns-then-not-has_existential-clause-merges : goal.returns-then-not-has_existential-clause-merges
+returns-then-not-has_existential-clause-merges c =
+    subst (λ (ls : List Line). Merges c.args.order.now ls c.args.lines.now) (sym (c.from_vec-now.ensures ∙ c.in_ok-start.ensures))
+    (none_left (λ n has. (let s = equal_side c.args.order.now c.args.lines.now n has in
+    c.has_existential.ensures c.if-not-has_existential.true n s.0
+    (subst (λ (xs : List Dtv). Contains xs s.0) (sym (c.deref.ensures.value ∙ c.in_ok-sides.ensures)) s.1) s.2)))
 
-pub loop-now-smaller : goal.loop-now-smaller
-loop-now-smaller c =
-    let lines = c.args.lines.now in
-    let now = c.loop-now.now in
-    let n = c.in-Some.merge.existential in
-    let z = c.in-Some.merge.side in
-    let e : c.in_ok-now.now ≡ tidied (put_lines n z now) =
-    c.in_ok-now.ensures ∙ ap (λ ls. tidied (put_lines n z ls)) c.items-in-Some.ensures in
-    let merge : IsMerge c.args.order.now c.items.result.now n z =
-    subst (λ (o : Option Merge). MatchOption o ((k : ℕ) → HasEqual c.args.order.now c.items.result.now k → ⊥)
-    (λ m. IsMerge c.args.order.now c.items.result.now m.existential m.side)) c.in-Some.is (c.in_ok-merge.ensures c.args.order.now) in
-    let pair : IsNamedPair now n z = subst (λ (ls : List Line). IsNamedPair ls n z) c.items.ensures
-    (pair_of c.args.order.now c.items.result.now n z merge) in
-    subst (λ (ls : List Line). named_count lines ls < named_count lines now) (sym e)
-    (merge_falls now n z pair lines c.loop-now.invariant.numbers)
+pub numbers-requires-clause-named : goal.numbers-requires-clause-named
+numbers-requires-clause-named c = λ x m.
+    side_in c.args.lines.now c.in_ok-comparison.comparison.named c.in_ok-sides.sides.items
+    (ap (λ (t : Lined). t.named) c.in_ok-comparison.ensures) c.in_ok-sides.ensures x
+    (subst (λ (xs : List Dtv). Contains xs x) c.deref-3.ensures.value m)
 
-pub loop-now-preserved : goal.loop-now-preserved
-loop-now-preserved c =
+pub merge_pending-requires-clause-compared : goal.merge_pending-requires-clause-compared
+merge_pending-requires-clause-compared c =
     let lines = c.args.lines.now in
-    let order = c.args.order.now in
-    let now = c.loop-now.now in
-    let n = c.in-Some.merge.existential in
-    let z = c.in-Some.merge.side in
-    let inv = c.loop-now.invariant in
-    let e : c.in_ok-now.now ≡ tidied (put_lines n z now) =
-    c.in_ok-now.ensures ∙ ap (λ ls. tidied (put_lines n z ls)) c.items-in-Some.ensures in
-    let merge : IsMerge c.args.order.now c.items.result.now n z =
-    subst (λ (o : Option Merge). MatchOption o ((k : ℕ) → HasEqual c.args.order.now c.items.result.now k → ⊥)
-    (λ m. IsMerge c.args.order.now c.items.result.now m.existential m.side)) c.in-Some.is (c.in_ok-merge.ensures c.args.order.now) in
-    let pair : IsNamedPair now n z = subst (λ (ls : List Line). IsNamedPair ls n z) c.items.ensures
-    (pair_of c.args.order.now c.items.result.now n z merge) in
-    record {
-      constants = subst (All (HasConstantsBelow order.count)) (sym e) (put-below order.count n z now inv.constants);
-      scheme = λ h. subst AreOfScheme (sym e) (put_scheme now n z pair.side (inv.scheme h));
-      numbers = subst (AreOfNumbers lines) (sym e) (merge_numbers now n z pair lines inv.numbers);
-      merges = λ left m. inv.merges left (merges n z now
-          (subst (λ (ls : List Line). IsMerge order ls n z) c.items.ensures merge)
-          (subst (Merges order left) e m));
-    }
+    let known = c.in_ok-comparison.comparison.named in
+    let equals = c.in_ok-equals.equals.items in
+    let all = c.in_ok-sides.sides.items in
+    let e = ap (λ (t : Lined). t.lines) c.in_ok-comparison.ensures in
+    subst (λ (ls : List Line). IsCompared ls known c.deref-9.result.now all c.deref-10.result.now)
+    (sym (c.from_vec-now.ensures ∙ c.in_ok-start.ensures))
+    (subst (λ (xs : List ℕ). IsCompared lines known xs all c.deref-10.result.now) (sym c.deref-9.ensures.value)
+    (subst (λ (xs : List ℕ). IsCompared lines known equals all xs) (sym c.deref-10.ensures.value)
+    (compared_first lines known equals all c.in_ok-numbers.numbers.items (ap (λ (t : Lined). t.named) c.in_ok-comparison.ensures)
+    (subst (λ (ls : List Line). AreEquals ls known equals) e c.in_ok-equals.ensures)
+    (subst (λ (xs : List ℕ). AreNumbered known xs all c.in_ok-numbers.numbers.items) c.deref-2.ensures.value
+    (subst (λ (xs : List Dtv). AreNumbered known c.deref-2.result.now xs c.in_ok-numbers.numbers.items) c.deref-3.ensures.value
+    c.in_ok-numbers.ensures)) c.in_ok-sides.ensures)))
 
-pub returns-clause-named : goal.returns-clause-named
-returns-clause-named c = λ n h. named_by c.args.lines.now n (c.loop-now.invariant.numbers n h)
+pub merge_pending-requires-clause-pending : goal.merge_pending-requires-clause-pending
+merge_pending-requires-clause-pending c = λ order n has.
+    let lines = c.args.lines.now in
+    let known = c.in_ok-comparison.comparison.named in
+    let equals = c.in_ok-equals.equals.items in
+    let all = c.in_ok-sides.sides.items in
+    let numbers = c.in_ok-numbers.numbers.items in
+    let bases = c.in_ok-bases.bases.items in
+    let had : HasEqual order lines n =
+    subst (λ (ls : List Line). HasEqual order ls n) (c.from_vec-now.ensures ∙ c.in_ok-start.ensures) has in
+    let s = equal_side order lines n had in
+    c.in_ok-pending.ensures n s.0
+    (subst (λ (xs : List Dtv). Contains xs s.0) (sym (c.deref-7.ensures.value ∙ c.in_ok-sides.ensures)) s.1) s.2
+    (λ alone. alone_none lines known equals all numbers bases n
+    (subst (λ (ls : List Line). AreEquals ls known equals) (ap (λ (t : Lined). t.lines) c.in_ok-comparison.ensures) c.in_ok-equals.ensures)
+    (subst (λ (xs : List ℕ). AreNumbered known xs all numbers) c.deref-2.ensures.value
+    (subst (λ (xs : List Dtv). AreNumbered known c.deref-2.result.now xs numbers) c.deref-3.ensures.value c.in_ok-numbers.ensures))
+    c.in_ok-sides.ensures
+    (subst (λ (xs : List ℕ). AreNoted all xs bases) c.deref-5.ensures.value
+    (subst (λ (xs : List Dtv). AreNoted xs c.deref-5.result.now bases) c.deref-4.ensures.value c.in_ok-bases.ensures))
+    (subst (λ (xs : List ℕ). IsAloneAt known xs bases n) c.deref-6.ensures.value
+    (subst (λ bs. IsAloneAt known c.deref-6.result.now bs n) c.deref-8.ensures.value alone)) order had)
 
 pub returns-clause-merges : goal.returns-clause-merges
 returns-clause-merges c =
-    let order = c.args.order.now in
-    let none : (k : ℕ) → HasEqual order c.items.result.now k → ⊥ =
-    subst (λ (o : Option Merge). MatchOption o ((k : ℕ) → HasEqual order c.items.result.now k → ⊥)
-    (λ m. IsMerge order c.items.result.now m.existential m.side)) c.in_default.is (c.in_ok-merge.ensures order) in
-    c.loop-now.invariant.merges c.loop-now.now
-    (none_left (subst (λ (ls : List Line). (k : ℕ) → HasEqual order ls k → ⊥) c.items.ensures none))
+    subst (λ (ls : List Line). Merges c.args.order.now c.in_ok-left.left ls) (c.from_vec-now.ensures ∙ c.in_ok-start.ensures)
+    (c.in_ok-left.ensures.merges c.args.order.now)
+
+pub returns-clause-scheme : goal.returns-clause-scheme
+returns-clause-scheme c = λ h.
+    c.in_ok-left.ensures.scheme (subst AreOfScheme (sym (c.from_vec-now.ensures ∙ c.in_ok-start.ensures)) h)
+
+pub returns-clause-constants : goal.returns-clause-constants
+returns-clause-constants c =
+    c.in_ok-left.ensures.constants c.args.order.now.count
+    (subst (All (HasConstantsBelow c.args.order.now.count)) (sym (c.from_vec-now.ensures ∙ c.in_ok-start.ensures)) c.requires)
+
+pub returns-clause-named : goal.returns-clause-named
+returns-clause-named c = λ n h.
+    subst (λ (ls : List Line). NamesBase ls (Exist n)) (c.from_vec-now.ensures ∙ c.in_ok-start.ensures) (c.in_ok-left.ensures.named n h)

@@ -8,5 +8,5 @@ use Rattle.rt_reduce.proofs.merging.pending.Given as goal
 
 abbrev pub invariant-loop-side : goal.invariant-loop-side
 invariant-loop-side l =
-    (n : ℕ) (x : Dtv) → Contains (take l.side-index l.sides) x → x.base ≡ Exist n → (IsAloneAt l.table.named l.equals l.bases n → ⊥) →
+    (n : ℕ) (x : Dtv) → Contains (take l.side-index l.sides) x → x.base ≡ Exist n → (IsAloneAt l.comparison.named l.equals l.bases n → ⊥) →
     contains nat_cmp l.found n ≡ true
