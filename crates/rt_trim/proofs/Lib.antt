@@ -1,0 +1,9 @@
+pub mod Ends
+pub mod BoundEnds
+pub mod DeadEnds
+pub mod OneTrim
+pub mod Keeping
+pub mod Losing
+pub mod Noting
+pub mod Stepping
+pub mod Following
