@@ -1,0 +1,4 @@
+pub mod Printed
+pub mod Clear
+pub mod OneRow
+pub mod OneDecls

@@ -1,0 +1,7 @@
+pub mod Types
+pub mod Rows
+pub mod Texts
+pub mod GoodDecls
+pub mod GoodRows
+pub mod HeaderWords
+pub mod Laws
