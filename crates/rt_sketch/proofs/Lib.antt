@@ -1,0 +1,14 @@
+pub mod Members
+pub mod Leading
+pub mod Denoting
+pub mod Joining
+pub mod Numbered
+pub mod Bounding
+pub mod Marking
+pub mod Occurring
+pub mod Whole
+pub mod Printing
+pub mod Edging
+pub mod Alike
+pub mod Growing
+pub mod Taking
