@@ -2,6 +2,7 @@ mod Lined
 mod Naming
 mod Placing
 mod Reporting
+mod Sketching
 mod Stopping
 mod Wording
 pub mod Appending

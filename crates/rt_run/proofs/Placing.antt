@@ -14,7 +14,7 @@ use Rattle.rt_components.specs.Groups.{group_at}
 use Rattle.rt_scheme.specs.declared.scheme.Scheme.{Scheme}
 use Rattle.rt_table.specs.Lists.{AreLinesOf, HasGlobalsOf}
 use Rattle.rt_run.specs.declared.analysis.Analysis.{Analysis}
-use Rattle.rt_run.specs.declared.content.Content.TheVariants as told
+use Rattle.rt_run.specs.declared.content.Told.TheVariants as told
 use Rattle.rt_run.specs.Analyses.{AreListed, AreListsOf, AreToldOf, IsAnalysis, IsBodyOf, IsListed, object_in, procs_in}
 
 -- the lists from a place on are put

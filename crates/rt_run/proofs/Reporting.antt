@@ -15,7 +15,7 @@ use Rattle.rt_scheme.specs.declared.report.Entry.{Entry}
 use Rattle.rt_scheme.specs.declared.report.Report.{Report}
 use Rattle.rt_scheme.specs.Reports.{report_text}
 use Rattle.rt_run.specs.declared.analysis.Analysis.{Analysis}
-use Rattle.rt_run.specs.declared.content.Content.{Content}
+use Rattle.rt_run.specs.declared.content.Told.{Told}
 use Rattle.rt_run.specs.Analyses.{AreListsOf, AreToldOf, IsAnalysis, IsListed, object_in, procs_in}
 use Rattle.rt_liveness.specs.Ends.{ends_of}
 use Rattle.rt_run.specs.Objects.{IsInProfile}
@@ -25,7 +25,7 @@ use Rattle.rt_run.specs.Reports.{AreEntries, IsEntryOf, IsReportOf, IsRightOf, I
 -- Lists.
 
 -- the lines at a place are taken away
-pub lists_taken : (told : Content) (analysis : Analysis) (lists lists' : List (Option (List Line))) (place : ℕ) → place < length lists → lists' ≡ set lists place None
+pub lists_taken : (told : Told) (analysis : Analysis) (lists lists' : List (Option (List Line))) (place : ℕ) → place < length lists → lists' ≡ set lists place None
     → AreListsOf told analysis lists → AreListsOf told analysis lists'
 lists_taken told analysis lists lists' place within is before =
     λ number lines here. by number lines (subst (λ l. get_or l number None ≡ Some lines) is here) (cases_order number place)
@@ -42,7 +42,7 @@ lists_taken told analysis lists lists' place within is before =
 -- Entries.
 
 -- the entries of the first procedures, as many as there are entries, and the lists that are left
-pub record AreBegun (told : Content) (analysis : Analysis) (n : ℕ) (entries : List Entry) (lists : List (Option (List Line))) : Type 0 where
+pub record AreBegun (told : Told) (analysis : Analysis) (n : ℕ) (entries : List Entry) (lists : List (Option (List Line))) : Type 0 where
   pub one_each : length entries ≡ n
   pub each : (number : ℕ) (proc : Proc) (entry : Entry) → number < n → IsEntryOf number (get_or (procs_in analysis) number proc) (get_or entries number entry)
   pub lines : (number : ℕ) (entry : Entry) → number < n
@@ -69,7 +69,7 @@ length_push : (xs : List Entry) (x : Entry) → length (xs ++ x ∷ []) ≡ leng
 length_push [] x = refl
 length_push (y ∷ ys) x = omega (arith, length_push ys x)
 
-pub begun_none : (told : Content) (analysis : Analysis) (lists : List (Option (List Line))) → length lists ≡ length (procs_in analysis) → AreListsOf told analysis lists
+pub begun_none : (told : Told) (analysis : Analysis) (lists : List (Option (List Line))) → length lists ≡ length (procs_in analysis) → AreListsOf told analysis lists
     → ((number : ℕ) → number < length (procs_in analysis) → IsListed lists number) → AreBegun told analysis 0 [] lists
 begun_none told analysis lists long left full = record {
   one_each = refl;
@@ -86,7 +86,7 @@ begun_none told analysis lists long left full = record {
 pub read_of : (procs : List Proc) (n : ℕ) (proc : Proc) → proc ≡ get_or procs n proc → n < length procs → (d : Proc) → get_or procs n d ≡ proc
 read_of procs n proc is within d = get_or_default procs n d proc within ∙ sym is
 
-pub begun_next : (told : Content) (analysis : Analysis) (n : ℕ) (proc : Proc) (lines : List Line) (entry : Entry) (entries : List Entry) (lists lists' : List (Option (List Line)))
+pub begun_next : (told : Told) (analysis : Analysis) (n : ℕ) (proc : Proc) (lines : List Line) (entry : Entry) (entries : List Entry) (lists lists' : List (Option (List Line)))
     → AreBegun told analysis n entries lists → proc ≡ get_or (procs_in analysis) n proc → n < length (procs_in analysis) → IsEntryOf n proc entry → entry.lines ≡ lines
     → Some lines ≡ get_or lists n None → lists' ≡ set lists n None
     → AreBegun told analysis (n + 1) (entries ++ entry ∷ []) lists'
@@ -107,7 +107,7 @@ begun_next told analysis n proc lines entry entries lists lists' begun is within
           (rw (get_or-set_other lists n number None None (λ e. omega (arith, e, from))) (begun.listed number (omega (arith, from)) less));
     }
 
-pub begun_whole : (told : Content) (analysis : Analysis) (n : ℕ) (entries : List Entry) (lists : List (Option (List Line))) → n ≡ length (procs_in analysis)
+pub begun_whole : (told : Told) (analysis : Analysis) (n : ℕ) (entries : List Entry) (lists : List (Option (List Line))) → n ≡ length (procs_in analysis)
     → AreBegun told analysis n entries lists → AreEntries told (object_in analysis) analysis.lattice.now analysis.sigs.now (procs_in analysis) analysis.schemes entries
 begun_whole told analysis n entries lists is begun = record {
   one_each = begun.one_each ∙ is;
@@ -118,7 +118,7 @@ begun_whole told analysis n entries lists is begun = record {
 -- Reports.
 
 -- a report of an analysis is right
-right : (told : Content) (object : Object) (procs : List Proc) (analysis : Analysis) (report : Report)
+right : (told : Told) (object : Object) (procs : List Proc) (analysis : Analysis) (report : Report)
     → IsInProfile object (ends_of object analysis.sigs.now) procs → IsAnalysis analysis → object_in analysis ≡ object → procs_in analysis ≡ procs
     → AreEntries told (object_in analysis) analysis.lattice.now analysis.sigs.now (procs_in analysis) analysis.schemes report.entries → AreGlobals object report.entries report.globals
     → IsRightOf told analysis.lattice.now analysis.sigs.now object report
@@ -133,7 +133,7 @@ right told object procs analysis report in_profile is_analysis is_object are_pro
       globals = subst (λ o. AreGlobals o report.entries report.globals) (sym is_object) globals;
     })
 
-pub right_text : (told : Content) (object : Object) (procs : List Proc) (order : NamedOrder) (signatures : List Signature) (names : List (List ℕ)) (analysis : Analysis) (report : Report)
+pub right_text : (told : Told) (object : Object) (procs : List Proc) (order : NamedOrder) (signatures : List Signature) (names : List (List ℕ)) (analysis : Analysis) (report : Report)
     {X E : Type 0} (items : X → List ℕ) (text : Result X E)
     → IsInProfile object (ends_of object signatures) procs → IsAnalysis analysis → object_in analysis ≡ object → procs_in analysis ≡ procs → analysis.sigs.now ≡ signatures → analysis.lattice.now ≡ order
     → AreEntries told (object_in analysis) analysis.lattice.now analysis.sigs.now (procs_in analysis) analysis.schemes report.entries → AreGlobals object report.entries report.globals

@@ -1,5 +1,5 @@
 -- How a command stops, and what it writes.
-use Rattle.std.proofs.Common.{Bor, ◌≡◌, ◌∙◌, ℕ, zero, suc, ◌≤◌, List, [], ◌∷◌, ◌++◌, Option, Some, None, ap, arith, inl, inr, refl, subst, sym, take}
+use Rattle.std.proofs.Common.{Bor, ◌≡◌, ◌∙◌, ℕ, zero, suc, ◌≤◌, List, [], ◌∷◌, Option, Some, None, ap, arith, inl, inr, refl, subst, sym, take}
 use Rattle.std.specs.Prelude.{IfSome}
 use Rattle.rt_base.specs.Outside.{Rose, Tells}
 use Rattle.rt_lattice.specs.Lattices.{NamedOrder}
@@ -12,25 +12,8 @@ use Rattle.rt_run.specs.declared.no_text.NoText.TheVariants.{Refused as RefusedT
 use Rattle.rt_run.specs.Errors.{read_line, refusal_line}
 use Rattle.rt_run.specs.NoTexts.{IsNoText}
 use Rattle.rt_run.specs.Words.{Command, Report, Entail, Step, OfLattice, OfSignatures, OfInput, lattice_of, signatures_of, inputs_of}
-use Rattle.rt_run.specs.Inputs.{Contents, with_first, contents_of, IsLatticeFor, AreSignaturesIn, AreSignaturesFor, IsLatticeRefused, IsSignaturesRefused}
-use Rattle.rt_run.specs.Status.{
-  AreAccepted,
-  AreInputs,
-  ComesTo,
-  ComesToInput,
-  Gives,
-  IsInputRefused,
-  IsRefusedAt,
-  IsRefusedBy,
-  of_lattice,
-  of_signatures,
-  of_input,
-  IsStopFor,
-  IsTextFor,
-  Stops,
-  StopsAt,
-  StopsFor,
-}
+use Rattle.rt_run.specs.Inputs.{Contents, with_first, IsLatticeFor, AreSignaturesIn, AreSignaturesFor, IsLatticeRefused, IsSignaturesRefused}
+use Rattle.rt_run.specs.Status.{AreAccepted, AreInputs, ComesTo, ComesToInput, Gives, IsInputRefused, IsRefusedBy, of_lattice, of_signatures, of_input, IsStopFor, IsTextFor, Stops, StopsAt, StopsFor}
 
 -- a count that rose later rose from before
 rose_from : (a b c : ℕ) → a ≤ b → Rose b c → Rose a c

@@ -12,7 +12,7 @@ use Rattle.rt_table.specs.Facts.{IsFactsOf}
 use Rattle.rt_table.specs.Lists.{AreGiven, HasGlobalsOf}
 use Rattle.rt_solve.specs.Solved.{AreSolved}
 use Rattle.rt_run.specs.declared.analysis.Analysis.{Analysis}
-use Rattle.rt_run.specs.declared.content.Content.{Content}
+use Rattle.rt_run.specs.declared.content.Told.{Told}
 use Rattle.rt_run.specs.Reports.{IsTold}
 
 -- its object, and the object's procedures
@@ -38,19 +38,19 @@ pub record AreKept (object : Object) (count : ℕ) (lines : List Line) : Type 0 
   pub globals : HasGlobalsOf object lines
 
 -- lines that are told of the procedure of a number
-pub record AreToldOf (told : Content) (object : Object) (order : NamedOrder) (signatures : List Signature) (procs : List Proc)
+pub record AreToldOf (told : Told) (object : Object) (order : NamedOrder) (signatures : List Signature) (procs : List Proc)
     (schemes : List (Option Scheme)) (number : ℕ) (lines : List Line) : Type 0 where
   pub are_told : IsTold told object order signatures procs schemes number lines
   pub are_kept : AreKept object (size_of order) lines
 
 -- of each number the lines are such, where there are any
-abbrev pub AreLists : Content → Object → NamedOrder → List Signature → List Proc → List (Option Scheme) → List (Option (List Line)) → Type 0
+abbrev pub AreLists : Told → Object → NamedOrder → List Signature → List Proc → List (Option Scheme) → List (Option (List Line)) → Type 0
 AreLists told object order signatures procs schemes lists =
     (number : ℕ) (lines : List Line) → slice_index_or lists number None ≡ Some lines
     → AreToldOf told object order signatures procs schemes number lines
 
 -- the same for those of an analysis
-abbrev pub AreListsOf : Content → Analysis → List (Option (List Line)) → Type 0
+abbrev pub AreListsOf : Told → Analysis → List (Option (List Line)) → Type 0
 AreListsOf told analysis = AreLists told (object_in analysis) analysis.lattice.now analysis.sigs.now (procs_in analysis) analysis.schemes
 
 -- there are lines of the procedure of a number

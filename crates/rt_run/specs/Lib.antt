@@ -6,6 +6,8 @@ pub mod NoTexts
 pub mod Objects
 pub mod Globals
 pub mod Reports
+pub mod Sketches
+pub mod Texts
 pub mod Analyses
 pub mod Entails
 pub mod Status

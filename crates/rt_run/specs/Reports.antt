@@ -13,9 +13,9 @@ use Rattle.rt_scheme.specs.declared.scheme.Scheme.{Scheme}
 use Rattle.rt_scheme.specs.declared.report.Entry.{Entry}
 use Rattle.rt_scheme.specs.declared.report.Report.{Report}
 use Rattle.rt_scheme.specs.Reports.{report_text}
-use Rattle.rt_run.specs.declared.content.Content.{Content}
-use Rattle.rt_run.specs.declared.content.Content.TheVariants.{Constraints, Schemes}
-use Rattle.rt_run.specs.Objects.{IsInProfile, IsReadAs}
+use Rattle.rt_run.specs.declared.content.Told.{Told}
+use Rattle.rt_run.specs.declared.content.Told.TheVariants.{Constraints, Schemes}
+use Rattle.rt_run.specs.Objects.{IsInProfile}
 use Rattle.rt_run.specs.Globals.{AreGlobals}
 
 -- The schemes of an object's procedures: in each group of procedures that call each other, each member's scheme is reduced (nothing in it is
@@ -48,7 +48,7 @@ pub record IsScheme (schemes : List (Option Scheme)) (number : ℕ) (lines : Lis
   pub lines_are : lines ≡ scheme.lines
 
 -- what a report tells of the procedure of a number
-abbrev pub IsTold : Content → Object → NamedOrder → List Signature → List Proc → List (Option Scheme) → ℕ → List Line → Type 0
+abbrev pub IsTold : Told → Object → NamedOrder → List Signature → List Proc → List (Option Scheme) → ℕ → List Line → Type 0
 IsTold Constraints object order signatures procs schemes = AreConstraints object order signatures procs schemes
 IsTold Schemes object order signatures procs schemes = IsScheme schemes
 
@@ -60,7 +60,7 @@ pub record IsEntryOf (number : ℕ) (proc : Proc) (entry : Entry) : Type 0 where
   pub name : entry.name ≡ proc.name
 
 -- an entry for each procedure, in the order of their numbers
-pub record AreEntries (told : Content) (object : Object) (order : NamedOrder) (signatures : List Signature) (procs : List Proc)
+pub record AreEntries (told : Told) (object : Object) (order : NamedOrder) (signatures : List Signature) (procs : List Proc)
     (schemes : List (Option Scheme)) (entries : List Entry) : Type 0 where
   pub one_each : length entries ≡ length procs
   pub each : (number : ℕ) (proc : Proc) (entry : Entry) → number < length procs
@@ -69,7 +69,7 @@ pub record AreEntries (told : Content) (object : Object) (order : NamedOrder) (s
       → IsTold told object order signatures procs schemes number (get_or entries number entry).lines
 
 -- a right report of an object of the profile, with this lattice and these signatures
-pub record IsRightOf (told : Content) (order : NamedOrder) (signatures : List Signature) (object : Object) (report : Report) : Type 0 where
+pub record IsRightOf (told : Told) (order : NamedOrder) (signatures : List Signature) (object : Object) (report : Report) : Type 0 where
   pub procs : List Proc
   pub in_profile : IsInProfile object (ends_of object signatures) procs
   pub schemes : List (Option Scheme)
@@ -78,13 +78,7 @@ pub record IsRightOf (told : Content) (order : NamedOrder) (signatures : List Si
   pub globals : AreGlobals object report.entries report.globals
 
 -- the text of a right report of an object
-pub record IsReportOf (told : Content) (order : NamedOrder) (signatures : List Signature) (object : Object) (text : List ℕ) : Type 0 where
+pub record IsReportOf (told : Told) (order : NamedOrder) (signatures : List Signature) (object : Object) (text : List ℕ) : Type 0 where
   pub report : Report
   pub is_right : IsRightOf told order signatures object report
   pub is_text : text ≡ report_text order.names report
-
--- that of the object that the bytes are read as
-pub record IsReportText (told : Content) (order : NamedOrder) (signatures : List Signature) (bytes text : List ℕ) : Type 0 where
-  pub object : Object
-  pub is_read : IsReadAs bytes object
-  pub is_report : IsReportOf told order signatures object text

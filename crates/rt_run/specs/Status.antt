@@ -14,12 +14,12 @@ use Rattle.rt_run.specs.declared.no_text.NoText.TheVariants.{Refused as RefusedT
 use Rattle.rt_run.specs.Words.{Command, Report, Entail, Step, OfLattice, OfSignatures, OfInput, lattice_of, signatures_of, inputs_of}
 use Rattle.rt_run.specs.Inputs.{Contents, contents_of, OfOne, IsLatticeFor, AreSignaturesFor, IsLatticeRefused, IsSignaturesRefused}
 use Rattle.rt_run.specs.Objects.{IsRefused}
-use Rattle.rt_run.specs.Reports.{IsReportText}
+use Rattle.rt_run.specs.Texts.{IsObjectText}
 use Rattle.rt_run.specs.Entails.{IsEntailRefused, IsEntailText}
 
 -- the last of these contents of a command's own files is refused so, with this lattice and these signatures
 abbrev pub IsInputRefused : Command → NamedOrder → List Signature → List (List ℕ) → Refusal → Type 0
-IsInputRefused (Report told options object) order signatures inputs refusal =
+IsInputRefused (Report content options object) order signatures inputs refusal =
     OfOne inputs (λ (bytes : List ℕ). IsRefused signatures bytes refusal)
 IsInputRefused (Entail lattice file judgement) order signatures inputs refusal =
     OfOne inputs (λ (text : List ℕ). IsEntailRefused order.names judgement text refusal)
@@ -31,8 +31,8 @@ AreAccepted command order signatures inputs =
 
 -- the text is what the command writes for the contents of its own files, with this lattice and these signatures
 abbrev pub IsTextFor : Command → NamedOrder → List Signature → List (List ℕ) → List ℕ → Type 0
-IsTextFor (Report told options object) order signatures inputs text =
-    OfOne inputs (λ (bytes : List ℕ). IsReportText told order signatures bytes text)
+IsTextFor (Report content options object) order signatures inputs text =
+    OfOne inputs (λ (bytes : List ℕ). IsObjectText content order signatures bytes text)
 IsTextFor (Entail lattice file judgement) order signatures inputs text =
     OfOne inputs (λ (lines : List ℕ). IsEntailText order judgement lines text)
 

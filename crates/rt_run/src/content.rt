@@ -1,10 +1,19 @@
-// What a report tells.
+// What is written of an object.
 
-/// What a report of an object tells of each procedure.
+/// What is written of each of an object's procedures.
 #[derive(Clone, Copy, Debug, PartialEq, Eq)]
 pub enum Content {
-    /// The lines of its instructions.
+    /// Lines: a report.
+    Lines(Told),
+    /// The sketch of its scheme.
+    Sketches,
+}
+
+/// Which lines a report tells of each procedure.
+#[derive(Clone, Copy, Debug, PartialEq, Eq)]
+pub enum Told {
+    /// Those of its instructions.
     Constraints,
-    /// A scheme: lines that tell whoever calls it the same, with nothing to spare.
+    /// Those of its scheme, which tell whoever calls it the same, with nothing to spare.
     Schemes,
 }

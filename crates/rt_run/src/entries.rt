@@ -7,7 +7,7 @@ ghost use Rattle.rt_run.specs.Analyses.{IsAnalysis, object_in, procs_in};
 ghost use Rattle.rt_run.specs.Reports.{AreEntries, IsEntryOf};
 
 use crate::analysis::Analysis;
-use crate::content::Content;
+use crate::content::Told;
 use crate::lists::Lists;
 use rt_base::Memory;
 use rt_lines::Lines;
@@ -42,17 +42,14 @@ fn take_at(lists: &mut Lists, place: usize) -> Option<Lines>
 }
 
 /// The entries of an object's procedures, in the order of their numbers, with what a report tells of each.
-pub fn entries_of(
-    alloc: Global,
-    content: Content,
-    analysis: &Analysis<'_>,
-) -> Result<Entries, Memory>
+pub fn entries_of(alloc: Global, told: Told, analysis: &Analysis<'_>) -> Result<Entries, Memory>
     requires { IsAnalysis analysis.now }
-    ensures entries { IfOk result (AreEntries content (object_in analysis.now) analysis.now.lattice.now analysis.now.sigs.now (procs_in analysis.now) analysis.now.schemes) }
+    ensures entries { IfOk result (AreEntries told (object_in analysis.now) analysis.now.lattice.now analysis.now.sigs.now
+        (procs_in analysis.now) analysis.now.schemes) }
     ensures constants { IfOk result (All (λ entry. All (HasConstantsBelow (size_of analysis.now.lattice.now)) entry.lines)) }
     ensures globals { IfOk result (All (λ entry. HasGlobalsOf (object_in analysis.now) entry.lines)) }
 {
-    let mut lists = analysis.lists(alloc, content)?;
+    let mut lists = analysis.lists(alloc, told)?;
     let mut entries = Entries::new(alloc);
     for (place, proc) in analysis.facts.procs().items().iter().enumerate() {
         let Ok(number) = u32::try_from(place) else {

@@ -82,7 +82,8 @@ pub fn lattice_for<'a, F: Files>(
     ensures same { (n : List ℕ) → F.content files.new n ≡ F.content files.old n }
     ensures counted { (n : List ℕ) → F.faults files.old n ≤ F.faults files.new n }
     ensures lattice { IfOk result (IsLatticeFor (F.content files.old) (option_copied name.entry)) }
-    ensures stopped { IfErr result (StopsFor IsLatticeRefused (F.content files.old) (F.faults files.old) (F.faults files.new) (option_copied name.entry)) }
+    ensures stopped { IfErr result (StopsFor IsLatticeRefused (F.content files.old) (F.faults files.old) (F.faults files.new)
+        (option_copied name.entry)) }
 {
     let Some(name) = name else {
         return match standard(alloc) {
@@ -116,7 +117,8 @@ fn read_signatures<'a, F: Files>(
     ensures counted { (n : List ℕ) → F.faults files.old n ≤ F.faults files.new n }
     ensures signatures { IfOk result (λ sigs. IfSome (F.content files.old name.now) (λ text. AreSignaturesIn names.now text sigs)) }
     ensures good { IfOk result (AreSignatures (length names.now)) }
-    ensures stopped { IfErr result (StopsAt (IsSignaturesRefused names.now) (F.content files.old) (F.faults files.old) (F.faults files.new) name.now) }
+    ensures stopped { IfErr result (StopsAt (IsSignaturesRefused names.now) (F.content files.old) (F.faults files.old)
+        (F.faults files.new) name.now) }
 {
     let too_large = Refusal::BadSignatures(SigFault::TooLarge);
     match content_of(alloc, name, SIGNATURES_LIMIT, too_large, files) {
@@ -136,7 +138,8 @@ pub fn signatures_for<'a, F: Files>(
     ensures counted { (n : List ℕ) → F.faults files.old n ≤ F.faults files.new n }
     ensures signatures { IfOk result (AreSignaturesFor (F.content files.old) names.now (option_copied name.entry)) }
     ensures good { IfOk result (AreSignatures (length names.now)) }
-    ensures stopped { IfErr result (StopsFor (IsSignaturesRefused names.now) (F.content files.old) (F.faults files.old) (F.faults files.new) (option_copied name.entry)) }
+    ensures stopped { IfErr result (StopsFor (IsSignaturesRefused names.now) (F.content files.old) (F.faults files.old)
+        (F.faults files.new) (option_copied name.entry)) }
 {
     let Some(name) = name else {
         return Ok(Sigs::empty(alloc));

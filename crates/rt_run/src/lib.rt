@@ -13,9 +13,11 @@ mod objects;
 mod put;
 mod refusal;
 mod reports;
+mod sketches;
 mod stop;
 #[cfg(test)]
 mod tests;
+mod texts;
 mod top;
 mod words;
 

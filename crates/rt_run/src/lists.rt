@@ -5,7 +5,7 @@ ghost use Rattle.rt_scheme.specs.declared.scheme.Scheme.{Scheme};
 ghost use Rattle.rt_run.specs.Analyses.{AreListed, AreListsOf, IsAnalysis, IsBodyOf, IsListed, procs_in};
 
 use crate::analysis::Analysis;
-use crate::content::Content;
+use crate::content::Told;
 use rt_base::Memory;
 use rt_lines::Lines;
 use rt_table::{Bodies, lines_of};
@@ -48,9 +48,9 @@ impl Analysis<'_> {
         requires analysis { IsAnalysis self.now }
         requires group { Contains self.now.groups group.now }
         requires long { length lists.old.items ≡ length (procs_in self.now) }
-        requires lists { AreListsOf Content.Constraints self.now lists.old.items }
+        requires lists { AreListsOf Told.Constraints self.now lists.old.items }
         ensures long { OnOk result (length lists.new.items ≡ length lists.old.items) }
-        ensures lists { OnOk result (AreListsOf Content.Constraints self.now lists.new.items) }
+        ensures lists { OnOk result (AreListsOf Told.Constraints self.now lists.new.items) }
         ensures members { OnOk result (AreListed lists.new.items group.now) }
         ensures kept { OnOk result ((number : ℕ) → IsListed lists.old.items number → IsListed lists.new.items number) }
     {
@@ -70,7 +70,7 @@ impl Analysis<'_> {
     fn constraints(&self, alloc: Global) -> Result<Lists, Memory>
         requires { IsAnalysis self.now }
         ensures long { IfOk result (λ lists. length lists.items ≡ length (procs_in self.now)) }
-        ensures lists { IfOk result (λ lists. AreListsOf Content.Constraints self.now lists.items) }
+        ensures lists { IfOk result (λ lists. AreListsOf Told.Constraints self.now lists.items) }
         ensures full { IfOk result (λ lists. (number : ℕ) → number < length (procs_in self.now) → IsListed lists.items number) }
     {
         let mut lists = none(alloc, self.facts.procs().len())?;
@@ -83,7 +83,8 @@ impl Analysis<'_> {
     // The lines of the scheme of the procedure of a number.
     fn scheme_lines(&self, number: u32) -> Result<Option<Lines>, Memory>
         requires { number < length self.now.schemes }
-        ensures { IfOk result (λ lines. lines ≡ option_map (λ (scheme : Scheme). scheme.lines) (slice_index_or self.now.schemes number None)) }
+        ensures { IfOk result (λ lines. lines ≡ option_map (λ (scheme : Scheme). scheme.lines)
+            (slice_index_or self.now.schemes number None)) }
     {
         match self.schemes.get(number) {
             Some(scheme) => Ok(Some(scheme.lines.copy()?)),
@@ -95,7 +96,7 @@ impl Analysis<'_> {
     fn scheme_lists(&self, alloc: Global) -> Result<Lists, Memory>
         requires { IsAnalysis self.now }
         ensures long { IfOk result (λ lists. length lists.items ≡ length (procs_in self.now)) }
-        ensures lists { IfOk result (λ lists. AreListsOf Content.Schemes self.now lists.items) }
+        ensures lists { IfOk result (λ lists. AreListsOf Told.Schemes self.now lists.items) }
         ensures full { IfOk result (λ lists. (number : ℕ) → number < length (procs_in self.now) → IsListed lists.items number) }
     {
         let Ok(count) = u32::try_from(self.facts.procs().len()) else {
@@ -109,15 +110,15 @@ impl Analysis<'_> {
     }
 
     /// What a report says of each procedure, by the procedures' numbers. The error is out of memory.
-    pub fn lists(&self, alloc: Global, content: Content) -> Result<Lists, Memory>
+    pub fn lists(&self, alloc: Global, told: Told) -> Result<Lists, Memory>
         requires { IsAnalysis self.now }
         ensures long { IfOk result (λ lists. length lists.items ≡ length (procs_in self.now)) }
-        ensures lists { IfOk result (λ lists. AreListsOf content self.now lists.items) }
+        ensures lists { IfOk result (λ lists. AreListsOf told self.now lists.items) }
         ensures full { IfOk result (λ lists. (number : ℕ) → number < length (procs_in self.now) → IsListed lists.items number) }
     {
-        match content {
-            Content::Constraints => self.constraints(alloc),
-            Content::Schemes => self.scheme_lists(alloc),
+        match told {
+            Told::Constraints => self.constraints(alloc),
+            Told::Schemes => self.scheme_lists(alloc),
         }
     }
 }

@@ -14,8 +14,8 @@ use crate::inputs::{content_of, lattice_for, signatures_for};
 use crate::no_text::NoText;
 use crate::put::{put_all, tell};
 use crate::refusal::{Refusal, read_line, refusal_line};
-use crate::reports::report_text;
 use crate::stop::{Ending, Stop};
+use crate::texts::object_text;
 use crate::words::{Options, Request, read_words};
 use rt_io::{Files, Sink};
 use std::alloc::Global;
@@ -36,7 +36,7 @@ fn stop_of<'a>(why: NoText) -> Stop<'a>
     }
 }
 
-// The text of a report of the object of a name.
+// What is written of the object of a name.
 fn report<'a, F: Files>(
     alloc: Global,
     content: Content,
@@ -61,7 +61,7 @@ fn report<'a, F: Files>(
         Ok(bytes) => bytes,
         Err(stop) => return Err(stop),
     };
-    match report_text(alloc, content, bytes.as_slice(), &sigs, &lattice) {
+    match object_text(alloc, content, bytes.as_slice(), &sigs, &lattice) {
         Ok(text) => Ok(text),
         Err(why) => Err(stop_of(why)),
     }
@@ -139,7 +139,8 @@ fn work<'a, F: Files, O: Sink>(
 // Tells a refusal, and answers the status.
 fn tell_refusal<E: Sink>(alloc: Global, refusal: &Refusal, err: &mut E) -> u8
     ensures statuses { (result ≡ 1) ⊎ (result ≡ 5) }
-    ensures told { result ≡ 1 → Tells (E.faults err.old) (E.faults err.new) (E.written err.old) (E.written err.new) (refusal_line refusal.now) }
+    ensures told { result ≡ 1 → Tells (E.faults err.old) (E.faults err.new) (E.written err.old) (E.written err.new)
+        (refusal_line refusal.now) }
     ensures memory { result ≡ 5 → Tells (E.faults err.old) (E.faults err.new) (E.written err.old) (E.written err.new) memory_line }
 {
     match refusal_line(alloc, refusal) {
@@ -175,11 +176,11 @@ fn tell_unread<E: Sink>(alloc: Global, name: &str, err: &mut E) -> u8
 /// Reads what the words name, writes what it gives, and answers the status: 0 written, 1 an input is refused, 2 the words
 /// aren't of the grammar, 3 a read failed, 4 a write failed, 5 no memory. At each status but 0 one line on `err` tells why.
 ///
-/// `constraints OBJECT` writes, for each procedure of the object, the lines of its instructions, and `schemes OBJECT` a scheme
-/// with nothing to spare that tells whoever calls it the same. `entail FILE JUDGEMENT` writes whether the judgement is
-/// derivable from the lines of the file. The option `--lattice FILE` gives the constants, and `--signatures FILE`, which
-/// `entail` has not, what functions outside the object take and give. Before its own file a command reads and checks the
-/// lattice, and then the signatures. The text is made whole before it is put.
+/// `constraints OBJECT` writes, for each procedure of the object, the lines of its instructions, `schemes OBJECT` a scheme
+/// with nothing to spare that tells whoever calls it the same, and `sketches OBJECT` the sketch of that scheme. `entail FILE
+/// JUDGEMENT` writes whether the judgement is derivable from the lines of the file. The option `--lattice FILE` gives the
+/// constants, and `--signatures FILE`, which `entail` has not, what functions outside the object take and give. Before its own
+/// file a command reads and checks the lattice, and then the signatures. The text is made whole before it is put.
 pub fn run<F: Files, O: Sink, E: Sink>(
     alloc: Global,
     words: &Vec<String>,
@@ -197,7 +198,8 @@ pub fn run<F: Files, O: Sink, E: Sink>(
     ensures silent { result ≡ 0 → E.written err.new ≡ E.written err.old }
 
     // At status 1 the first of the command's files that is refused is so by the refusal that the line tells.
-    ensures refused { result ≡ 1 → IfSome (command_of (map string_bytes words.now.items)) (λ command. (refusal : Refusal) × IsRefusedBy command (F.content files.old) refusal ×
+    ensures refused { result ≡ 1 → IfSome (command_of (map string_bytes words.now.items)) (λ command. (refusal : Refusal) ×
+        IsRefusedBy command (F.content files.old) refusal ×
         Tells (E.faults err.old) (E.faults err.new) (E.written err.old) (E.written err.new) (refusal_line refusal)) }
 
     ensures usage_told { result ≡ 2 →

@@ -4,7 +4,7 @@ ghost use Rattle.std.specs.String.{string_bytes};
 ghost use Rattle.rt_run.specs.Words.{command_of, entail_by, entail_of, is_argument, no_options, report_of};
 ghost use Rattle.rt_run.specs.Meant.{meaning, options_of};
 
-use crate::content::Content;
+use crate::content::{Content, Told};
 
 /// The files that options name.
 #[derive(Clone, Copy, Debug)]
@@ -18,9 +18,9 @@ pub struct Options<'a> {
 /// What the words ask for.
 #[derive(Clone, Copy, Debug)]
 pub enum Request<'a> {
-    /// A report of an object.
+    /// What is written of an object.
     Report {
-        /// What it tells.
+        /// What this is.
         content: Content,
         /// The files that options name.
         options: Options<'a>,
@@ -51,8 +51,10 @@ fn may_be_argument(word: &str) -> bool
 impl<'a> Options<'a> {
     // The options with one more, of this word and file, if that is one that isn't there yet.
     fn with(self, word: &str, file: &'a str) -> Option<Options<'a>>
-        ensures { (content : Content) (rest : List (List ℕ)) → MatchOption result (report_of content (options_of self.entry) (word.now ∷ file.now ∷ rest) ≡ None)
-            (λ options. report_of content (options_of self.entry) (word.now ∷ file.now ∷ rest) ≡ report_of content (options_of options) rest) }
+        ensures { (content : Content) (rest : List (List ℕ)) →
+            MatchOption result (report_of content (options_of self.entry) (word.now ∷ file.now ∷ rest) ≡ None)
+            (λ options. report_of content (options_of self.entry) (word.now ∷ file.now ∷ rest) ≡
+            report_of content (options_of options) rest) }
     {
         match word {
             "--lattice" if self.lattice.is_none() && may_be_argument(file) => Some(Options {
@@ -68,7 +70,7 @@ impl<'a> Options<'a> {
     }
 }
 
-// The request of the words of a report.
+// The request of the words after a command for an object.
 fn read_report(content: Content, words: &[String]) -> Option<Request<'_>>
     ensures { MatchOption result (report_of content no_options (map string_bytes words.now) ≡ None)
         (λ request. report_of content no_options (map string_bytes words.now) ≡ Some (meaning request)) }
@@ -146,8 +148,9 @@ pub fn read_words(words: &[String]) -> Option<Request<'_>>
         return None;
     };
     match word.as_str() {
-        "constraints" => read_report(Content::Constraints, rest),
-        "schemes" => read_report(Content::Schemes, rest),
+        "constraints" => read_report(Content::Lines(Told::Constraints), rest),
+        "schemes" => read_report(Content::Lines(Told::Schemes), rest),
+        "sketches" => read_report(Content::Sketches, rest),
         "entail" => read_entail(rest),
         _ => None,
     }

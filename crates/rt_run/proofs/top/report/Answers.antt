@@ -37,5 +37,5 @@ returns g c =
     are_inputs command (g.F.Files.content c.args.files.now) (g.F.Files.content c.lattice_for.new.files) c.in-Ok.lattice c.names.result.now c.in-Ok-signatures_for.sigs
     c.in-Ok.ensures.same c.names.ensures.names c.in-Ok.ensures.lattice c.in-Ok-signatures_for.ensures.signatures in
     stops_for command (g.F.Files.content c.args.files.now) (g.F.Files.content c.signatures_for.new.files) (g.F.Files.faults c.args.files.now) (g.F.Files.faults c.content_of.new.files)
-    c.in-Ok.lattice c.in-Ok-signatures_for.sigs c.args.object.now c.in-Ok-content_of.bytes.items c.as_slice.result.now c.in-Err-report_text.why c.stop_of.result
-    refl (λ n. c.in-Ok-signatures_for.ensures.same n ∙ c.in-Ok.ensures.same n) inputs c.in-Ok-content_of.ensures.found c.as_slice.ensures.value c.in-Err-report_text.ensures.refused c.stop_of.ensures
+    c.in-Ok.lattice c.in-Ok-signatures_for.sigs c.args.object.now c.in-Ok-content_of.bytes.items c.as_slice.result.now c.in-Err-object_text.why c.stop_of.result
+    refl (λ n. c.in-Ok-signatures_for.ensures.same n ∙ c.in-Ok.ensures.same n) inputs c.in-Ok-content_of.ensures.found c.as_slice.ensures.value c.in-Err-object_text.ensures.refused c.stop_of.ensures
