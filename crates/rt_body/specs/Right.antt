@@ -20,8 +20,10 @@ pub record IsReading (object : Object) (proc : Proc) (reading : Reading) : Type 
       → IsValue (IsCandidate reading.body (op_at reading.actions) (Use site register)) (reading.value_at site register)
   pub value_of : (site register : ℕ) → Contains (defined_by (action_at reading.actions site)) register
       → IsValue (IsCandidate reading.body (op_at reading.actions) (Definition (At site) register)) (reading.value_of site register)
-  pub reaching : (site register : ℕ) → site < length reading.actions → AreReaching reading.body (pos register) site (reading.reaching site register)
-  pub value_at_else : (site register : ℕ) → (site < length reading.actions → register < 32 → ⊥) → reading.value_at site register ≡ value.Multi
+  pub reaching : (site register : ℕ) → site < length reading.actions →
+      AreReaching reading.body (pos register) site (reading.reaching site register)
+  pub value_at_else : (site register : ℕ) → (site < length reading.actions → register < 32 → ⊥) →
+      reading.value_at site register ≡ value.Multi
   pub value_of_else : (site register : ℕ) → (Contains (defined_by (action_at reading.actions site)) register → ⊥)
       → reading.value_of site register ≡ value.At site register (pos 0)
   pub reaching_else : (site register : ℕ) → length reading.actions ≤ site → reading.reaching site register ≡ []

@@ -19,7 +19,8 @@ use_value body site register = if is_use body site register then value_at body.v
 
 -- what the definition of a register by a site gives; a value of its own where there is no such site or register
 unfoldable pub definition_value : Body → ℕ → ℕ → Value
-definition_value body site register = if is_use body site register then value_of body.values site register else value.At site register (pos 0)
+definition_value body site register = if is_use body site register then value_of body.values site register else value.At site register
+    (pos 0)
 
 -- the definitions of a register that reach a site; none where there is no such site
 unfoldable pub reaching_use : Body → ℕ → ℕ → List Def

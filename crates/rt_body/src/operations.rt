@@ -48,7 +48,8 @@ pub(crate) fn operations(alloc: Global, actions: &[Action]) -> Result<Ops, Memor
     requires few { length actions.now < 2 ^ 32 }
     requires registers { All HasOpRegisters actions.now }
     ensures sites { IfOk result (λ ops. ops_sites ops ≡ length actions.now) }
-    ensures same { IfOk result (λ ops. (s r : ℕ) → Contains (defined_by (action_at actions.now s)) r → op_in ops s r ≡ op_at actions.now s r) }
+    ensures same { IfOk result (λ ops. (s r : ℕ) → Contains (defined_by (action_at actions.now s)) r →
+        op_in ops s r ≡ op_at actions.now s r) }
     ensures rest { IfOk result (λ ops. (s r : ℕ) → (Contains (defined_by (action_at actions.now s)) r → ⊥) → op_in ops s r ≡ Op.Own) }
 {
     let mut ops = Ops::new(alloc, actions.len() as u32)?;

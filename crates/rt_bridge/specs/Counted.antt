@@ -45,7 +45,8 @@ pub data Bridge (L : Given) (M : Var → Type 0) : State → State → ℕ → T
   down : {x y : Var} → HasSub L x y → Bridge L M (st y Contra) (st x Contra) 0
   join : {x y z : State} {j k : ℕ} → Bridge L M x y j → Bridge L M y z k → Bridge L M x z (j + k)
   push : {x y : Var} {l m : Label} {a b : Variance} {d k : ℕ} → M (dot x l) → M (dot y m) → Der L (V (dot x l)) → Der L (V (dot y m)) →
-      Bridge L M (st x (times (label_variance l) a)) (st y (times (label_variance m) b)) d → Push L x l m d a b k → Bridge L M (st (dot x l) a) (st (dot y m) b) k
+      Bridge L M (st x (times (label_variance l) a)) (st y (times (label_variance m) b)) d → Push L x l m d a b k →
+      Bridge L M (st (dot x l) a) (st (dot y m) b) k
 
 -- it can be read and written through
 abbrev pub Flip : Given → Var → Type 0

@@ -36,7 +36,8 @@ AreFlips L flips = (x : Var) → IsTrue (flips x) ↔ Flip L x
 -- between named variables, of which the first exists, one lies below the other exactly if a judgement counts nought
 abbrev pub ExactLaw : Type 0
 ExactLaw =
-    (L : Given) (named flips : Var → Bool) → AreNamed L named → AreFlips L flips → (x y : Var) → Named named x → Named named y → Der L (V x) →
+    (L : Given) (named flips : Var → Bool) → AreNamed L named → AreFlips L flips → (x y : Var) → Named named x → Named named y →
+    Der L (V x) →
     Der L (S x y) ↔ Bridge L (Named named) (st x Co) (st y Co) 0
 
 -- each edge is a counted judgement, the subtype lines are edges, and whatever is pushed from a way has a way
@@ -49,7 +50,8 @@ pub record IsTable (L : Given) (named : Var → Bool) (edge : State → State �
 abbrev pub WaysLaw : Type 0
 WaysLaw =
     (L : Given) (named : Var → Bool) (edge : State → State → ℕ → Bool) → AreNamed L named → IsTable L named edge → (x y : State) (k : ℕ) →
-    (Bridge L (Named named) x y k → WayIn (Edge edge) x y k) × (Named named x.var → Der L (V x.var) → Way (Edge edge) x y k → Bridge L (Named named) x y k)
+    (Bridge L (Named named) x y k → WayIn (Edge edge) x y k) ×
+    (Named named x.var → Der L (V x.var) → Way (Edge edge) x y k → Bridge L (Named named) x y k)
 
 -- in a closed table a way of count nought leads from one variable to another exactly if the first lies below the second
 abbrev pub TableLaw : Type 0

@@ -34,8 +34,10 @@ AreAllOnes word flips = (i : ℕ) → i < length word → IsTrue (slice_index_or
 -- two words that differ in load against store alone, and only where a place flips
 pub data AreSpellings : List Bool → List Label → List Label → Type 0 where
   at_end : AreSpellings [] [] []
-  equal_at : {flips : List Bool} {v w : List Label} (b : Bool) (l : Label) → AreSpellings flips v w → AreSpellings (b ∷ flips) (l ∷ v) (l ∷ w)
-  flipped_at : {flips : List Bool} {v w : List Label} (l m : Label) → IsPointer l → IsPointer m → AreSpellings flips v w → AreSpellings (true ∷ flips) (l ∷ v) (m ∷ w)
+  equal_at : {flips : List Bool} {v w : List Label} (b : Bool) (l : Label) → AreSpellings flips v w →
+      AreSpellings (b ∷ flips) (l ∷ v) (l ∷ w)
+  flipped_at : {flips : List Bool} {v w : List Label} (l m : Label) → IsPointer l → IsPointer m → AreSpellings flips v w →
+      AreSpellings (true ∷ flips) (l ∷ v) (m ∷ w)
 
 -- the variable can be read and written through
 abbrev pub HasBoth : Below → List Line → Dtv → Type 0
@@ -44,8 +46,10 @@ HasBoth order lines x = Derivable order lines (Var (longer x Load)) × Derivable
 -- which places of a word after a variable flip: those with a load or a store where the variable before them can be read and written through
 pub data AreFlips (order : Below) (lines : List Line) : Dtv → List Label → List Bool → Type 0 where
   no_places : (x : Dtv) → AreFlips order lines x [] []
-  flips : (x : Dtv) (l : Label) (w : List Label) (flips : List Bool) → IsPointer l → HasBoth order lines x → AreFlips order lines (longer x l) w flips → AreFlips order lines x (l ∷ w) (true ∷ flips)
-  stands : (x : Dtv) (l : Label) (w : List Label) (flips : List Bool) → (IsPointer l × HasBoth order lines x → ⊥) → AreFlips order lines (longer x l) w flips → AreFlips order lines x (l ∷ w) (false ∷ flips)
+  flips : (x : Dtv) (l : Label) (w : List Label) (flips : List Bool) → IsPointer l → HasBoth order lines x →
+      AreFlips order lines (longer x l) w flips → AreFlips order lines x (l ∷ w) (true ∷ flips)
+  stands : (x : Dtv) (l : Label) (w : List Label) (flips : List Bool) → (IsPointer l × HasBoth order lines x → ⊥) →
+      AreFlips order lines (longer x l) w flips → AreFlips order lines x (l ∷ w) (false ∷ flips)
 
 -- only `var` lines
 abbrev pub AreVars : List Line → Type 0
@@ -54,6 +58,8 @@ AreVars lines = (l : Line) → Contains lines l → (x : Dtv) × (l ≡ Var x)
 -- the chain: of `var` lines alone one variable of a base lies below another exactly if both exist, are spellings of each other, and the number doesn't fall
 abbrev pub ChainLaw : Type 0
 ChainLaw =
-    (order : Below) (lines : List Line) (b : Base) (r s : List Label) (flips : List Bool) → AreVars lines → AreFlips order lines (record { base = b; word = [] }) r flips →
+    (order : Below) (lines : List Line) (b : Base) (r s : List Label) (flips : List Bool) → AreVars lines →
+    AreFlips order lines (record { base = b; word = [] }) r flips →
     Derivable order lines (Sub (record { base = b; word = r }) (record { base = b; word = s }))
-    ↔ (Derivable order lines (Var (record { base = b; word = r })) × Derivable order lines (Var (record { base = b; word = s })) × AreSpellings flips r s × (number_of r flips ≤ number_of s flips))
+    ↔ (Derivable order lines (Var (record { base = b; word = r })) × Derivable order lines (Var (record { base = b; word = s })) ×
+    AreSpellings flips r s × (number_of r flips ≤ number_of s flips))

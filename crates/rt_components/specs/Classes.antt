@@ -10,7 +10,8 @@ pub record AreClasses (graph : List (List ℕ)) (class : List ℕ) (count : ℕ)
   pub each : length class ≡ length graph
   pub within : (a : ℕ) → a < length graph → slice_index class a < count
   pub some : (k : ℕ) → k < count → (a : ℕ) × (a < length graph) × (slice_index class a ≡ k)
-  pub together : (a b : ℕ) → a < length graph → b < length graph → (slice_index class a ≡ slice_index class b) ↔ AreTogether (HasEdge graph) a b
+  pub together : (a b : ℕ) → a < length graph → b < length graph → (slice_index class a ≡ slice_index class b) ↔
+      AreTogether (HasEdge graph) a b
   pub down : (a b : ℕ) → HasEdge graph a b → (b < length graph) × (slice_index class b ≤ slice_index class a)
 
 -- of nodes before one, those of each class, rising
@@ -29,5 +30,7 @@ pub record AddsOthers (class : List ℕ) (k : ℕ) (nodes old new : List ℕ) : 
 -- for each class, the other classes that edges of its members lead to, of nodes before one
 pub record AreSuccessors (graph : List (List ℕ)) (class : List ℕ) (count upto : ℕ) (others : List (List ℕ)) : Type 0 where
   pub each : length others ≡ count
-  pub found : (a b : ℕ) → a < upto → HasEdge graph a b → slice_index class b ≢ slice_index class a → Contains (group_at others (slice_index class a)) (slice_index class b)
-  pub only : (k h : ℕ) → Contains (group_at others k) h → (a : ℕ) × (b : ℕ) × HasEdge graph a b × (slice_index class a ≡ k) × (slice_index class b ≡ h) × (h ≢ k)
+  pub found : (a b : ℕ) → a < upto → HasEdge graph a b → slice_index class b ≢ slice_index class a →
+      Contains (group_at others (slice_index class a)) (slice_index class b)
+  pub only : (k h : ℕ) → Contains (group_at others k) h → (a : ℕ) × (b : ℕ) × HasEdge graph a b × (slice_index class a ≡ k) ×
+      (slice_index class b ≡ h) × (h ≢ k)

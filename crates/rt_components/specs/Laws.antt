@@ -6,4 +6,5 @@ use Rattle.rt_components.specs.Groups.{AreGroups}
 -- a graph has one list of groups alone
 abbrev pub OneOrder : Type 0
 OneOrder =
-    (graph groups others : List (List ℕ)) → AreGroups (length graph) (HasEdge graph) groups → AreGroups (length graph) (HasEdge graph) others → groups ≡ others
+    (graph groups others : List (List ℕ)) → AreGroups (length graph) (HasEdge graph) groups →
+    AreGroups (length graph) (HasEdge graph) others → groups ≡ others

@@ -21,7 +21,8 @@ pub record AreInOrder (others members : List (List ℕ)) (order : List ℕ) : Ty
   pub within : (i : ℕ) → i < length order → slice_index order i < length others
   pub once : (i j : ℕ) → i < j → j < length order → slice_index order i ≢ slice_index order j
   pub free : (i : ℕ) → i < length order → IsFree others order i (slice_index order i)
-  pub least : (i k : ℕ) → i < length order → k < length others → (IsBefore order i k → ⊥) → IsFree others order i k → least_of members (slice_index order i) ≤ least_of members k
+  pub least : (i k : ℕ) → i < length order → k < length others → (IsBefore order i k → ⊥) → IsFree others order i k →
+      least_of members (slice_index order i) ≤ least_of members k
 
 -- all classes in order
 pub record AreAllInOrder (others members : List (List ℕ)) (order : List ℕ) : Type 0 where
@@ -52,7 +53,8 @@ abbrev pub IsWaiting : List (List ℕ) → List Bool → List (List ℕ) → ℕ
 IsWaiting others come waiting k = (h : ℕ) × Contains (group_at waiting h) k × Contains (group_at others k) h × IsToCome come h
 
 -- Each class has come, or may come next, or waits, or is still to be looked at.
-pub record IsQueueOf (others members : List (List ℕ)) (come : List Bool) (order passed : List ℕ) (waiting : List (List ℕ)) (ready todo : List ℕ) : Type 0 where
+pub record IsQueueOf (others members : List (List ℕ)) (come : List Bool) (order passed : List ℕ) (waiting : List (List ℕ))
+    (ready todo : List ℕ) : Type 0 where
   pub in_order : AreInOrder others members order
   pub come_each : length come ≡ length others
   pub passed_each : length passed ≡ length others
@@ -60,8 +62,10 @@ pub record IsQueueOf (others members : List (List ℕ)) (come : List Bool) (orde
   pub come_on : (k : ℕ) → HasCome come k → Contains order k
   pub come_back : (k : ℕ) → Contains order k → HasCome come k
   pub passed_come : (k e : ℕ) → e < slice_index passed k → e < length (group_at others k) → HasCome come (slice_index (group_at others k) e)
-  pub somewhere : (k : ℕ) → k < length others → IsToCome come k → Contains ready (least_of members k) ⊎ (IsWaiting others come waiting k ⊎ Contains todo k)
-  pub ready_only : (a : ℕ) → Contains ready a → (k : ℕ) × (k < length others) × (least_of members k ≡ a) × IsToCome come k × HaveCome others come k
+  pub somewhere : (k : ℕ) → k < length others → IsToCome come k → Contains ready (least_of members k) ⊎
+      (IsWaiting others come waiting k ⊎ Contains todo k)
+  pub ready_only : (a : ℕ) → Contains ready a → (k : ℕ) × (k < length others) × (least_of members k ≡ a) × IsToCome come k ×
+      HaveCome others come k
   pub waiting_only : (h k : ℕ) → Contains (group_at waiting h) k → (k < length others) × Contains (group_at others k) h
   pub todo_only : (k : ℕ) → Contains todo k → (k < length others) × IsToCome come k
 
@@ -72,7 +76,8 @@ IsQueue others members q todo = IsQueueOf others members q.come.items q.order.it
 -- no class of so many has come, and each is to be looked at
 abbrev pub IsBegun : ℕ → Queue → Type 0
 IsBegun count q =
-    (others members : List (List ℕ)) (todo : List ℕ) → length others ≡ count → ((k : ℕ) → k < count → Contains todo k) → All (λ k. k < count) todo → IsQueue others members q todo
+    (others members : List (List ℕ)) (todo : List ℕ) → length others ≡ count → ((k : ℕ) → k < count → Contains todo k) →
+    All (λ k. k < count) todo → IsQueue others members q todo
 
 -- the class may come next, and has the least member of those that may
 pub record MayTake (others members : List (List ℕ)) (q : Queue) (k : ℕ) : Type 0 where

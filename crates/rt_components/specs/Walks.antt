@@ -59,7 +59,8 @@ pub record IsPath (graph : List (List ℕ)) (state : List State) (followed path 
   pub begun : (i : ℕ) → i < length path → (s : ℕ) × Contains starts s × (s ≤ i)
   pub spent : (i : ℕ) → i < length path → (Contains pending i → ⊥) → IsSpent graph followed (slice_index path i)
   pub leads : (i : ℕ) → i < length path → LeadsOn graph state followed starts i (slice_index path i)
-  pub reached : (i j : ℕ) → i < length path → j < length path → IsNotBefore starts i j → Reaches (HasEdge graph) (slice_index path i) (slice_index path j)
+  pub reached : (i j : ℕ) → i < length path → j < length path → IsNotBefore starts i j →
+      Reaches (HasEdge graph) (slice_index path i) (slice_index path j)
 
 -- a walk along the edges of a graph
 pub record IsWalk (graph : List (List ℕ)) (walk : Walk) : Type 0 where
@@ -114,7 +115,8 @@ pub record MayLeave (graph : List (List ℕ)) (walk : Walk) (place : ℕ) : Type
 
 -- the node is in a class, or on the path in the last component
 abbrev pub IsMetLast : Walk → ℕ → Type 0
-IsMetLast walk a = ((g : ℕ) × (state_of walk.state.items a ≡ InClass g)) ⊎ ((j : ℕ) × (state_of walk.state.items a ≡ OnPath j) × ((s : ℕ) → Contains walk.starts.items s → s ≤ j))
+IsMetLast walk a = ((g : ℕ) × (state_of walk.state.items a ≡ InClass g)) ⊎
+    ((j : ℕ) × (state_of walk.state.items a ≡ OnPath j) × ((s : ℕ) → Contains walk.starts.items s → s ≤ j))
 
 -- what the walk has come to, it has come to later
 abbrev pub KeepsSeen : Walk → Walk → Type 0

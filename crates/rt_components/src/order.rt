@@ -70,7 +70,8 @@ impl Queue {
         successors: &[Sequence<usize>],
     ) -> Result<(), Memory>
         requires { MaySettle successors.now members.now self.old class }
-        ensures queue { OnOk result ((rest : List ℕ) → IsQueue successors.now members.now self.old (class ∷ rest) → IsQueue successors.now members.now self.new rest) }
+        ensures queue { OnOk result ((rest : List ℕ) → IsQueue successors.now members.now self.old (class ∷ rest) →
+            IsQueue successors.now members.now self.new rest) }
         ensures come { OnOk result (self.new.come.items ≡ self.old.come.items) }
     {
         let others = successors[class].items();

@@ -19,7 +19,8 @@ use Rattle.rt_control.specs.Sites.{IsAt}
 
 -- a site does one thing, or has one fault
 abbrev pub IsLawOfOneForm : Type 0
-IsLawOfOneForm = (object : Object) (place : Place) (first second : Result Form SiteFault) → IsAt object place first → IsAt object place second → first ≡ second
+IsLawOfOneForm = (object : Object) (place : Place) (first second : Result Form SiteFault) → IsAt object place first →
+    IsAt object place second → first ≡ second
 
 -- a good place
 abbrev pub IsGood : Object → Place → Type 0

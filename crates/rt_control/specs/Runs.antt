@@ -91,7 +91,8 @@ pub record IsStep (object : Object) (section offset : ℕ) (step : Step) : Type 
 pub data AreBefore (object : Object) (section : ℕ) : ℕ → ℕ → List Step → Type 0 where
   full : {offset : ℕ} → AreBefore object section offset 0 []
   begins : {offset room : ℕ} → offset < 4 → AreBefore object section offset room []
-  breaks : {before offset room : ℕ} → before + 4 ≡ offset → ((step : Step) → IsStep object section before step → ⊥) → AreBefore object section offset room []
+  breaks : {before offset room : ℕ} → before + 4 ≡ offset → ((step : Step) → IsStep object section before step → ⊥) →
+      AreBefore object section offset room []
   goes_back : {before offset room : ℕ} {step : Step} {steps : List Step} → before + 4 ≡ offset → IsStep object section before step
       → AreBefore object section before room steps → AreBefore object section offset (suc room) (step ∷ steps)
 

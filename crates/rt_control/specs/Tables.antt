@@ -118,7 +118,8 @@ entry_target object entry = code_of (symbol_target object entry.symbol entry.add
 abbrev pub entry_targets : Object → List Pointer → Option (List Place)
 entry_targets object [] = Some []
 entry_targets object (entry ∷ entries) =
-    option_and_then (λ (place : Place). option_map (λ (places : List Place). place ∷ places) (entry_targets object entries)) (entry_target object entry)
+    option_and_then (λ (place : Place). option_map (λ (places : List Place). place ∷ places) (entry_targets object entries))
+    (entry_target object entry)
 
 -- places, with one more at the end unless it is among them
 abbrev pub with_place : List Place → Place → List Place

@@ -242,7 +242,8 @@ fn insn_form(
 fn far_form(object: &Object, place: Place, symbol: u32, addend: i32) -> Result<Form, SiteFault>
     requires linked { link_fault object.now ≡ None }
     requires far { link_at object.now place ≡ Some (Pair symbol addend) }
-    ensures { result ≡ pair_form object.now place (register_of (word_of object.now (after place 4))) (symbol_target object.now symbol addend) }
+    ensures { result ≡ pair_form object.now place (register_of (word_of object.now (after place 4)))
+        (symbol_target object.now symbol addend) }
 {
     // The relocations are of the object's code and about its symbols, so both words are of the section.
     let _relocs = object.relocs();

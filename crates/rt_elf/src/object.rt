@@ -31,9 +31,15 @@ impl Model for Object {
 
     ghost Value = { Parts };
 
-    ghost view = { λ object. record { sections = object.sections; symbols = object.symbols; relocs = object.relocs; bytes = object.bytes } };
+    ghost view = { λ object. record {
+      sections = object.sections;
+      symbols = object.symbols;
+      relocs = object.relocs;
+      bytes = object.bytes;
+    } };
 
-    ghost invariant = { λ object. IsSound (record { sections = object.sections; symbols = object.symbols; relocs = object.relocs; bytes = object.bytes }) };
+    ghost invariant = { λ object. IsSound (record
+        { sections = object.sections; symbols = object.symbols; relocs = object.relocs; bytes = object.bytes }) };
 }
 
 impl Object {

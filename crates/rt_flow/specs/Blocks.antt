@@ -16,14 +16,18 @@ pub record AreBlocks (body : Body) (block firsts : List ℕ) : Type 0 where
   pub each : length block ≡ body.sites
   pub within : (s : ℕ) → s < body.sites → slice_index block s + 1 < length firsts
   pub rising : (b : ℕ) → b + 1 < length firsts → slice_index firsts b ≤ slice_index firsts (b + 1)
-  pub begin : (s : ℕ) → s < body.sites → (slice_index firsts (slice_index block s) ≡ s) ⊎ (IsJoined body s × ((p : ℕ) × (p + 1 ≡ s) × (slice_index block p ≡ slice_index block s)))
-  pub last : (s : ℕ) → s < body.sites → (slice_index firsts (slice_index block s + 1) ≡ s + 1) ⊎ ((s + 1 < body.sites) × (slice_index block (s + 1) ≡ slice_index block s))
+  pub begin : (s : ℕ) → s < body.sites → (slice_index firsts (slice_index block s) ≡ s) ⊎
+      (IsJoined body s × ((p : ℕ) × (p + 1 ≡ s) × (slice_index block p ≡ slice_index block s)))
+  pub last : (s : ℕ) → s < body.sites → (slice_index firsts (slice_index block s + 1) ≡ s + 1) ⊎
+      ((s + 1 < body.sites) × (slice_index block (s + 1) ≡ slice_index block s))
 
 -- for each block those to whose first site one of its sites has an edge
 pub record AreTargets (body : Body) (block firsts : List ℕ) (targets : List (List ℕ)) : Type 0 where
   pub each : length targets + 1 ≡ length firsts
-  pub all : (s t : ℕ) → Steps body s t → slice_index firsts (slice_index block t) ≡ t → Contains (slice_index_or targets (slice_index block s) []) (slice_index block t)
-  pub only : (b c : ℕ) → Contains (slice_index_or targets b []) c → (s : ℕ) × (t : ℕ) × Steps body s t × (slice_index block s ≡ b) × (slice_index block t ≡ c) × (slice_index firsts c ≡ t)
+  pub all : (s t : ℕ) → Steps body s t → slice_index firsts (slice_index block t) ≡ t →
+      Contains (slice_index_or targets (slice_index block s) []) (slice_index block t)
+  pub only : (b c : ℕ) → Contains (slice_index_or targets b []) c → (s : ℕ) × (t : ℕ) × Steps body s t × (slice_index block s ≡ b) ×
+      (slice_index block t ≡ c) × (slice_index firsts c ≡ t)
 
 -- none of the sites is in a range
 abbrev pub NoneWithin : List ℕ → ℕ → ℕ → Type 0
@@ -42,12 +46,14 @@ IsLastOf sites from end last = MatchOption last (NoneWithin sites from end) (λ 
 -- the last definition of a location in each block, where these sites define it
 pub record AreLasts (firsts sites : List ℕ) (lasts : List (Option ℕ)) : Type 0 where
   pub each : length lasts + 1 ≡ length firsts
-  pub last : (b : ℕ) → b + 1 < length firsts → IsLastOf sites (slice_index firsts b) (slice_index firsts (b + 1)) (slice_index_or lasts b None)
+  pub last : (b : ℕ) → b + 1 < length firsts →
+      IsLastOf sites (slice_index firsts b) (slice_index firsts (b + 1)) (slice_index_or lasts b None)
 
 -- where one comes from some blocks through blocks without a definition
 pub data Run (targets : List (List ℕ)) (lasts : List (Option ℕ)) (starts : List ℕ) : ℕ → Type 0 where
   begins : {b : ℕ} → Contains starts b → Run targets lasts starts b
-  goes : {b c : ℕ} → Run targets lasts starts b → slice_index_or lasts b None ≡ None → Contains (slice_index_or targets b []) c → Run targets lasts starts c
+  goes : {b c : ℕ} → Run targets lasts starts b → slice_index_or lasts b None ≡ None → Contains (slice_index_or targets b []) c →
+      Run targets lasts starts c
 
 -- the definition reaches the first site of the block: Entry from the entry's block, that of a site from the targets of the
 -- block in which it is the last one

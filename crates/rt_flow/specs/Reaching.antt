@@ -17,4 +17,6 @@ pub record IsReachOf (body : Body) (reach : Reach) : Type 0 where
   pub are_blocks : AreBlocks body reach.blocks.block.items reach.blocks.firsts.items
   pub are_classes : AreClasses body reach.locations.known.entries reach.locations.none reach.classes
   pub are_tables : (targets : List (List ℕ)) × AreTargets body reach.blocks.block.items reach.blocks.firsts.items targets
-      × ((c : ℕ) → c < length reach.classes → IsTable reach.blocks.firsts.items targets (slice_index reach.blocks.block.items body.entry) (slice_index_or reach.classes c []) reach.sets (slice_index_or reach.tables.items c []))
+      × ((c : ℕ) → c < length reach.classes → IsTable reach.blocks.firsts.items targets
+      (slice_index reach.blocks.block.items body.entry) (slice_index_or reach.classes c []) reach.sets
+      (slice_index_or reach.tables.items c []))

@@ -37,7 +37,8 @@ unfoldable pub source_in : Reach → ℕ → ℤ → Source
 source_in reach site loc =
     let block = slice_index reach.blocks.block.items site in
     let class = class_at reach.locations.known.entries reach.locations.none loc in
-    source_or (last_in (slice_index_or reach.classes class []) (slice_index reach.blocks.firsts.items block) site) (slice_index (slice_index_or reach.tables.items class []) block)
+    source_or (last_in (slice_index_or reach.classes class []) (slice_index reach.blocks.firsts.items block) site)
+    (slice_index (slice_index_or reach.tables.items class []) block)
 
 -- the list that stands there
 abbrev pub list_in : Reach → Source → List Def

@@ -31,14 +31,17 @@ pub record AreReady (x : Def) (rows : List (List Def)) : Type 0 where
 abbrev pub Marks : Def → ℕ → List (List Def) → List ℕ → List (List Def) → List ℕ → Type 0
 Marks x b rows work rows' work' =
     (Contains (slice_index_or rows b []) x × (rows' ≡ rows) × (work' ≡ work))
-    ⊎ ((Contains (slice_index_or rows b []) x → ⊥) × (rows' ≡ slice_set rows b (slice_index_or rows b [] ++ x ∷ [])) × (work' ≡ work ++ b ∷ []))
+    ⊎ ((Contains (slice_index_or rows b []) x → ⊥) × (rows' ≡ slice_set rows b (slice_index_or rows b [] ++ x ∷ [])) ×
+    (work' ≡ work ++ b ∷ []))
 
 -- the same for each of some blocks
-pub record MarksAll (x : Def) (blocks : List ℕ) (rows : List (List Def)) (work : List ℕ) (rows' : List (List Def)) (work' : List ℕ) : Type 0 where
+pub record MarksAll (x : Def) (blocks : List ℕ) (rows : List (List Def)) (work : List ℕ) (rows' : List (List Def))
+    (work' : List ℕ) : Type 0 where
   pub each : length rows' ≡ length rows
   pub ready : AreReady x rows'
   pub kept : (b : ℕ) (y : Def) → Contains (slice_index_or rows b []) y → Contains (slice_index_or rows' b []) y
-  pub only : (b : ℕ) (y : Def) → Contains (slice_index_or rows' b []) y → Contains (slice_index_or rows b []) y ⊎ ((y ≡ x) × Contains blocks b)
+  pub only : (b : ℕ) (y : Def) → Contains (slice_index_or rows' b []) y → Contains (slice_index_or rows b []) y ⊎
+      ((y ≡ x) × Contains blocks b)
   pub marked : (b : ℕ) → Contains blocks b → Contains (slice_index_or rows' b []) x
   pub work_kept : (b : ℕ) → Contains work b → Contains work' b
   pub work_only : (b : ℕ) → Contains work' b → Contains work b ⊎ Contains blocks b
@@ -46,10 +49,12 @@ pub record MarksAll (x : Def) (blocks : List ℕ) (rows : List (List Def)) (work
   pub room : rows_without x rows' + length work' ≤ rows_without x rows + length work
 
 -- a definition was added to the rows of the blocks to which one comes from the starts, and to no other
-pub record Spreads (targets : List (List ℕ)) (lasts : List (Option ℕ)) (starts : List ℕ) (x : Def) (rows rows' : List (List Def)) : Type 0 where
+pub record Spreads (targets : List (List ℕ)) (lasts : List (Option ℕ)) (starts : List ℕ) (x : Def)
+    (rows rows' : List (List Def)) : Type 0 where
   pub each : length rows' ≡ length rows
   pub order : (b : ℕ) → AllPairs Precedes (slice_index_or rows' b [])
-  pub cases : (b : ℕ) (y : Def) → Contains (slice_index_or rows' b []) y ↔ (Contains (slice_index_or rows b []) y ⊎ ((y ≡ x) × Run targets lasts starts b))
+  pub cases : (b : ℕ) (y : Def) → Contains (slice_index_or rows' b []) y ↔
+      (Contains (slice_index_or rows b []) y ⊎ ((y ≡ x) × Run targets lasts starts b))
 
 -- the targets of blocks are blocks
 abbrev pub AreWithin : List (List ℕ) → Type 0

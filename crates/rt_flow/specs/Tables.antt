@@ -20,8 +20,10 @@ pub record AreNumbers (rows sets : List (List Def)) (numbers : List ℕ) : Type 
   pub list : (b : ℕ) → b < length rows → slice_index_or sets (slice_index numbers b) [] ≡ slice_index_or rows b []
 
 -- for each block the number of the list, in order, of what arrives at it, where these sites define the location
-pub record IsTable (firsts : List ℕ) (targets : List (List ℕ)) (entry : ℕ) (sites : List ℕ) (sets : List (List Def)) (table : List ℕ) : Type 0 where
+pub record IsTable (firsts : List ℕ) (targets : List (List ℕ)) (entry : ℕ) (sites : List ℕ) (sets : List (List Def))
+    (table : List ℕ) : Type 0 where
   pub each : length table + 1 ≡ length firsts
   pub within : (b : ℕ) → b < length table → slice_index table b < length sets
   pub order : (b : ℕ) → b < length table → AllPairs Precedes (slice_index_or sets (slice_index table b) [])
-  pub arriving : (lasts : List (Option ℕ)) × AreLasts firsts sites lasts × ((b : ℕ) (x : Def) → b < length table → Contains (slice_index_or sets (slice_index table b) []) x ↔ Arrives targets lasts entry x b)
+  pub arriving : (lasts : List (Option ℕ)) × AreLasts firsts sites lasts ×
+      ((b : ℕ) (x : Def) → b < length table → Contains (slice_index_or sets (slice_index table b) []) x ↔ Arrives targets lasts entry x b)

@@ -63,7 +63,8 @@ impl Blocks {
 // Sites to which an edge leads from the site before.
 fn linked(alloc: Global, graph: &Graph) -> Result<Vec<bool>, Memory>
     ensures each { IfOk result (λ joined. length joined.items ≡ graph.now.sites) }
-    ensures after { IfOk result (λ joined. (t : ℕ) → IsTrue (slice_index_or joined.items t false) → (s : ℕ) × (s + 1 ≡ t) × Steps graph.now s t) }
+    ensures after { IfOk result (λ joined. (t : ℕ) → IsTrue (slice_index_or joined.items t false) → (s : ℕ) × (s + 1 ≡ t) ×
+        Steps graph.now s t) }
 {
     let mut joined = vec![in alloc; false; graph.sites() as usize]?;
     for (from, to) in graph.edges() {
@@ -77,7 +78,8 @@ fn linked(alloc: Global, graph: &Graph) -> Result<Vec<bool>, Memory>
 // Parts a site from the one before.
 fn part(joined: &mut Vec<bool>, site: u32)
     ensures each { length joined.new.items ≡ length joined.old.items }
-    ensures parted { (t : ℕ) → IsTrue (slice_index_or joined.new.items t false) → IsTrue (slice_index_or joined.old.items t false) × (t ≡ site → ⊥) }
+    ensures parted { (t : ℕ) → IsTrue (slice_index_or joined.new.items t false) → IsTrue (slice_index_or joined.old.items t false) ×
+        (t ≡ site → ⊥) }
 {
     let site = site as usize;
     if site < joined.len() {
@@ -89,7 +91,8 @@ fn part(joined: &mut Vec<bool>, site: u32)
 fn part_others(joined: &mut Vec<bool>, graph: &Graph)
     ensures each { length joined.new.items ≡ length joined.old.items }
     ensures kept { (t : ℕ) → IsTrue (slice_index_or joined.new.items t false) → IsTrue (slice_index_or joined.old.items t false) }
-    ensures only { (t a b : ℕ) → IsTrue (slice_index_or joined.new.items t false) → Steps graph.now a b → (a + 1 ≡ t) ⊎ (b ≡ t) → (a + 1 ≡ t) × (b ≡ t) }
+    ensures only { (t a b : ℕ) → IsTrue (slice_index_or joined.new.items t false) → Steps graph.now a b → (a + 1 ≡ t) ⊎ (b ≡ t) →
+        (a + 1 ≡ t) × (b ≡ t) }
 {
     for (from, to) in graph.edges() {
         if *to != *from + 1 {

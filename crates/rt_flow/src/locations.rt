@@ -36,7 +36,8 @@ fn note(
     site: u32,
     loc: i64,
 ) -> Result<(), Memory>
-    ensures { OnOk result ((l : ℤ) (k : ℕ) → Contains (sites_at groups.new.entries l) k ↔ (Contains (sites_at groups.old.entries l) k ⊎ ((k ≡ site) × (l ≡ loc)))) }
+    ensures { OnOk result ((l : ℤ) (k : ℕ) → Contains (sites_at groups.new.entries l) k ↔
+        (Contains (sites_at groups.old.entries l) k ⊎ ((k ≡ site) × (l ≡ loc)))) }
 {
     match groups.get_mut(&loc) {
         Some(sites) => sites.push(site)?,

@@ -59,7 +59,8 @@ impl Reach {
     /// How many sites there are.
     pub fn sites(&self) -> u32
         ensures value { result ≡ sites_of self.now }
-        ensures reaching { (body : Body) → IsReachOf body self.now → (site : ℕ) (loc : ℤ) → site < sites_of self.now → AreReaching body loc site (defs_in self.now site loc) }
+        ensures reaching { (body : Body) → IsReachOf body self.now → (site : ℕ) (loc : ℤ) → site < sites_of self.now →
+            AreReaching body loc site (defs_in self.now site loc) }
     {
         self.own.len() as u32
     }

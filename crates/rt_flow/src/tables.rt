@@ -61,7 +61,8 @@ pub(crate) fn tables(
     requires entry_in { entry + 1 < length blocks.now.firsts.items }
     requires rising { All IsStrictlyIncreasing classes.now }
     ensures each { IfOk result (λ tables. length tables.items ≡ length classes.now) }
-    ensures tables { IfOk result (λ tables. (c : ℕ) → c < length classes.now → IsTable blocks.now.firsts.items targets.now entry (slice_index_or classes.now c []) sets.new (slice_index_or tables.items c [])) }
+    ensures tables { IfOk result (λ tables. (c : ℕ) → c < length classes.now →
+        IsTable blocks.now.firsts.items targets.now entry (slice_index_or classes.now c []) sets.new (slice_index_or tables.items c [])) }
 {
     let mut tables = Vec::with_capacity(alloc, classes.len())?;
     for class in 0..classes.len() {

@@ -24,7 +24,8 @@ use Rattle.rt_frame.specs.Questions.{def_value, address_value, questions}
 abbrev pub IsOfFrame : Reading → ℤ → Question → Type 0
 IsOfFrame reading k (OfUse site register) =
     (reading.value_at site register ≡ value.Frame k)
-    ⊎ ((reading.value_at site register ≡ value.Multi) × ((def : Def) × Contains (reading.reaching site register) def × (def_value reading register def ≡ value.Frame k)))
+    ⊎ ((reading.value_at site register ≡ value.Multi) ×
+    ((def : Def) × Contains (reading.reaching site register) def × (def_value reading register def ≡ value.Frame k)))
 IsOfFrame reading k (OfDefinition def register) = def_value reading register def ≡ value.Frame k
 
 -- an object of the frame begins at an offset: a line speaks of it
@@ -142,5 +143,6 @@ pub record IsFrameOf (reading : Reading) (calls : List (List Call)) (frame : Fra
   pub taken : (k : ℤ) → Contains frame.layout.taken k ↔ IsTaken reading calls k
   pub saved_rising : AreRising frame.layout.saved
   pub saved : (k : ℤ) → Contains frame.layout.saved k ↔ IsSaved reading k
-  pub reaching : (site : ℕ) (loc : ℤ) → site < length reading.actions → AreReaching (frame_body reading frame.layout) loc site (frame.reaching site loc)
+  pub reaching : (site : ℕ) (loc : ℤ) → site < length reading.actions →
+      AreReaching (frame_body reading frame.layout) loc site (frame.reaching site loc)
   pub reaching_else : (site : ℕ) (loc : ℤ) → length reading.actions ≤ site → frame.reaching site loc ≡ []

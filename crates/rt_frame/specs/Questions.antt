@@ -125,7 +125,8 @@ first_gives (call ∷ calls) register = nat_le 10 register && gives_result call 
 -- a definition of a result's register that an instruction wrote which is no call, or a call whose callee gives the result
 abbrev pub is_real : Reading → List (List Call) → ℕ → Def → Bool
 is_real reading calls register Entry = false
-is_real reading calls register (At site) = if is_call_action (action_at reading.actions site) then first_gives (calls_at calls site) register else true
+is_real reading calls register (At site) = if is_call_action (action_at reading.actions site) then first_gives
+    (calls_at calls site) register else true
 
 -- a definition that a return tells of: one of the entry, or a real one
 abbrev pub is_result : Reading → List (List Call) → ℕ → Def → Bool
@@ -159,7 +160,8 @@ abbrev pub action_questions : Reading → List (List Call) → ℕ → Action �
 action_questions reading calls site (action.AddImmediate to from immediate) = if is_kept reading site to from immediate then OfUse site from ∷ [] else []
 action_questions reading calls site (action.Add to left right) = addition_questions site to left right (addition reading site left right)
 action_questions reading calls site (action.Load loaded to address) = address_questions reading site address
-action_questions reading calls site (action.Store width register address) = data_questions site register width ++ address_questions reading site address
+action_questions reading calls site (action.Store width register address) = data_questions site register width ++
+    address_questions reading site address
 action_questions reading calls site (action.Compute operation to left right) = compute_questions site operation left right
 action_questions reading calls site (action.Compare left right) = OfUse site left ∷ OfUse site right ∷ []
 action_questions reading calls site action.Return = result_questions reading calls site 10 ++ result_questions reading calls site 11

@@ -52,7 +52,8 @@ fn ask_addition(
 
 // Asks for an index and for what it is added to, that where the sum is written.
 fn ask_indexed(asked: &mut Asked, site: u32, to: u8, other: u8, index: u8) -> Result<(), Memory>
-    ensures { OnOk result (asked.new ≡ asked.old ++ ((if to == 0 then [] else Question.OfUse site other ∷ []) ++ Question.OfUse site index ∷ [])) }
+    ensures { OnOk result (asked.new ≡ asked.old ++
+        ((if to == 0 then [] else Question.OfUse site other ∷ []) ++ Question.OfUse site index ∷ [])) }
 {
     if to != 0 {
         ask(asked, site, other)?;

@@ -58,7 +58,8 @@ fn saved_by(body: &Body, site: u32, action: Action) -> Option<i32>
 // Adds the offset of the word in which a site saves a register.
 fn save_site(saved: &mut Offsets, body: &Body, site: u32) -> Result<(), Memory>
     requires { site < sites_in body.now }
-    ensures { OnOk result (Gains saved.old saved.new (λ k. saved_by (reading_of body.now) site (action_at (reading_of body.now).actions site) ≡ Some k)) }
+    ensures { OnOk result (Gains saved.old saved.new
+        (λ k. saved_by (reading_of body.now) site (action_at (reading_of body.now).actions site) ≡ Some k)) }
 {
     match saved_by(body, site, body.actions()[site as usize]) {
         Some(offset) => saved.insert(offset)?,

@@ -49,7 +49,10 @@ fn define_stored(
     requires site { site < graph.old.sites }
     requires taken { AreRising taken.now }
     requires saved { AreRising saved.now }
-    ensures { OnOk result (graph.new ≡ record graph.old { defs = graph.old.defs ++ map (λ byte. (site, byte)) (stored_by (record { taken = taken.now; saved = saved.now }) width address) }) }
+    ensures { OnOk result (graph.new ≡ record graph.old {
+      defs = graph.old.defs ++ map (λ byte. (site, byte))
+          (stored_by (record { taken = taken.now; saved = saved.now }) width address);
+    }) }
 {
     let Value::Frame(offset) = address else {
         return Ok(());
@@ -74,7 +77,10 @@ fn define_action(
     requires registers { HasRegisters action }
     requires taken { AreRising taken.now }
     requires saved { AreRising saved.now }
-    ensures { OnOk result (graph.new ≡ record graph.old { defs = graph.old.defs ++ map (λ byte. (site, byte)) (bytes_defined (reading_of body.now) (record { taken = taken.now; saved = saved.now }) site action) }) }
+    ensures { OnOk result (graph.new ≡ record graph.old {
+      defs = graph.old.defs ++ map (λ byte. (site, byte))
+          (bytes_defined (reading_of body.now) (record { taken = taken.now; saved = saved.now }) site action);
+    }) }
 {
     match action {
         Action::Store { width, address, .. } => {

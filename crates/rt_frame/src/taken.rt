@@ -33,7 +33,8 @@ fn take_value(taken: &mut Offsets, value: Value) -> Result<(), Memory>
 fn take_reaching(taken: &mut Offsets, body: &Body, site: u32, register: u8) -> Result<(), Memory>
     requires site { site < sites_in body.now }
     requires register { register < 32 }
-    ensures { OnOk result (Gains taken.old taken.new (Among ((reading_of body.now).reaching site register) (λ def k. def_value (reading_of body.now) register def ≡ Value.Frame k))) }
+    ensures { OnOk result (Gains taken.old taken.new
+        (Among ((reading_of body.now).reaching site register) (λ def k. def_value (reading_of body.now) register def ≡ Value.Frame k))) }
 {
     for def in body.reaching(site, register) {
         take_value(taken, def_value(body, register, *def))?;
@@ -68,7 +69,9 @@ fn take_site(
 ) -> Result<(), Memory>
     requires site { site < sites_in body.now }
     requires registers { All (All HasCallRegister) calls.now }
-    ensures { OnOk result (Gains taken.old taken.new (Among (questions (reading_of body.now) calls.now site (action_at (reading_of body.now).actions site)) (λ question k. IsOfFrame (reading_of body.now) k question))) }
+    ensures { OnOk result (Gains taken.old taken.new
+        (Among (questions (reading_of body.now) calls.now site (action_at (reading_of body.now).actions site))
+        (λ question k. IsOfFrame (reading_of body.now) k question))) }
 {
     let questions = asked(alloc, body, calls, site)?;
     for question in questions.items() {

@@ -54,7 +54,8 @@ pub data IsOrderFault (R : ℕ → ℕ → Type 0) (names : List (List ℕ)) : L
   is_cycle : (name : List ℕ) → IsOnCycle R names name → IsOrderFault R names (Cycle name)
   is_no_top : HasNoCycle R (length names) → (HasTop R (length names) → ⊥) → IsOrderFault R names NoTop
   is_no_bottom : HasNoCycle R (length names) → HasTop R (length names) → (HasBottom R (length names) → ⊥) → IsOrderFault R names NoBottom
-  is_no_join : (first second : List ℕ) → HasNoCycle R (length names) → HasTop R (length names) → HasBottom R (length names) → HaveNoJoin R names first second
+  is_no_join : (first second : List ℕ) → HasNoCycle R (length names) → HasTop R (length names) → HasBottom R (length names) →
+      HaveNoJoin R names first second
       → IsOrderFault R names (NoJoin first second)
 
 -- a relation on names has no such fault
@@ -69,7 +70,8 @@ pub record HasNoOrderFault (R : ℕ → ℕ → Type 0) (n : ℕ) : Type 0 where
 pub data IsFileFault (file : File) : LatFault → Type 0 where
   is_unknown : (name : List ℕ) → unknown_name file ≡ Some name → IsFileFault file (Unknown name)
   is_of_order : (fault : LatFault) → unknown_name file ≡ None → IsOrderFault (IsUnderIn file) file.names fault → IsFileFault file fault
-  is_no_role : (role : Role) → unknown_name file ≡ None → HasNoOrderFault (IsUnderIn file) (length file.names) → missing_role file ≡ Some role
+  is_no_role : (role : Role) → unknown_name file ≡ None → HasNoOrderFault (IsUnderIn file) (length file.names) →
+      missing_role file ≡ Some role
       → IsFileFault file (NoRole role)
 
 -- a fault of the least upper bounds in a relation on names
@@ -83,7 +85,8 @@ pub data IsFirstFault (text : List ℕ) : LatFault → Type 0 where
   is_too_long : 65536 < length text → IsFirstFault text TooMany
   is_not_toml : length text ≤ 65536 → ((table : Members) → IsTable text table → ⊥) → IsFirstFault text NotToml
   is_of_form : (table : Members) (fault : LatFault) → IsTable text table → form_fault table ≡ Some fault → IsFirstFault text fault
-  is_of_file : (table : Members) (file : File) (fault : LatFault) → IsTable text table → form_fault table ≡ None → SaysFile table file → IsFileFault file fault → IsFirstFault text fault
+  is_of_file : (table : Members) (file : File) (fault : LatFault) → IsTable text table → form_fault table ≡ None →
+      SaysFile table file → IsFileFault file fault → IsFirstFault text fault
 
 -- the lattice that a text says, which has no fault
 pub record IsLatticeIn (text : List ℕ) (lattice : NamedOrder) : Type 0 where

@@ -46,7 +46,8 @@ pub(crate) fn top_of(order: &Order) -> Option<u16>
 
 // The first number that is below all.
 pub(crate) fn bottom_of(order: &Order) -> Option<u16>
-    ensures { MatchOption result (HasBottom (IsAtOrBelow order.now) order.now.count → ⊥) (IsBottom (IsAtOrBelow order.now) order.now.count) }
+    ensures { MatchOption result (HasBottom (IsAtOrBelow order.now) order.now.count → ⊥)
+        (IsBottom (IsAtOrBelow order.now) order.now.count) }
 {
     for bottom in 0..order.count() {
         if is_bottom(order, bottom) {
@@ -71,7 +72,8 @@ fn has_partner(order: &Order, a: u16) -> bool
 
 // The first number for which there is another one above and below it.
 pub(crate) fn cycle_of(order: &Order) -> Option<u16>
-    ensures first { MatchOption result (HasNoCycle (IsAtOrBelow order.now) order.now.count) (IsFirstOnCycle (IsAtOrBelow order.now) order.now.count) }
+    ensures first { MatchOption result (HasNoCycle (IsAtOrBelow order.now) order.now.count)
+        (IsFirstOnCycle (IsAtOrBelow order.now) order.now.count) }
     ensures transitive { IsTransitive order.now }
 {
     for a in 0..order.count() {

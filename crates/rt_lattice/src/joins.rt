@@ -60,7 +60,8 @@ fn join_of(order: &Order, top: u16, a: u16, b: u16) -> Option<u16>
     requires top { IsTop (IsAtOrBelow order.now) order.now.count top }
     requires first { a < order.now.count }
     requires second { b < order.now.count }
-    ensures { MatchOption result (HaveJoin (IsAtOrBelow order.now) order.now.count a b → ⊥) (IsLeastUpper (IsAtOrBelow order.now) order.now.count a b) }
+    ensures { MatchOption result (HaveJoin (IsAtOrBelow order.now) order.now.count a b → ⊥)
+        (IsLeastUpper (IsAtOrBelow order.now) order.now.count a b) }
 {
     let low = low_upper(order, top, a, b);
     if is_least(order, a, b, low) {

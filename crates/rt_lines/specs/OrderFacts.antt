@@ -9,7 +9,8 @@ order_of count cells = record { count = count; cells = cells }
 -- what is at or below a number is at or below all that the number is at or below
 abbrev pub IsTransitive : Below → Type 0
 IsTransitive order =
-    (x y z : ℕ) → x < order.count → y < order.count → z < order.count → IsAtOrBelow order x y → IsAtOrBelow order y z → IsAtOrBelow order x z
+    (x y z : ℕ) → x < order.count → y < order.count → z < order.count → IsAtOrBelow order x y → IsAtOrBelow order y z →
+    IsAtOrBelow order x z
 
 -- a cell for each pair, and a transitive relation
 pub record IsOrder (order : Below) : Type 0 where
@@ -24,4 +25,5 @@ pub record IsFlat (order : Below) (count : ℕ) : Type 0 where
 -- a is put below b: besides the old pairs, what is at or below a is at or below all that b is at or below
 pub record PutsBelow (old new : Below) (a b : ℕ) : Type 0 where
   pub counted : new.count ≡ old.count
-  pub related : (x y : ℕ) → x < old.count → y < old.count → IsAtOrBelow new x y ↔ (IsAtOrBelow old x y ⊎ (IsAtOrBelow old x a × IsAtOrBelow old b y))
+  pub related : (x y : ℕ) → x < old.count → y < old.count → IsAtOrBelow new x y ↔
+      (IsAtOrBelow old x y ⊎ (IsAtOrBelow old x a × IsAtOrBelow old b y))

@@ -31,7 +31,8 @@ pub record IsFarCall (object : Object) (place : Place) : Type 0 where
   pub is_code : IsTrue (is_code_section (section_of object place.section))
   pub is_aligned : place.offset % 4 ≡ 0
   pub is_within : place.offset + 8 ≤ (section_of object place.section).size
-  pub are_words : let at = (section_of object place.section).offset + place.offset in IsTrue (is_pair (word_at object.bytes at) (word_at object.bytes (at + 4)))
+  pub are_words : let at = (section_of object place.section).offset + place.offset in IsTrue
+      (is_pair (word_at object.bytes at) (word_at object.bytes (at + 4)))
 
 -- where no check fails, a link of a far call stands at one
 abbrev pub IsLawOfFarCalls : Type 0

@@ -31,7 +31,8 @@ pub(crate) fn named_of(
     heads: &Heads,
 ) -> Result<BTreeSet<Place>, AllocError>
     requires { (place : Place) → IsAboutSymbol object.now (link_held heads.now place) }
-    ensures { IfOk result (λ named. (place : Place) → contains place_cmp named place ≡ list_any (names object.now.symbols heads.now place) relocs.now) }
+    ensures { IfOk result (λ named. (place : Place) →
+        contains place_cmp named place ≡ list_any (names object.now.symbols heads.now place) relocs.now) }
 {
     let mut named = BTreeSet::new(alloc);
     for reloc in relocs {

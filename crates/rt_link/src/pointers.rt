@@ -41,7 +41,8 @@ impl Pointers {
 
     // Adds the pointer at a place, unless one is there.
     fn add(&mut self, place: Place, pointer: Pointer) -> Result<(), AllocError>
-        ensures { OnOk result ((q : Place) → pointer_held self.new q ≡ option_or (pointer_held self.old q) (if is_place place q then Option.Some pointer else None)) }
+        ensures { OnOk result ((q : Place) → pointer_held self.new q ≡
+            option_or (pointer_held self.old q) (if is_place place q then Option.Some pointer else None)) }
     {
         if self.get(place).is_none() {
             self.entries.insert(place, pointer)?;
@@ -68,7 +69,8 @@ fn pointer_of(reloc: &Reloc) -> Pointer
 
 // The first pointer at each place.
 pub(crate) fn pointers_of(alloc: Global, object: &Object) -> Result<Pointers, AllocError>
-    ensures { IfOk result (λ pointers. (place : Place) → pointer_held pointers place ≡ option_map pointer_of (pointer_at object.now place)) }
+    ensures { IfOk result (λ pointers. (place : Place) →
+        pointer_held pointers place ≡ option_map pointer_of (pointer_at object.now place)) }
 {
     let mut pointers = Pointers::new(alloc);
     for reloc in object.relocs() {

@@ -73,4 +73,5 @@ HasCalleeRegister-prop (Extern symbol) = Unit-prop
 HasCalleeRegister-prop (Unknown register) = le_prop
 
 pub HaveCallRegisters-prop : (calls : List (List Call)) → IsProp (All (All HasCallRegister) calls)
-HaveCallRegisters-prop calls = Π_prop (λ k. Π_prop (λ d. Π_prop (λ less. Π_prop (λ j. Π_prop (λ e. Π_prop (λ under. HasCalleeRegister-prop _))))))
+HaveCallRegisters-prop calls = Π_prop (λ k. Π_prop
+    (λ d. Π_prop (λ less. Π_prop (λ j. Π_prop (λ e. Π_prop (λ under. HasCalleeRegister-prop _))))))

@@ -29,20 +29,25 @@ pub record ArePaired {X Y : Type 0} (P : ℕ → X → Y → Type 0) (firsts : L
   pub each : (k : ℕ) (x : X) (y : Y) → slice_get firsts k ≡ Some x → slice_get seconds k ≡ Some y → P k x y
 
 -- what was found of a call of a callee by a site
-pub record IsCallFound (interface : Interface) (sites : List Site) (reaching : ℕ → ℕ → List Def) (s : ℕ) (is_plain : Bool) (callee : Callee) (call : Call) : Type 0 where
+pub record IsCallFound (interface : Interface) (sites : List Site) (reaching : ℕ → ℕ → List Def) (s : ℕ) (is_plain : Bool)
+    (callee : Callee) (call : Call) : Type 0 where
   pub called : call.callee ≡ callee
   pub takes_each : length call.takes ≡ 8
-  pub takes : (n : ℕ) → n < 8 → get_or call.takes n false ≡ is_met interface.taken.keys (when_taken interface.named.items sites (reaching s (10 + n)) callee (10 + n))
-  pub gives : call.gives ≡ is_met interface.given.keys (when_given interface.named.items callee 0) ∷ is_met interface.given.keys (when_given interface.named.items callee 1) ∷ []
+  pub takes : (n : ℕ) → n < 8 → get_or call.takes n false ≡
+      is_met interface.taken.keys (when_taken interface.named.items sites (reaching s (10 + n)) callee (10 + n))
+  pub gives : call.gives ≡ is_met interface.given.keys (when_given interface.named.items callee 0) ∷
+      is_met interface.given.keys (when_given interface.named.items callee 1) ∷ []
   pub plain : call.is_plain ≡ is_plain
 
 -- of those of a site
 abbrev pub AreCallsFoundAt : Interface → List Site → (ℕ → ℕ → List Def) → ℕ → Bool → Site → List Call → Type 0
 AreCallsFoundAt interface sites reaching s is_plain site calls =
-    ArePaired (λ k callee call. IsCallFound interface sites reaching s is_plain callee call) (callees_of site) (length (callees_of site)) calls
+    ArePaired (λ k callee call. IsCallFound interface sites reaching s is_plain callee call) (callees_of site)
+    (length (callees_of site)) calls
 
 -- of a site, and whether it is a plain jump
-pub record IsSiteFound (object : Object) (interface : Interface) (sites : List Site) (reaching : ℕ → ℕ → List Def) (s : ℕ) (site : Site) (calls : List Call) : Type 0 where
+pub record IsSiteFound (object : Object) (interface : Interface) (sites : List Site) (reaching : ℕ → ℕ → List Def) (s : ℕ)
+    (site : Site) (calls : List Call) : Type 0 where
   pub plain : Bool
   pub is_plain : IsTrue plain ↔ IsPlainJump object site.place
   pub calls_at : AreCallsFoundAt interface sites reaching s plain site calls
@@ -52,7 +57,8 @@ abbrev pub AreCallsFoundIn : Object → Interface → List Site → (ℕ → ℕ
 AreCallsFoundIn object interface sites reaching calls = ArePaired (IsSiteFound object interface sites reaching) sites (length sites) calls
 
 -- of a procedure
-pub record IsProcFound (object : Object) (interface : Interface) (procs : List Proc) (bodies : List Body) (q : ℕ) (proc : Proc) (calls : List (List Call)) : Type 0 where
+pub record IsProcFound (object : Object) (interface : Interface) (procs : List Proc) (bodies : List Body) (q : ℕ) (proc : Proc)
+    (calls : List (List Call)) : Type 0 where
   pub body : Body
   pub is_procedure : IsProcedure procs bodies q proc body
   pub calls_in : AreCallsFoundIn object interface proc.sites (reading_of body).reaching calls

@@ -67,7 +67,9 @@ fn takes_at(
 ) -> [bool; 8]
     requires { site < sites_in procedure.now.body.now }
     ensures each { length result ≡ 8 }
-    ensures takes { (n : ℕ) → n < 8 → get_or result n false ≡ is_met interface.now.taken.keys (when_taken interface.now.named.items procedure.now.sites.now ((reading_of procedure.now.body.now).reaching site (10 + n)) callee (10 + n)) }
+    ensures takes { (n : ℕ) → n < 8 → get_or result n false ≡
+        is_met interface.now.taken.keys (when_taken interface.now.named.items procedure.now.sites.now
+        ((reading_of procedure.now.body.now).reaching site (10 + n)) callee (10 + n)) }
 {
     let mut takes = [false; 8];
     for n in 0..8 {

@@ -93,7 +93,8 @@ fn push_section_header(
 
 #[tactic(auto, unfolding(crate::specs::Packed::section_headers))]
 fn push_section_headers(out: &mut Vec<u8>, layout: &Layout) -> Result<(), Memory>
-    ensures { OnOk result (out.new.items ≡ out.old.items ++ section_headers layout.now.words layout.now.relocs layout.now.symbols layout.now.strings) }
+    ensures { OnOk result (out.new.items ≡ out.old.items ++
+        section_headers layout.now.words layout.now.relocs layout.now.symbols layout.now.strings) }
 {
     push_section_header(out, NULL_SECTION, 0, 0)?;
     push_section_header(out, layout.code_section(), 4, 0)?;

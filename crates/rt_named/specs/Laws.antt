@@ -16,7 +16,8 @@ IsGiven lines extra y = ((l : Line) × Contains lines l × HasSide l y) ⊎ Cont
 
 -- named are the prefixes of what is given, and nothing else
 abbrev pub ContentsLaw : Type 0
-ContentsLaw = (lines : List Line) (extra : List Dtv) (x : Dtv) → Contains (named lines extra) x ↔ ((y : Dtv) × IsGiven lines extra y × IsPrefix x y)
+ContentsLaw = (lines : List Line) (extra : List Dtv) (x : Dtv) → Contains (named lines extra) x ↔
+    ((y : Dtv) × IsGiven lines extra y × IsPrefix x y)
 
 -- each once
 abbrev pub OnceLaw : Type 0

@@ -122,7 +122,8 @@ impl Named {
     // The number of the variable of an origin. Without it there is none that begins with it.
     fn find(&self, origin: Origin) -> Option<u32>
         requires { IsBelow origin (length self.now) }
-        ensures { MatchOption result ((w : List Label) → Contains self.now (extended (made self.now origin) w) → ⊥) (λ i. slice_get self.now i ≡ Some (made self.now origin)) }
+        ensures { MatchOption result ((w : List Label) → Contains self.now (extended (made self.now origin) w) → ⊥)
+            (λ i. slice_get self.now i ≡ Some (made self.now origin)) }
     {
         match self.origins.get_index_of(&origin) {
             Some(number) => Some(number as u32),

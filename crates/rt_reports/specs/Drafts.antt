@@ -55,10 +55,19 @@ unfinished_with (Some entry) line = Some (with_line entry line)
 
 -- what was read, with one line more
 abbrev pub with_row : Parts → Row → Parts
-with_row parts (Listed number name) = record { globals = parts.globals ++ (number, name) ∷ []; entries = parts.entries; unfinished = parts.unfinished }
+with_row parts (Listed number name) = record
+    { globals = parts.globals ++ (number, name) ∷ []; entries = parts.entries; unfinished = parts.unfinished }
 with_row parts (Heading number place name) =
-    record { globals = parts.globals; entries = parts.entries; unfinished = Some (record { number = number; place = place; name = name; lines = [] }) }
-with_row parts (Stated line) = record { globals = parts.globals; entries = parts.entries; unfinished = unfinished_with parts.unfinished line }
+    record {
+      globals = parts.globals;
+      entries = parts.entries;
+      unfinished = Some (record { number = number; place = place; name = name; lines = [] });
+    }
+with_row parts (Stated line) = record {
+  globals = parts.globals;
+  entries = parts.entries;
+  unfinished = unfinished_with parts.unfinished line;
+}
 with_row parts End = record { globals = parts.globals; entries = all_entries parts.entries parts.unfinished; unfinished = None }
 
 -- an entry's end is still to come
@@ -77,7 +86,8 @@ Allows parts End = IsUnfinished parts.unfinished × (2 ^ 32 ≤ least_entry part
 -- the parts with the line; where it may not follow the fault is `BadText(0)`, and memory may run out
 abbrev pub Follows : Parts → Row → Result Parts TextFault → Type 0
 Follows parts row r =
-    MatchResult r (λ after. Allows parts row × (after ≡ with_row parts row)) (λ e. (e ≡ Memory) ⊎ ((e ≡ BadText 0) × (Allows parts row → ⊥)))
+    MatchResult r (λ after. Allows parts row × (after ≡ with_row parts row)) (λ e. (e ≡ Memory) ⊎
+    ((e ≡ BadText 0) × (Allows parts row → ⊥)))
 
 -- the parts are those of a report
 abbrev pub IsWhole : Parts → Type 0

@@ -33,7 +33,8 @@ pub record IsBadLine (names : List (List ℕ)) (text : List ℕ) (number : ℕ) 
   pub joined : with_ends before ++ rest ≡ text
   pub counted : length before + 1 ≡ number
   pub goes_on : IsFront names (with_ends before)
-  pub bad : (HasNo 10 rest × IsNoReport names text) ⊎ ((line more : List ℕ) × IsCut 10 rest line (10 ∷ more) × (IsFront names (with_ends (before ++ line ∷ [])) → ⊥))
+  pub bad : (HasNo 10 rest × IsNoReport names text) ⊎
+      ((line more : List ℕ) × IsCut 10 rest line (10 ∷ more) × (IsFront names (with_ends (before ++ line ∷ [])) → ⊥))
 
 -- why a text is that of no report; memory may run out
 abbrev pub IsFault : List (List ℕ) → List ℕ → TextFault → Type 0

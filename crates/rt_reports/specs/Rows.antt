@@ -15,7 +15,8 @@ listed_text (number, name) = decimal number ++ (codes " name " ++ name_text name
 
 -- what stands in the first line of an entry after `proc f`
 abbrev pub begun_text : ℕ × Place2 × List ℕ → List ℕ
-begun_text (number, place, name) = decimal number ++ (codes " section " ++ (decimal place.section ++ (codes " offset " ++ (decimal place.offset ++ (codes " name " ++ name_text name)))))
+begun_text (number, place, name) = decimal number ++
+    (codes " section " ++ (decimal place.section ++ (codes " offset " ++ (decimal place.offset ++ (codes " name " ++ name_text name)))))
 
 -- the number, the place and the name of an entry
 abbrev pub IsBegun : ℕ × Place2 × List ℕ → Type 0

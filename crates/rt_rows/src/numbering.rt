@@ -20,9 +20,11 @@ use std::alloc::{AllocError, Global};
 /// first stands. The error is want of memory.
 pub fn group_lines(alloc: Global, lists: Vec<Rows>) -> Result<Vec<Lines>, Memory>
     ensures lines { IfOk result (λ numbered. numbered.items ≡ group_lines lists.items) }
-    ensures constants { IfOk result (λ numbered. (count : ℕ) → All (All (HasConstantBelow count)) lists.items → All (All (HasConstantsBelow count)) numbered.items) }
+    ensures constants { IfOk result (λ numbered. (count : ℕ) → All (All (HasConstantBelow count)) lists.items →
+        All (All (HasConstantsBelow count)) numbered.items) }
     ensures interfaces { IfOk result (λ numbered. All (All IsGroupRow) lists.items → All AreInterfaceLines numbered.items) }
-    ensures bases { IfOk result (λ numbered. (i : ℕ) (b : Base) → NamesBase (get_or numbered.items i []) b → IsBaseOf (get_or lists.items i []) b) }
+    ensures bases { IfOk result (λ numbered. (i : ℕ) (b : Base) → NamesBase (get_or numbered.items i []) b →
+        IsBaseOf (get_or lists.items i []) b) }
 {
     let names = names_of(alloc, &lists)?;
     lists_by(alloc, &names, lists)

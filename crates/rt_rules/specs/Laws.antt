@@ -56,7 +56,8 @@ RenamingLaw =
 
 -- a line that the others derive may be dropped
 abbrev pub DropLaw : Type 0
-DropLaw = (order : Below) (inside : Base → Bool) (lines : List Line) (l : Line) → Derivable order lines l → Alike order inside (l ∷ lines) lines
+DropLaw = (order : Below) (inside : Base → Bool) (lines : List Line) (l : Line) → Derivable order lines l →
+    Alike order inside (l ∷ lines) lines
 
 -- the outside can derive the same from lines and from the same lines, each once
 abbrev pub DeduplicationLaw : Type 0

@@ -22,19 +22,24 @@ pub data InPaper (lines : List Line) : Line → Type 0 where
   paper_sub_line : {x y : Dtv} → Contains lines (Sub x y) → InPaper lines (Sub x y)
   paper_sub_self : {x : Dtv} → InPaper lines (Var x) → InPaper lines (Sub x x)
   paper_sub_chain : {x y z : Dtv} → InPaper lines (Sub x y) → InPaper lines (Sub y z) → InPaper lines (Sub x z)
-  paper_sub_co : {x y : Dtv} (l : Label) → InPaper lines (Sub x y) → InPaper lines (Var (longer y l)) → label_variance l ≡ Co → InPaper lines (Sub (longer x l) (longer y l))
-  paper_sub_contra : {x y : Dtv} (l : Label) → InPaper lines (Sub x y) → InPaper lines (Var (longer y l)) → label_variance l ≡ Contra → InPaper lines (Sub (longer y l) (longer x l))
-  paper_sub_pointer : (x : Dtv) → InPaper lines (Var (longer x Load)) → InPaper lines (Var (longer x Store)) → InPaper lines (Sub (longer x Store) (longer x Load))
+  paper_sub_co : {x y : Dtv} (l : Label) → InPaper lines (Sub x y) → InPaper lines (Var (longer y l)) → label_variance l ≡ Co →
+      InPaper lines (Sub (longer x l) (longer y l))
+  paper_sub_contra : {x y : Dtv} (l : Label) → InPaper lines (Sub x y) → InPaper lines (Var (longer y l)) → label_variance l ≡ Contra →
+      InPaper lines (Sub (longer y l) (longer x l))
+  paper_sub_pointer : (x : Dtv) → InPaper lines (Var (longer x Load)) → InPaper lines (Var (longer x Store)) →
+      InPaper lines (Sub (longer x Store) (longer x Load))
 
 -- the lower bounds of variables: the lines', and those that the paper's subtyping and the order of constants make of them
 pub data IsPaperLow (order : Below) (lines : List Line) : ℕ → Dtv → Type 0 where
   paper_low_line : {k : ℕ} {x : Dtv} → Contains lines (Low k x) → IsPaperLow order lines k x
-  paper_low_sub : {j k : ℕ} {x y : Dtv} → IsPaperLow order lines k x → InPaper lines (Sub x y) → IsAtOrBelow order j k → IsPaperLow order lines j y
+  paper_low_sub : {j k : ℕ} {x y : Dtv} → IsPaperLow order lines k x → InPaper lines (Sub x y) → IsAtOrBelow order j k →
+      IsPaperLow order lines j y
 
 -- the upper bounds of variables, likewise
 pub data IsPaperUp (order : Below) (lines : List Line) : Dtv → ℕ → Type 0 where
   paper_up_line : {k : ℕ} {x : Dtv} → Contains lines (Up x k) → IsPaperUp order lines x k
-  paper_up_sub : {j k : ℕ} {x y : Dtv} → InPaper lines (Sub x y) → IsPaperUp order lines y k → IsAtOrBelow order k j → IsPaperUp order lines x j
+  paper_up_sub : {j k : ℕ} {x y : Dtv} → InPaper lines (Sub x y) → IsPaperUp order lines y k → IsAtOrBelow order k j →
+      IsPaperUp order lines x j
 
 -- no line is a `same`
 abbrev pub HasNoSame : List Line → Type 0
@@ -46,12 +51,15 @@ WithoutSameVar = (order : Below) (lines : List Line) (x : Dtv) → HasNoSame lin
 
 -- where no line is a `same`, the paper's rules derive the same subtypings
 abbrev pub WithoutSameSub : Type 0
-WithoutSameSub = (order : Below) (lines : List Line) (x y : Dtv) → HasNoSame lines → Derivable order lines (Sub x y) ↔ InPaper lines (Sub x y)
+WithoutSameSub = (order : Below) (lines : List Line) (x y : Dtv) → HasNoSame lines → Derivable order lines (Sub x y) ↔
+    InPaper lines (Sub x y)
 
 -- where no line is a `same`, the lower bounds are those over the paper's subtyping
 abbrev pub WithoutSameLow : Type 0
-WithoutSameLow = (order : Below) (lines : List Line) (k : ℕ) (x : Dtv) → HasNoSame lines → Derivable order lines (Low k x) ↔ IsPaperLow order lines k x
+WithoutSameLow = (order : Below) (lines : List Line) (k : ℕ) (x : Dtv) → HasNoSame lines → Derivable order lines (Low k x) ↔
+    IsPaperLow order lines k x
 
 -- where no line is a `same`, the upper bounds are those over the paper's subtyping
 abbrev pub WithoutSameUp : Type 0
-WithoutSameUp = (order : Below) (lines : List Line) (x : Dtv) (k : ℕ) → HasNoSame lines → Derivable order lines (Up x k) ↔ IsPaperUp order lines x k
+WithoutSameUp = (order : Below) (lines : List Line) (x : Dtv) (k : ℕ) → HasNoSame lines → Derivable order lines (Up x k) ↔
+    IsPaperUp order lines x k

@@ -36,7 +36,8 @@ put_lines n z lines = map (map_line (put n z)) lines
 abbrev pub HasUse : Variance → ℕ → Line → Type 0
 HasUse sign n (Var x) = ⊥
 HasUse sign n (Same x y) = ⊥
-HasUse sign n (Sub x y) = ((x.base ≡ Exist n) × (variance_of_word x.word ≡ times Contra sign)) ⊎ ((y.base ≡ Exist n) × (variance_of_word y.word ≡ sign))
+HasUse sign n (Sub x y) = ((x.base ≡ Exist n) × (variance_of_word x.word ≡ times Contra sign)) ⊎
+    ((y.base ≡ Exist n) × (variance_of_word y.word ≡ sign))
 HasUse sign n (Low k y) = (y.base ≡ Exist n) × (variance_of_word y.word ≡ sign)
 HasUse sign n (Up x k) = (x.base ≡ Exist n) × (variance_of_word x.word ≡ times Contra sign)
 

@@ -36,8 +36,10 @@ IsAnchor own b = b ≡ own
 pub record IsReduced (order : Below) (own : Base) (lines : List Line) : Type 0 where
   pub used : (n : ℕ) → NamesBase lines (Exist n) → (l : Line) × Contains lines l × (HasUse Co n l ⊎ HasUse Contra n l)
   pub needed : (before after : List Line) (l : Line) → lines ≡ before ++ l ∷ after → Derivable order (before ++ after) l → ⊥
-  pub no_single_use : (sign : Variance) (n : ℕ) (z : Dtv) (before after : List Line) → z.base ≢ Exist n → lines ≡ before ++ use_of sign n z ∷ after → All (λ l. HasUse sign n l → ⊥) (before ++ after) → ⊥
-  pub no_equal : (n : ℕ) (z : Dtv) (l : Line) → Contains lines l → HasSide l z → z.base ≢ Exist n → Derivable order lines (Sub (exist n) z) → Derivable order lines (Sub z (exist n)) → ⊥
+  pub no_single_use : (sign : Variance) (n : ℕ) (z : Dtv) (before after : List Line) → z.base ≢ Exist n →
+      lines ≡ before ++ use_of sign n z ∷ after → All (λ l. HasUse sign n l → ⊥) (before ++ after) → ⊥
+  pub no_equal : (n : ℕ) (z : Dtv) (l : Line) → Contains lines l → HasSide l z → z.base ≢ Exist n →
+      Derivable order lines (Sub (exist n) z) → Derivable order lines (Sub z (exist n)) → ⊥
   pub joined : (n : ℕ) → NamesBase lines (Exist n) → (b : Base) × IsAnchor own b × IsJoined lines (Exist n) b
   pub no_self_sub : (x : Dtv) → Contains lines (Sub x x) → ⊥
   pub no_self_same : (x : Dtv) → Contains lines (Same x x) → ⊥

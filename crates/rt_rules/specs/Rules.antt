@@ -34,26 +34,33 @@ pub data Derivable (order : Below) (lines : List Line) : Line → Type 0 where
   prefix : {x : Dtv} (l : Label) → Derivable order lines (Var (longer x l)) → Derivable order lines (Var x)
   left_side : {x y : Dtv} → Derivable order lines (Sub x y) → Derivable order lines (Var x)
   right_side : {x y : Dtv} → Derivable order lines (Sub x y) → Derivable order lines (Var y)
-  same_letter : {x y : Dtv} (l : Label) → Derivable order lines (Same x y) → Derivable order lines (Var (longer x l)) → Derivable order lines (Var (longer y l))
+  same_letter : {x y : Dtv} (l : Label) → Derivable order lines (Same x y) → Derivable order lines (Var (longer x l)) →
+      Derivable order lines (Var (longer y l))
   -- which variables have one shape
   same_line : {x y : Dtv} → Contains lines (Same x y) → Derivable order lines (Same x y)
   same_sub : {x y : Dtv} → Derivable order lines (Sub x y) → Derivable order lines (Same x y)
   same_self : {x : Dtv} → Derivable order lines (Var x) → Derivable order lines (Same x x)
   same_back : {x y : Dtv} → Derivable order lines (Same x y) → Derivable order lines (Same y x)
   same_chain : {x y z : Dtv} → Derivable order lines (Same x y) → Derivable order lines (Same y z) → Derivable order lines (Same x z)
-  same_longer : {x y : Dtv} (l : Label) → Derivable order lines (Same x y) → Derivable order lines (Var (longer x l)) → Derivable order lines (Same (longer x l) (longer y l))
+  same_longer : {x y : Dtv} (l : Label) → Derivable order lines (Same x y) → Derivable order lines (Var (longer x l)) →
+      Derivable order lines (Same (longer x l) (longer y l))
   -- which variables lie below which
   sub_line : {x y : Dtv} → Contains lines (Sub x y) → Derivable order lines (Sub x y)
   sub_self : {x : Dtv} → Derivable order lines (Var x) → Derivable order lines (Sub x x)
   sub_chain : {x y z : Dtv} → Derivable order lines (Sub x y) → Derivable order lines (Sub y z) → Derivable order lines (Sub x z)
-  sub_co : {x y : Dtv} (l : Label) → Derivable order lines (Sub x y) → Derivable order lines (Var (longer y l)) → label_variance l ≡ Co → Derivable order lines (Sub (longer x l) (longer y l))
-  sub_contra : {x y : Dtv} (l : Label) → Derivable order lines (Sub x y) → Derivable order lines (Var (longer y l)) → label_variance l ≡ Contra → Derivable order lines (Sub (longer y l) (longer x l))
-  sub_pointer : (x : Dtv) → Derivable order lines (Var (longer x Load)) → Derivable order lines (Var (longer x Store)) → Derivable order lines (Sub (longer x Store) (longer x Load))
+  sub_co : {x y : Dtv} (l : Label) → Derivable order lines (Sub x y) → Derivable order lines (Var (longer y l)) →
+      label_variance l ≡ Co → Derivable order lines (Sub (longer x l) (longer y l))
+  sub_contra : {x y : Dtv} (l : Label) → Derivable order lines (Sub x y) → Derivable order lines (Var (longer y l)) →
+      label_variance l ≡ Contra → Derivable order lines (Sub (longer y l) (longer x l))
+  sub_pointer : (x : Dtv) → Derivable order lines (Var (longer x Load)) → Derivable order lines (Var (longer x Store)) →
+      Derivable order lines (Sub (longer x Store) (longer x Load))
   -- which constants bound which variables
   low_line : {k : ℕ} {x : Dtv} → Contains lines (Low k x) → Derivable order lines (Low k x)
   up_line : {k : ℕ} {x : Dtv} → Contains lines (Up x k) → Derivable order lines (Up x k)
-  low_sub : {j k : ℕ} {x y : Dtv} → Derivable order lines (Low k x) → Derivable order lines (Sub x y) → IsAtOrBelow order j k → Derivable order lines (Low j y)
-  up_sub : {j k : ℕ} {x y : Dtv} → Derivable order lines (Sub x y) → Derivable order lines (Up y k) → IsAtOrBelow order k j → Derivable order lines (Up x j)
+  low_sub : {j k : ℕ} {x y : Dtv} → Derivable order lines (Low k x) → Derivable order lines (Sub x y) → IsAtOrBelow order j k →
+      Derivable order lines (Low j y)
+  up_sub : {j k : ℕ} {x y : Dtv} → Derivable order lines (Sub x y) → Derivable order lines (Up y k) → IsAtOrBelow order k j →
+      Derivable order lines (Up x j)
 
 -- a judgement as a line
 abbrev pub line_of : Judge → Line

@@ -15,7 +15,8 @@ global_text (number, name) = codes "global g" ++ decimal number ++ codes " name 
 -- the line that a procedure begins with: its number, its place and its name
 abbrev pub heading_text : ℕ → Place2 → List ℕ → List ℕ
 heading_text number place name =
-    codes "proc f" ++ decimal number ++ codes " section " ++ decimal place.section ++ codes " offset " ++ decimal place.offset ++ codes " name " ++ name_text name ++ 10 ∷ []
+    codes "proc f" ++ decimal number ++ codes " section " ++ decimal place.section ++ codes " offset " ++ decimal place.offset ++
+    codes " name " ++ name_text name ++ 10 ∷ []
 
 -- a procedure: its heading, its lines, and `end`
 abbrev pub entry_text : List (List ℕ) → Entry → List ℕ

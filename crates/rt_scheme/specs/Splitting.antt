@@ -52,7 +52,8 @@ interfaces is_split lines = flat_map (interfaces_of is_split) lines
 abbrev pub split_side : (ℕ → Bool) → (Interface → ℕ) → Base → List Label → Dtv
 split_side is_split place (Proc q) [] = record { base = Proc q; word = [] }
 split_side is_split place (Proc q) (l ∷ w) =
-    if is_split q then record { base = Exist (place (record { procedure = q; label = l })); word = w } else record { base = Proc q; word = l ∷ w }
+    if is_split q then record { base = Exist (place (record { procedure = q; label = l })); word = w } else record
+    { base = Proc q; word = l ∷ w }
 split_side is_split place (Global n) w = record { base = Global n; word = w }
 split_side is_split place (Exist n) w = record { base = Exist n; word = w }
 split_side is_split place (Outer n) w = record { base = Outer n; word = w }
@@ -67,8 +68,10 @@ split_line is_split place l = map_line (split_variable is_split place) l
 -- The procedures that are split are inside, and the lines name their arguments and results alone. Each of these has an
 -- inside existential of its own, which the lines do not name.
 pub record IsSplitting (inside : Base → Bool) (is_split : ℕ → Bool) (place : Interface → ℕ) (lines : List Line) : Type 0 where
-  pub interface : (l : Line) (x : Dtv) (q : ℕ) → Contains lines l → HasSide l x → x.base ≡ Proc q → is_split q ≡ true → IsTrue (is_interface x.word)
-  pub one_to_one : (a b : Interface) → Contains (interfaces is_split lines) a → Contains (interfaces is_split lines) b → place a ≡ place b → a ≡ b
+  pub interface : (l : Line) (x : Dtv) (q : ℕ) → Contains lines l → HasSide l x → x.base ≡ Proc q → is_split q ≡ true →
+      IsTrue (is_interface x.word)
+  pub one_to_one : (a b : Interface) → Contains (interfaces is_split lines) a → Contains (interfaces is_split lines) b →
+      place a ≡ place b → a ≡ b
   pub fresh : (a : Interface) → Contains (interfaces is_split lines) a → NamesBase lines (Exist (place a)) → ⊥
   pub procedure_inside : (q : ℕ) → is_split q ≡ true → inside (Proc q) ≡ true
   pub existential_inside : (a : Interface) → Contains (interfaces is_split lines) a → inside (Exist (place a)) ≡ true

@@ -37,14 +37,16 @@ impl SplitExistentials {
 
     // The line with an existential for each argument and result.
     pub fn line(&self, alloc: Global, line: &Line) -> Result<Line, Memory>
-        ensures { IfOk result (λ made. made ≡ split_line (is_other self.now.own) (existential_for self.now.first self.now.found.keys) line.now) }
+        ensures { IfOk result (λ made. made ≡ split_line (is_other self.now.own)
+            (existential_for self.now.first self.now.found.keys) line.now) }
     {
         line.map(|x| self.variable(alloc, x))
     }
 
     // The variable with an existential where it begins with an argument or a result.
     fn variable(&self, alloc: Global, x: &Dtv) -> Result<Dtv, Memory>
-        ensures { IfOk result (λ made. made ≡ split_variable (is_other self.now.own) (existential_for self.now.first self.now.found.keys) x.now) }
+        ensures { IfOk result (λ made. made ≡ split_variable (is_other self.now.own)
+            (existential_for self.now.first self.now.found.keys) x.now) }
     {
         match x.base {
             Base::Proc(procedure) => match x.word.items() {
@@ -103,7 +105,8 @@ fn note_line(found: &mut IndexSet<Interface>, own: u32, line: &Line) -> Result<(
 
 // Adds the argument or the result that the variable begins with, if it does.
 fn note(found: &mut IndexSet<Interface>, own: u32, x: &Dtv) -> Result<(), Memory>
-    ensures { OnOk result (found.new.keys ≡ fold (insert_key interface_eq) found.old.keys (interface_of (is_other own) x.now.base x.now.word)) }
+    ensures { OnOk result (found.new.keys ≡ fold (insert_key interface_eq) found.old.keys
+        (interface_of (is_other own) x.now.base x.now.word)) }
 {
     if let Some(interface) = interface_of(own, x) {
         found.insert(interface)?;

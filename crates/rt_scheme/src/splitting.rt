@@ -31,7 +31,8 @@ pub fn split(alloc: Global, lines: &[Line], own: u32) -> Result<Lines, Memory>
 
 // The lines, each split.
 fn split_lines(alloc: Global, split: &SplitExistentials, lines: &[Line]) -> Result<Lines, Memory>
-    ensures { IfOk result (λ made. made ≡ map (split_line (is_other split.now.own) (existential_for split.now.first split.now.found.keys)) lines.now) }
+    ensures { IfOk result (λ made. made ≡ map
+        (split_line (is_other split.now.own) (existential_for split.now.first split.now.found.keys)) lines.now) }
 {
     let mut made = Vec::with_capacity(alloc, lines.len())?;
     for line in lines {

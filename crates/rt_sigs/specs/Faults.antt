@@ -95,7 +95,8 @@ pub record IsInside (names : List (List ℕ)) (text rest : List ℕ) (number : �
   pub within : All (λ line. IsTrue (is_within args line)) lines
   pub no_more : lines ≡ [] → HasRemark version returns args rest → ⊥
   pub joined :
-      file_text version names signatures ++ (heading_text name ++ 10 ∷ (remarks_text returns args ++ (lines_text names lines ++ rest))) ≡ text
+      file_text version names signatures ++ (heading_text name ++ 10 ∷
+      (remarks_text returns args ++ (lines_text names lines ++ rest))) ≡ text
   pub counted : first_number version + line_count signatures + (remark_count returns args + length lines + 1) ≡ number
 
 -- The line of this number is the first that is not of the grammar in its place. After a whole signature it is no `sig` line, or

@@ -28,8 +28,10 @@ pub record IsHeading (signatures : List Signature) (text name rest : List ℕ) :
 
 -- why a text, which is not empty, does not
 abbrev pub IsHeadingFault : List Signature → List ℕ → ℕ → SigFault → Type 0
-IsHeadingFault signatures text number (BadLine n) = (n ≡ number) × (HasNo 10 text ⊎ ((line : List ℕ) × IsFirstLine text line × IsNoText AreBytes heading_text line))
-IsHeadingFault signatures text number (Twice n) = (n ≡ number) × ((name : List ℕ) × AreBytes name × IsFirstLine text (heading_text name) × HasNamed signatures name)
+IsHeadingFault signatures text number (BadLine n) = (n ≡ number) ×
+    (HasNo 10 text ⊎ ((line : List ℕ) × IsFirstLine text line × IsNoText AreBytes heading_text line))
+IsHeadingFault signatures text number (Twice n) = (n ≡ number) ×
+    ((name : List ℕ) × AreBytes name × IsFirstLine text (heading_text name) × HasNamed signatures name)
 IsHeadingFault signatures text number (UnknownConst n) = ⊥
 IsHeadingFault signatures text number (Args n) = ⊥
 IsHeadingFault signatures text number TooLarge = ⊥
@@ -55,7 +57,8 @@ pub record AreRemarks (version : Version) (text : List ℕ) (first : ℕ) (remar
 
 -- why a line is none of a signature
 abbrev pub IsLineFault : List (List ℕ) → Option ℕ → List ℕ → ℕ → SigFault → Type 0
-IsLineFault names args line number (BadLine n) = (n ≡ number) × IsNoText (IsSignatureLine (length names)) (line_text names) line × (IsUnknown names line → ⊥)
+IsLineFault names args line number (BadLine n) = (n ≡ number) × IsNoText (IsSignatureLine (length names)) (line_text names) line ×
+    (IsUnknown names line → ⊥)
 IsLineFault names args line number (UnknownConst n) = (n ≡ number) × IsUnknown names line
 IsLineFault names args line number (Args n) = (n ≡ number) × IsPastArgs names args line
 IsLineFault names args line number (Twice n) = ⊥
@@ -69,7 +72,8 @@ pub record IsRightLine (names : List (List ℕ)) (args : Option ℕ) (text : Lis
   pub is : line_text names line ≡ text
 
 -- lines of a signature stand before the rest of a text; the rest begins with the line of this number
-pub record IsReadTo (names : List (List ℕ)) (args : Option ℕ) (text : List ℕ) (first : ℕ) (lines : List Line) (rest : List ℕ) (number : ℕ) : Type 0 where
+pub record IsReadTo (names : List (List ℕ)) (args : Option ℕ) (text : List ℕ) (first : ℕ) (lines : List Line) (rest : List ℕ)
+    (number : ℕ) : Type 0 where
   pub each : All (IsSignatureLine (length names)) lines
   pub within : All (λ line. IsTrue (is_within args line)) lines
   pub joined : lines_text names lines ++ rest ≡ text

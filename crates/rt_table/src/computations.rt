@@ -70,7 +70,8 @@ impl Context<'_> {
         requires site { site < sites_in self.now.body.now }
         requires to { to < 32 }
         requires from { from < 32 }
-        ensures { OnOk result (rows.new ≡ rows.old ++ kept_rows (context_of self.now) site to from (is_kept (reading_of self.now.body.now) site to from immediate)) }
+        ensures { OnOk result (rows.new ≡ rows.old ++
+            kept_rows (context_of self.now) site to from (is_kept (reading_of self.now.body.now) site to from immediate)) }
     {
         if !is_kept(self.body, site, to, from, immediate) {
             return Ok(());
@@ -113,7 +114,8 @@ impl Context<'_> {
         requires site { site < sites_in self.now.body.now }
         requires left { left < 32 }
         requires right { right < 32 }
-        ensures { OnOk result (rows.new ≡ rows.old ++ addition_rows (context_of self.now) site to left right (addition (reading_of self.now.body.now) site left right)) }
+        ensures { OnOk result (rows.new ≡ rows.old ++
+            addition_rows (context_of self.now) site to left right (addition (reading_of self.now.body.now) site left right)) }
     {
         match addition(self.body, site, left, right) {
             Addition::IndexLeft => self.indexed(site, to, right, left, rows),

@@ -106,7 +106,8 @@ impl Context<'_> {
     ) -> Result<(), Memory>
         requires site { site < sites_in self.now.body.now }
         requires register { HasAddressRegister address }
-        ensures { OnOk result (rows.new ≡ rows.old ++ load_rows (context_of self.now) site loaded to (pointer (context_of self.now) site address)) }
+        ensures { OnOk result (rows.new ≡ rows.old ++
+            load_rows (context_of self.now) site loaded to (pointer (context_of self.now) site address)) }
     {
         let from = self.pointer(site, address)?;
         match from {

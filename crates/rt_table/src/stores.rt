@@ -60,7 +60,8 @@ impl Context<'_> {
         requires site { site < sites_in self.now.body.now }
         requires stored { stored < 32 }
         requires register { HasAddressRegister address }
-        ensures { OnOk result (rows.new ≡ rows.old ++ store_rows (context_of self.now) site width stored (pointer (context_of self.now) site address)) }
+        ensures { OnOk result (rows.new ≡ rows.old ++
+            store_rows (context_of self.now) site width stored (pointer (context_of self.now) site address)) }
     {
         let to = self.pointer(site, address)?;
         match to {

@@ -94,7 +94,8 @@ fn taken_by(body: &Body, frame: &Frame, site: u32, action: Action) -> Option<u32
 fn take_site(taken: &mut BTreeSet<u32>, body: &Body, frame: &Frame, site: u32) -> Result<(), Memory>
     requires of_one { frame_sites frame.now ≡ sites_in body.now }
     requires site { site < sites_in body.now }
-    ensures { OnOk result (Gains taken.old.keys taken.new.keys (taken_by (reading_of body.now) (frame_of frame.now) site (action_at (reading_of body.now).actions site))) }
+    ensures { OnOk result (Gains taken.old.keys taken.new.keys
+        (taken_by (reading_of body.now) (frame_of frame.now) site (action_at (reading_of body.now).actions site))) }
 {
     match taken_by(body, frame, site, body.actions()[site as usize]) {
         Some(offset) => {

@@ -99,7 +99,8 @@ impl Context<'_> {
 
     // The side of what a site stores as a word at an offset of the frame; there is none where it stores anything else.
     fn stored_side(&self, offset: i32, site: u32) -> Result<Option<Side>, Memory>
-        ensures { IfOk result (λ side. side ≡ stored_side (context_of self.now) offset site (action_at (reading_of self.now.body.now).actions site)) }
+        ensures { IfOk result (λ side. side ≡ stored_side (context_of self.now) offset site
+            (action_at (reading_of self.now.body.now).actions site)) }
     {
         match self.body.actions().get(site as usize) {
             Some(
@@ -148,7 +149,8 @@ impl Context<'_> {
         rows: &mut Rows,
     ) -> Result<(), Memory>
         requires { site < sites_in self.now.body.now }
-        ensures { OnOk result (rows.new ≡ rows.old ++ flat_map (word_flow (context_of self.now) offset to.now) (word_defs (context_of self.now) site offset)) }
+        ensures { OnOk result (rows.new ≡ rows.old ++
+            flat_map (word_flow (context_of self.now) offset to.now) (word_defs (context_of self.now) site offset)) }
     {
         let defs = self.word_defs(site, offset)?;
         for def in &defs {

@@ -11,4 +11,5 @@ use Rattle.rt_track.specs.Placed.{place_eq}
 
 -- each definition with an operation has the value of its node, and the others have none here
 abbrev pub AreDefinitions : {S : Type 0} → Ops → List (Option Value) → HashMap (ℕ × ℕ) Value S → Type 0
-AreDefinitions ops states values = (s r : ℕ) → get place_eq values (s, r) ≡ option_map (λ n. value_in states (input.Node n)) (number_in ops s r)
+AreDefinitions ops states values = (s r : ℕ) →
+    get place_eq values (s, r) ≡ option_map (λ n. value_in states (input.Node n)) (number_in ops s r)

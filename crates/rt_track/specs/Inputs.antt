@@ -42,7 +42,8 @@ Keeps old new = (j : ℕ) (p : Input × Input) → slice_get old j ≡ Some p �
 -- an input joins what definitions of a register have, one after the other
 pub data Gathers (ops : Ops) (joins : List (Input × Input)) (r : ℕ) : Input → List Def → Type 0 where
   none : Gathers ops joins r input.Nothing []
-  more : {x y : Input} {defs : List Def} (d : Def) → Gathers ops joins r x defs → IsJoinOf ops joins y x (def_input ops d r) → Gathers ops joins r y (defs ++ d ∷ [])
+  more : {x y : Input} {defs : List Def} (d : Def) → Gathers ops joins r x defs → IsJoinOf ops joins y x (def_input ops d r) →
+      Gathers ops joins r y (defs ++ d ∷ [])
 
 -- an input has what the definitions of a source have
 abbrev pub IsOfSource : Reach → Ops → List (Input × Input) → ℕ → Source → Input → Type 0
@@ -59,7 +60,8 @@ abbrev pub AreKnown : Reach → Ops → List (Input × Input) → ℕ → List (
 AreKnown reach ops joins r known = (n : ℕ) (x : Input) → slice_index_or known n None ≡ Some x → Gathers ops joins r x (shared_in reach n)
 
 -- an input was found, and what was known before still is
-pub record Finds (reach : Reach) (ops : Ops) (r : ℕ) (source : Source) (joins : List (Input × Input)) (joins' : List (Input × Input)) (known' : List (Option Input)) (x : Input) : Type 0 where
+pub record Finds (reach : Reach) (ops : Ops) (r : ℕ) (source : Source) (joins : List (Input × Input)) (joins' : List (Input × Input))
+    (known' : List (Option Input)) (x : Input) : Type 0 where
   pub keeps : Keeps joins joins'
   pub each : length known' ≡ shared_count_of reach
   pub are_known : AreKnown reach ops joins' r known'
@@ -89,5 +91,7 @@ node_of takes s r (op.Add q p) = node.Add (takes q) (takes p) s r
 
 -- the nodes of definitions with an operation, and those of joins behind them
 pub record AreNodes (ops : Ops) (uses : List (List (ℕ × Input))) (joins : List (Input × Input)) (nodes : List Node) : Type 0 where
-  pub of_ops : (n : ℕ) (e : (ℕ × ℕ) × Op) → slice_get (entries_of ops) n ≡ Some e → slice_get nodes n ≡ Some (node_of (use_in uses e.0.0) e.0.0 e.0.1 e.1)
-  pub of_joins : (j : ℕ) (p : Input × Input) → slice_get joins j ≡ Some p → slice_get nodes (length (entries_of ops) + j) ≡ Some (node.Join p.0 p.1)
+  pub of_ops : (n : ℕ) (e : (ℕ × ℕ) × Op) → slice_get (entries_of ops) n ≡ Some e →
+      slice_get nodes n ≡ Some (node_of (use_in uses e.0.0) e.0.0 e.0.1 e.1)
+  pub of_joins : (j : ℕ) (p : Input × Input) → slice_get joins j ≡ Some p →
+      slice_get nodes (length (entries_of ops) + j) ≡ Some (node.Join p.0 p.1)

@@ -14,9 +14,12 @@ pub data Made (nodes : List Node) : Input → Value → Type 0 where
   fixed : {i : ℕ} {v : Value} → slice_get nodes i ≡ Some (node.Fixed v) → Made nodes (input.Node i) v
   left : {i : ℕ} {a b : Input} {v : Value} → slice_get nodes i ≡ Some (node.Join a b) → Made nodes a v → Made nodes (input.Node i) v
   right : {i : ℕ} {a b : Input} {v : Value} → slice_get nodes i ≡ Some (node.Join a b) → Made nodes b v → Made nodes (input.Node i) v
-  raised : {i : ℕ} {a : Input} {k : ℤ} {v : Value} → slice_get nodes i ≡ Some (node.AddI a k) → Made nodes a v → Made nodes (input.Node i) (plus v k)
-  added : {i s r : ℕ} {a b : Input} {v w : Value} → slice_get nodes i ≡ Some (node.Add a b s r) → Made nodes a v → Made nodes b w → Made nodes (input.Node i) (sum s r v w)
-  several : {i : ℕ} {v w : Value} → Made nodes (input.Node i) v → Made nodes (input.Node i) w → (v ≡ w → ⊥) → Made nodes (input.Node i) Multi
+  raised : {i : ℕ} {a : Input} {k : ℤ} {v : Value} → slice_get nodes i ≡ Some (node.AddI a k) → Made nodes a v →
+      Made nodes (input.Node i) (plus v k)
+  added : {i s r : ℕ} {a b : Input} {v w : Value} → slice_get nodes i ≡ Some (node.Add a b s r) → Made nodes a v → Made nodes b w →
+      Made nodes (input.Node i) (sum s r v w)
+  several : {i : ℕ} {v w : Value} → Made nodes (input.Node i) v → Made nodes (input.Node i) w → (v ≡ w → ⊥) →
+      Made nodes (input.Node i) Multi
 
 -- what an input has, where this is what each node has: none, one value, or several
 abbrev pub state_of : List (Option Value) → Input → Option Value
@@ -29,7 +32,8 @@ abbrev pub Gives : List (Option Value) → Node → Value → Type 0
 Gives states (node.Fixed w) v = Some w ≡ Some v
 Gives states (node.Join a b) v = (state_of states a ≡ Some v) ⊎ (state_of states b ≡ Some v)
 Gives states (node.AddI a k) v = (w : Value) × (state_of states a ≡ Some w) × (plus w k ≡ v)
-Gives states (node.Add a b s r) v = (w : Value) × (u : Value) × (state_of states a ≡ Some w) × (state_of states b ≡ Some u) × (sum s r w u ≡ v)
+Gives states (node.Add a b s r) v = (w : Value) × (u : Value) × (state_of states a ≡ Some w) × (state_of states b ≡ Some u) ×
+    (sum s r w u ≡ v)
 
 -- what a node has takes a value in
 abbrev pub Covers : Option Value → Value → Type 0
@@ -48,7 +52,8 @@ pub record IsSolved (nodes : List Node) (states : List (Option Value)) : Type 0 
 -- what is taken in with all that a node has by its inputs, and where it comes from
 pub record IsGiven (states : List (Option Value)) (n : Node) (given : Option Value) : Type 0 where
   pub all : (o : Option Value) → ((v : Value) → given ≡ Some v → Covers o v) → (v : Value) → Gives states n v → Covers o v
-  pub made : (v : Value) → given ≡ Some v → Gives states n v ⊎ ((v ≡ Multi) × ((a : Value) × (b : Value) × Gives states n a × Gives states n b × (a ≡ b → ⊥)))
+  pub made : (v : Value) → given ≡ Some v → Gives states n v ⊎
+      ((v ≡ Multi) × ((a : Value) × (b : Value) × Gives states n a × Gives states n b × (a ≡ b → ⊥)))
 
 -- either value, or several where they differ
 abbrev pub IsJoined : Option Value → Option Value → Option Value → Type 0
@@ -103,7 +108,8 @@ pub record NotesNode (old : List (List ℕ)) (n : Node) (reader : ℕ) (new : Li
 -- for each node those that take its value
 pub record AreReaders (nodes : List Node) (readers : List (List ℕ)) : Type 0 where
   pub each : length readers ≡ length nodes
-  pub all : (i j : ℕ) (n : Node) → i < length nodes → slice_get nodes j ≡ Some n → Takes n (input.Node i) → Contains (slice_index_or readers i []) j
+  pub all : (i j : ℕ) (n : Node) → i < length nodes → slice_get nodes j ≡ Some n → Takes n (input.Node i) →
+      Contains (slice_index_or readers i []) j
   pub within : (i j : ℕ) → Contains (slice_index_or readers i []) j → j < length nodes
 
 -- the value of an input: several, if it may have none

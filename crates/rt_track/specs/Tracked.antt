@@ -22,7 +22,10 @@ IsNamed body v = Unit {0}
 -- the values of the uses and definitions of registers, by their candidates in each body of which the definitions were told
 pub record AreValuesOf (reach : Reach) (ops : Ops) (values : Values) : Type 0 where
   pub sites : sites_of values ≡ reaching.sites_of reach
-  pub uses : (body : Body) → IsReachOf body reach → (s r : ℕ) → s < body.sites → r < 32 → IsValue (IsCandidate body (op_in ops) (Use s r)) (value_at values s r)
-  pub definitions : (body : Body) → IsReachOf body reach → (s r : ℕ) → s < body.sites → r < 32 → IsValue (IsCandidate body (op_in ops) (Definition (def.At s) r)) (value_of values s r)
+  pub uses : (body : Body) → IsReachOf body reach → (s r : ℕ) → s < body.sites → r < 32 →
+      IsValue (IsCandidate body (op_in ops) (Use s r)) (value_at values s r)
+  pub definitions : (body : Body) → IsReachOf body reach → (s r : ℕ) → s < body.sites → r < 32 →
+      IsValue (IsCandidate body (op_in ops) (Definition (def.At s) r)) (value_of values s r)
   pub uses_named : (body : Body) → IsReachOf body reach → (s r : ℕ) → s < body.sites → r < 32 → IsNamed body (value_at values s r)
-  pub definitions_named : (body : Body) → IsReachOf body reach → (s r : ℕ) → r < 32 → Defines body s (pos r) → IsNamed body (value_of values s r)
+  pub definitions_named : (body : Body) → IsReachOf body reach → (s r : ℕ) → r < 32 → Defines body s (pos r) →
+      IsNamed body (value_of values s r)
