@@ -4,7 +4,8 @@ use Rattle.std.specs.Int.{cast_unsigned, w32}
 use Rattle.rt_elf.specs.Parts.{Parts as Object}
 use Rattle.rt_insn.specs.declared.insn.Insn.{Insn}
 use Rattle.rt_insn.specs.declared.insn.Insn.TheVariants.{Lui, Auipc, Jal, Jalr, Blt, Bge, Lb, Lh, Lw, Lbu, Lhu, Sb, Sh, Sw}
-use Rattle.rt_insn.specs.declared.insn.Insn.TheVariants.{Addi, Slti, Sltiu, Xori, Ori, Andi, Slli, Srli, Srai, Add, Sub, Sll, Slt, Sltu, Xor}
+use Rattle.rt_insn.specs.declared.insn.Insn.TheVariants.{Addi, Slti, Sltiu, Xori, Ori, Andi, Slli, Srli, Srai, Add, Sub, Sll, Slt, Sltu}
+use Rattle.rt_insn.specs.declared.insn.Insn.TheVariants.{Xor}
 use Rattle.rt_insn.specs.declared.insn.Insn.TheVariants.{Srl, Sra, Or, And, Mul, Mulh, Mulhsu, Mulhu, Div, Divu, Rem, Remu, Ecall}
 use Rattle.rt_link.specs.declared.link.Link.{Link}
 use Rattle.rt_link.specs.declared.link.Link.TheVariants.{High, Low}

@@ -9,9 +9,9 @@ use Rattle.rt_track.specs.Candidates.{Use, Definition, IsCandidate, IsValue}
 use Rattle.rt_body.specs.Actions.{actions_of, defined_by}
 use Rattle.rt_body.specs.Readings.{Reading, register_body, action_at, op_at}
 
--- It is what is true of a procedure of an object. What isn't asked of it is fixed, so that there is one such reading: a use of no site or of no
--- register may hold several values, where a site doesn't define a register its definition has a value of its own, and no definition reaches what is
--- no site.
+-- It is what is true of a procedure of an object. What isn't asked of it is fixed, so that there is one such reading: a use of no site or
+-- of no register may hold several values, where a site doesn't define a register its definition has a value of its own, and no definition
+-- reaches what is no site.
 pub record IsReading (object : Object) (proc : Proc) (reading : Reading) : Type 0 where
   pub actions : reading.actions ≡ actions_of object proc
   pub body : reading.body ≡ register_body proc reading.actions

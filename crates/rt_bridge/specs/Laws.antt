@@ -59,8 +59,8 @@ TableLaw =
     (L : Given) (named flips : Var → Bool) (edge : State → State → ℕ → Bool) → AreNamed L named → AreFlips L flips → IsTable L named edge →
     (x y : Var) → Named named x → Named named y → Der L (V x) → Der L (S x y) ↔ Way (Edge edge) (st x Co) (st y Co) 0
 
--- where edges have the lines of a shorter list, and are closed under the pushes of a longer one, of which each fact of the shorter one holds, there is a way
--- wherever the shorter list says that a variable lies below another
+-- where edges have the lines of a shorter list, and are closed under the pushes of a longer one, of which each fact of the shorter one
+-- holds, there is a way wherever the shorter list says that a variable lies below another
 abbrev pub FewerLaw : Type 0
 FewerLaw =
     (L fewer : Given) (named : Var → Bool) (edge : State → State → ℕ → Bool) → AreNamed fewer named → ((f : Fact) → Der fewer f → Der L f) →

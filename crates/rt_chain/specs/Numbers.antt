@@ -1,5 +1,6 @@
 -- The number of a word among those that differ from it in load against store.
-use Rattle.std.specs.Prelude.{◌≡◌, ℕ, ◌+◌, ◌*◌, ◌<◌, ◌≤◌, ◌↔◌, List, [], ◌∷◌, Contains, Bool, true, false, IsTrue, length, count_by, drop, slice_index_or}
+use Rattle.std.specs.Prelude.{◌≡◌, ℕ, ◌+◌, ◌*◌, ◌<◌, ◌≤◌, ◌↔◌, List, [], ◌∷◌, Contains, Bool, true, false, IsTrue, length, count_by}
+use Rattle.std.specs.Prelude.{drop, slice_index_or}
 use Rattle.rt_lines.specs.declared.label.Label.{Label}
 use Rattle.rt_lines.specs.declared.label.Label.TheVariants.{Load, Store}
 use Rattle.rt_lines.specs.declared.label.Variance.TheVariants.{Co}
@@ -55,7 +56,8 @@ pub data AreFlips (order : Below) (lines : List Line) : Dtv → List Label → L
 abbrev pub AreVars : List Line → Type 0
 AreVars lines = (l : Line) → Contains lines l → (x : Dtv) × (l ≡ Var x)
 
--- the chain: of `var` lines alone one variable of a base lies below another exactly if both exist, are spellings of each other, and the number doesn't fall
+-- the chain: of `var` lines alone one variable of a base lies below another exactly if both exist, are spellings of each other, and the
+-- number doesn't fall
 abbrev pub ChainLaw : Type 0
 ChainLaw =
     (order : Below) (lines : List Line) (b : Base) (r s : List Label) (flips : List Bool) → AreVars lines →

@@ -1,5 +1,6 @@
 -- The order of classes, by the other classes that each leads to and by the members of each.
-use Rattle.std.specs.Prelude.{◌≡◌, ◌≢◌, ℕ, ◌<◌, ◌≤◌, ◌⊎◌, Bool, true, false, if◌then◌else◌, List, [], ◌∷◌, length, All, Contains, slice_index, slice_index_or, sum_by}
+use Rattle.std.specs.Prelude.{◌≡◌, ◌≢◌, ℕ, ◌<◌, ◌≤◌, ◌⊎◌, Bool, true, false, if◌then◌else◌, List, [], ◌∷◌, length, All, Contains}
+use Rattle.std.specs.Prelude.{slice_index, slice_index_or, sum_by}
 use Rattle.rt_components.specs.Groups.{group_at}
 use Rattle.rt_components.specs.declared.order.Queue.{Queue}
 

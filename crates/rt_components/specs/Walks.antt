@@ -1,5 +1,6 @@
 -- A walk along the edges of a graph, on its way to the classes of nodes that are together.
-use Rattle.std.specs.Prelude.{◌≡◌, ℕ, ◌+◌, ◌*◌, ◌-◌, ◌<◌, ◌≤◌, ◌⊎◌, ◌↔◌, List, [], ◌∷◌, length, Contains, slice_get, slice_index, slice_index_or, Some}
+use Rattle.std.specs.Prelude.{◌≡◌, ℕ, ◌+◌, ◌*◌, ◌-◌, ◌<◌, ◌≤◌, ◌⊎◌, ◌↔◌, List, [], ◌∷◌, length, Contains, slice_get, slice_index}
+use Rattle.std.specs.Prelude.{slice_index_or, Some}
 use Rattle.rt_components.specs.Graphs.{successors, HasEdge}
 use Rattle.rt_components.specs.Groups.{Reaches, AreTogether}
 use Rattle.rt_components.specs.declared.walk.State.{State}

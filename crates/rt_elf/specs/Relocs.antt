@@ -1,5 +1,6 @@
 -- The relocations of code and of data (ELF gABI, "Relocation"), and the checks of them.
-use Rattle.std.specs.Prelude.{ℕ, zero, suc, ◌+◌, ◌*◌, ◌/◌, ◌%◌, ◌==◌, ◌&&◌, ◌||◌, nat_lt, not, Bool, false, Option, Some, None, List, [], ◌∷◌, ◌++◌, if◌then◌else◌}
+use Rattle.std.specs.Prelude.{ℕ, zero, suc, ◌+◌, ◌*◌, ◌/◌, ◌%◌, ◌==◌, ◌&&◌, ◌||◌, nat_lt, not, Bool, false, Option, Some, None, List, []}
+use Rattle.std.specs.Prelude.{◌∷◌, ◌++◌, if◌then◌else◌}
 use Rattle.std.specs.Int.{w32, cast_signed}
 use Rattle.rt_base.specs.First.{fault_if, first_of, first_each, entries}
 use Rattle.rt_elf.specs.declared.fault.ElfFault.{ElfFault}

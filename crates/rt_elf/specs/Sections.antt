@@ -1,5 +1,6 @@
 -- The sections (ELF gABI, "Sections"), and the checks of each section header.
-use Rattle.std.specs.Prelude.{ℕ, ◌+◌, ◌/◌, ◌%◌, ◌<◌, ◌≤◌, ◌^◌, ◌==◌, ◌&&◌, nat_lt, not, Bool, IsTrue, Option, List, [], ◌∷◌, length, slice_range}
+use Rattle.std.specs.Prelude.{ℕ, ◌+◌, ◌/◌, ◌%◌, ◌<◌, ◌≤◌, ◌^◌, ◌==◌, ◌&&◌, nat_lt, not, Bool, IsTrue, Option, List, [], ◌∷◌, length}
+use Rattle.std.specs.Prelude.{slice_range}
 use Rattle.rt_base.specs.First.{fault_if, first_of, first_each, entries}
 use Rattle.rt_elf.specs.declared.fault.ElfFault.{ElfFault}
 use Rattle.rt_elf.specs.declared.fault.ElfFault.TheVariants.{Bad}

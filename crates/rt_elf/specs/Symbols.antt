@@ -1,5 +1,6 @@
 -- The symbol table (ELF gABI, "Symbol Table"), and the checks of it.
-use Rattle.std.specs.Prelude.{ℕ, zero, suc, ◌+◌, ◌-◌, ◌*◌, ◌/◌, ◌%◌, ◌==◌, ◌&&◌, ◌||◌, nat_lt, not, Bool, Option, Some, None, List, [], ◌∷◌, drop, position}
+use Rattle.std.specs.Prelude.{ℕ, zero, suc, ◌+◌, ◌-◌, ◌*◌, ◌/◌, ◌%◌, ◌==◌, ◌&&◌, ◌||◌, nat_lt, not, Bool, Option, Some, None, List, []}
+use Rattle.std.specs.Prelude.{◌∷◌, drop, position}
 use Rattle.std.specs.Option.{option_map}
 use Rattle.rt_base.specs.First.{fault_if, first_of, first_each, entries}
 use Rattle.rt_elf.specs.declared.fault.ElfFault.{ElfFault}

@@ -26,7 +26,7 @@ use Rattle.rt_sat.proofs.Closings.{lines_sound}
 use Rattle.rt_equals.specs.Comparing.{AreEqual, AreEquals}
 use Rattle.rt_outline.specs.Together.{AreTogetherBy, HasPair}
 use Rattle.rt_equals.specs.Plain.{ArePlainPairs, HasPlain, IsPlain}
-use Rattle.rt_equals.proofs.Pairing.{reaches_by}
+use Rattle.rt_components.proofs.Reaching.{reaches_by}
 
 parity_co : (k : ℕ) (a b : Bool) → IsEven (k + differ (sign_of a) (sign_of b)) → k ≡ 0 → a ≡ false → b ≡ false
 parity_co k false false e z f = refl

@@ -3,13 +3,8 @@ use Rattle.std.proofs.Common.{◌≡◌, ℕ, ◌⊎◌, inl, inr, List, [], ◌
 use Rattle.std.proofs.lemmas.List.Elements.{Contains-append_left, Contains-push, Contains-push_cases}
 use Rattle.rt_base.proofs.Lists.{Contains-none}
 use Rattle.rt_components.specs.Groups.{Reaches}
-use Rattle.rt_components.specs.Groups.Reaches.{there, onward}
 use Rattle.rt_sat.specs.declared.state.Edge.{Edge}
 use Rattle.rt_equals.specs.Plain.{ArePlainPairs, HasPlain, IsPlain}
-
-pub reaches_by : (P Q : ℕ → ℕ → Type 0) → ((u w : ℕ) → P u w → Q u w) → {u w : ℕ} → Reaches P u w → Reaches Q u w
-reaches_by P Q f there = there
-reaches_by P Q f (onward {a} {b} e r) = onward (f a b e) (reaches_by P Q f r)
 
 pub pairs_none : (pairs : List (ℕ × ℕ)) → pairs ≡ [] → ArePlainPairs [] pairs
 pairs_none pairs e = record {

@@ -1,6 +1,8 @@
 // Variables that lines name, compared.
-ghost use Rattle.std.specs.Prelude.{◌≡◌, [], ℕ, ◌<◌, Contains, IfOk, IfSome, MatchOption, Some, length, slice_get, slice_index_or};
+ghost use Rattle.std.specs.Prelude.{◌≡◌, [], ℕ, ◌<◌, List, Contains, IfOk, IfSome, IsTrue, MatchOption, Some, length, slice_get, slice_index_or};
+ghost use Rattle.rt_lines.specs.declared.line.Line.{Line as Given};
 ghost use Rattle.rt_named.specs.Naming.{named as named_by};
+ghost use Rattle.rt_outline.specs.Equal.{AreOuterEquals};
 ghost use Rattle.rt_equals.specs.Comparing.{AreEquals};
 
 use crate::agreeing::agree;
@@ -8,7 +10,7 @@ use crate::counted::counted;
 use rt_base::Memory;
 use rt_lines::{Dtv, Line};
 use rt_named::Named;
-use rt_outline::{Lower, Upper};
+use rt_outline::{Classes, Lower, Upper};
 use std::alloc::Global;
 use std::marker::Model;
 
@@ -68,18 +70,47 @@ fn outlined(alloc: Global, named: &Named, lines: &[Line]) -> Result<Option<Vec<u
     requires { named.now ≡ named_by lines.now [] }
     ensures { IfOk result (λ found. IfSome found (λ numbers. AreEquals lines.now named.now numbers.items)) }
 {
-    let upper = Upper::of(alloc, lines, &[])?;
-    let outer = upper.equals(alloc)?;
-    let apart = apart(alloc, named.len())?;
-    if agree(alloc, named, &outer, &apart)? {
-        return Ok(Some(outer.numbers));
-    }
-    let lower = Lower::of(alloc, lines, &[])?;
-    let inner = lower.equals(alloc)?;
-    if agree(alloc, named, &outer, &inner.numbers)? {
+    let outer = outer_classes(alloc, lines)?;
+    if are_exact(alloc, named, lines, &outer)? {
         return Ok(Some(outer.numbers));
     }
     Ok(None)
+}
+
+// Classes by arcs from outside.
+fn outer_classes(alloc: Global, lines: &[Line]) -> Result<Classes, Memory>
+    ensures { IfOk result (λ classes. AreOuterEquals lines.now (named_by lines.now []) classes.count classes.numbers.items) }
+{
+    let upper = Upper::of(alloc, lines, &[])?;
+    let classes = upper.equals(alloc)?;
+    Ok(classes)
+}
+
+// Whether arcs from inside tell the same of existentials as classes from outside.
+fn are_exact(alloc: Global, named: &Named, lines: &[Line], outer: &Classes) -> Result<bool, Memory>
+    requires named { named.now ≡ named_by lines.now [] }
+    requires outer { AreOuterEquals lines.now named.now outer.now.count outer.now.numbers.items }
+    ensures { IfOk result (λ yes. IsTrue yes → AreEquals lines.now named.now outer.now.numbers.items) }
+{
+    if are_apart(alloc, named, outer)? {
+        return Ok(true);
+    }
+    let lower = Lower::of(alloc, lines, &[])?;
+    let inner = lower.equals(alloc)?;
+    let exact = agree(alloc, named, outer, &inner.numbers)?;
+    Ok(exact)
+}
+
+// Whether classes from outside put no other variable together with an existential.
+fn are_apart(alloc: Global, named: &Named, outer: &Classes) -> Result<bool, Memory>
+    requires each { length outer.now.numbers.items ≡ length named.now }
+    requires few { (i : ℕ) → i < length named.now → slice_index_or outer.now.numbers.items i 0 < outer.now.count }
+    ensures { IfOk result (λ yes. IsTrue yes → (lines : List Given) → named.now ≡ named_by lines [] →
+        AreOuterEquals lines named.now outer.now.count outer.now.numbers.items → AreEquals lines named.now outer.now.numbers.items) }
+{
+    let apart = apart(alloc, named.len())?;
+    let exact = agree(alloc, named, outer, &apart)?;
+    Ok(exact)
 }
 
 // So many numbers, no two of them equal.

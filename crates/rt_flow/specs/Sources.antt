@@ -1,5 +1,6 @@
 -- Where a `Reach` has the definitions of a location that reach a site.
-use Rattle.std.specs.Prelude.{◌<◌, ◌&&◌, ℕ, ℤ, List, [], ◌∷◌, Option, Some, None, if◌then◌else◌, max, nat_le, nat_lt, length, slice_index, slice_index_or}
+use Rattle.std.specs.Prelude.{◌<◌, ◌&&◌, ℕ, ℤ, List, [], ◌∷◌, Option, Some, None, if◌then◌else◌, max, nat_le, nat_lt, length}
+use Rattle.std.specs.Prelude.{slice_index, slice_index_or}
 use Rattle.rt_flow.specs.declared.def.Def.{Def}
 use Rattle.rt_flow.specs.declared.def.Def.TheVariants.{At}
 use Rattle.rt_flow.specs.declared.source.Source.{Source}

@@ -1,5 +1,6 @@
 -- Definitions in the rows of blocks, one definition after the other.
-use Rattle.std.specs.Prelude.{◌≡◌, ◌+◌, ◌<◌, ◌≤◌, ◌⊎◌, ◌↔◌, ◌||◌, Bool, false, if◌then◌else◌, ℕ, List, [], ◌∷◌, ◌++◌, Option, Some, None, AllPairs, Contains, length, slice_index_or, slice_set, sum_by}
+use Rattle.std.specs.Prelude.{◌≡◌, ◌+◌, ◌<◌, ◌≤◌, ◌⊎◌, ◌↔◌, ◌||◌, Bool, false, if◌then◌else◌, ℕ, List, [], ◌∷◌, ◌++◌, Option, Some, None}
+use Rattle.std.specs.Prelude.{AllPairs, Contains, length, slice_index_or, slice_set, sum_by}
 use Rattle.rt_flow.specs.declared.def.Def.{Def}
 use Rattle.rt_flow.specs.contracts.def.DefPartialEq.TheImpl as the_def
 use Rattle.rt_flow.specs.Bodies.{Precedes}

@@ -1,5 +1,6 @@
 -- Which variables the lines of a site speak of.
-use Rattle.std.specs.Prelude.{ℕ, ◌-◌, ℤ, pos, ◌<◌, nat_le, ◌==◌, ◌&&◌, ◌||◌, not, Bool, true, false, Option, Some, None, List, [], ◌∷◌, ◌++◌, map, flat_map, if◌then◌else◌, slice_index_or}
+use Rattle.std.specs.Prelude.{ℕ, ◌-◌, ℤ, pos, ◌<◌, nat_le, ◌==◌, ◌&&◌, ◌||◌, not, Bool, true, false, Option, Some, None, List, [], ◌∷◌}
+use Rattle.std.specs.Prelude.{◌++◌, map, flat_map, if◌then◌else◌, slice_index_or}
 use Rattle.std.specs.List.{filter, list_any, list_all}
 use Rattle.std.specs.Ordering.{int_eq}
 use Rattle.rt_flow.specs.declared.def.Def.{Def}
@@ -142,7 +143,8 @@ results reading calls site register =
 abbrev pub result_questions : Reading → List (List Call) → ℕ → ℕ → List Question
 result_questions reading calls site register = map (λ def. OfDefinition def register) (results reading calls site register)
 
--- what the lines of a call speak of: what is passed in each argument register that the callee takes, and what is called, where a register holds it
+-- what the lines of a call speak of: what is passed in each argument register that the callee takes, and what is called, where a register
+-- holds it
 abbrev pub target_questions : ℕ → Bool → Callee → List Question
 target_questions site true (callee.Unknown register) = OfUse site register ∷ []
 target_questions site is_plain other = []
@@ -157,7 +159,8 @@ data_questions site register other = []
 
 -- what the lines of an instruction speak of; the frame's offset in an address is no part of that
 abbrev pub action_questions : Reading → List (List Call) → ℕ → Action → List Question
-action_questions reading calls site (action.AddImmediate to from immediate) = if is_kept reading site to from immediate then OfUse site from ∷ [] else []
+action_questions reading calls site (action.AddImmediate to from immediate) =
+    if is_kept reading site to from immediate then OfUse site from ∷ [] else []
 action_questions reading calls site (action.Add to left right) = addition_questions site to left right (addition reading site left right)
 action_questions reading calls site (action.Load loaded to address) = address_questions reading site address
 action_questions reading calls site (action.Store width register address) = data_questions site register width ++

@@ -2,7 +2,10 @@ use Rattle.std.specs.Prelude.{ℕ, ◌+◌, ◌*◌, ◌^◌, ◌==◌, ◌&&◌
 use Rattle.rt_insn.specs.Word.{field}
 use Rattle.rt_insn.specs.Format.{imm_i, imm_s, imm_b, imm_u, imm_j}
 use Rattle.rt_insn.specs.declared.insn.Insn.{Insn}
-use Rattle.rt_insn.specs.declared.insn.Insn.TheVariants.{Lui, Auipc, Jal, Jalr, Beq, Bne, Blt, Bge, Bltu, Bgeu, Lb, Lh, Lw, Lbu, Lhu, Sb, Sh, Sw, Addi, Slti, Sltiu, Xori, Ori, Andi, Slli, Srli, Srai, Add, Sub, Sll, Slt, Sltu, Xor, Srl, Sra, Or, And, Mul, Mulh, Mulhsu, Mulhu, Div, Divu, Rem, Remu, Fence, Ecall, Ebreak}
+use Rattle.rt_insn.specs.declared.insn.Insn.TheVariants.{Lui, Auipc, Jal, Jalr, Beq, Bne, Blt, Bge, Bltu, Bgeu, Lb, Lh, Lw, Lbu, Lhu, Sb}
+use Rattle.rt_insn.specs.declared.insn.Insn.TheVariants.{Sh, Sw, Addi, Slti, Sltiu, Xori, Ori, Andi, Slli, Srli, Srai, Add, Sub, Sll}
+use Rattle.rt_insn.specs.declared.insn.Insn.TheVariants.{Slt, Sltu, Xor, Srl, Sra, Or, And, Mul, Mulh, Mulhsu, Mulhu, Div, Divu, Rem}
+use Rattle.rt_insn.specs.declared.insn.Insn.TheVariants.{Remu, Fence, Ecall, Ebreak}
 
 -- The table read from the word's side: the instruction of a word, found field by field. Only private functions cite
 -- it; that it agrees with the table is proved.

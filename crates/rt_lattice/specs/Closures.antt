@@ -1,5 +1,6 @@
 -- The order that the pairs of a file give to its names.
-use Rattle.std.specs.Prelude.{◌≡◌, ◌↔◌, ℕ, ◌<◌, Bool, false, not, if◌then◌else◌, Option, Some, None, option_map, unwrap_or, List, [], ◌∷◌, length, find, Contains, IsSomeAnd}
+use Rattle.std.specs.Prelude.{◌≡◌, ◌↔◌, ℕ, ◌<◌, Bool, false, not, if◌then◌else◌, Option, Some, None, option_map, unwrap_or, List, []}
+use Rattle.std.specs.Prelude.{◌∷◌, length, find, Contains, IsSomeAnd}
 use Rattle.std.specs.Str.{bytes_eq}
 use Rattle.rt_lines.specs.Names.{HasName}
 use Rattle.rt_lines.specs.Orders.{Below, IsAtOrBelow}

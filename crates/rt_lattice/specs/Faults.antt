@@ -4,7 +4,8 @@ use Rattle.toml.specs.Data.{Members}
 use Rattle.rt_base.specs.First.{fault_if, first_of}
 use Rattle.rt_lines.specs.Names.{HasName}
 use Rattle.rt_lattice.specs.declared.fault.LatFault.{LatFault}
-use Rattle.rt_lattice.specs.declared.fault.LatFault.TheVariants.{NotToml, Shape, Unknown, Cycle, NoTop, NoBottom, NoJoin, NoRole, TooMany, Memory}
+use Rattle.rt_lattice.specs.declared.fault.LatFault.TheVariants.{NotToml, Shape, Unknown, Cycle, NoTop, NoBottom, NoJoin, NoRole}
+use Rattle.rt_lattice.specs.declared.fault.LatFault.TheVariants.{TooMany, Memory}
 use Rattle.rt_lattice.specs.declared.file.File.{File}
 use Rattle.rt_lattice.specs.declared.role.Role.{Role}
 use Rattle.rt_lattice.specs.Bounds.{HasNoCycle, HasTop, HasBottom, HasJoins, IsFirstOnCycle, IsFirstWithoutJoin}

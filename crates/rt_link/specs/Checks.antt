@@ -1,6 +1,7 @@
 -- The checks of the relocations of an object's code, in order: the first that fails has the number and the place. They
 -- go over these relocations twice.
-use Rattle.std.specs.Prelude.{ℕ, ◌+◌, ◌%◌, ◌==◌, ◌&&◌, nat_le, pos, not, Bool, is_some, is_none, Option, None, Some, Result, Ok, Err, List, [], ◌∷◌, take, length, get_or, ◌≡◌}
+use Rattle.std.specs.Prelude.{ℕ, ◌+◌, ◌%◌, ◌==◌, ◌&&◌, nat_le, pos, not, Bool, is_some, is_none, Option, None, Some, Result, Ok, Err}
+use Rattle.std.specs.Prelude.{List, [], ◌∷◌, take, length, get_or, ◌≡◌}
 use Rattle.rt_base.specs.First.{fault_if, first_of, first_each}
 use Rattle.rt_elf.specs.declared.object.Object.{Object}
 use Rattle.rt_elf.specs.declared.reloc.Reloc.{Reloc}

@@ -1,5 +1,6 @@
 -- What is told of the calls of an object's procedures.
-use Rattle.std.specs.Prelude.{◌≡◌, ◌↔◌, ◌<◌, ℕ, ◌-◌, ◌&&◌, nat_lt, ℤ, pos, Bool, true, false, IsTrue, List, [], ◌∷◌, All, length, get_or, slice_index_or}
+use Rattle.std.specs.Prelude.{◌≡◌, ◌↔◌, ◌<◌, ℕ, ◌-◌, ◌&&◌, nat_lt, ℤ, pos, Bool, true, false, IsTrue, List, [], ◌∷◌, All, length, get_or}
+use Rattle.std.specs.Prelude.{slice_index_or}
 use Rattle.std.specs.Coded.{Π_prop, Unit-prop, le_prop}
 use Rattle.std.specs.List.{filter}
 use Rattle.rt_elf.specs.Parts.{Parts as Object}

@@ -1,19 +1,16 @@
 -- How outer arcs are built: nodes with more behind them, arcs with more.
 use Rattle.std.proofs.Common.{◌≡◌, ℕ, zero, suc, ◌<◌, ◌≤◌, inl, inr, Bool, true, List, [], ◌∷◌, ◌++◌, Option, Some, None, length, replicate, sym, ap, subst, ◌∙◌, arith}
 use Rattle.std.specs.Prelude.{slice_get}
+use Rattle.std.proofs.lemmas.List.{append_assoc}
 use Rattle.rt_lines.specs.declared.label.Label.{Label}
 use Rattle.rt_lines.specs.declared.variable.Dtv.{Dtv}
 use Rattle.rt_lines.specs.declared.line.Line.{Line}
-use Rattle.rt_named.specs.Naming.{named as named_by}
-use Rattle.rt_shape.specs.Graphs.{Graph}
-use Rattle.rt_shape.specs.Shapes.{IsShapeOf}
 use Rattle.rt_outline.specs.declared.arc.Arc.{Arc}
 use Rattle.rt_outline.specs.Arcs.{HasArc}
-use Rattle.rt_outline.specs.Enclosing.{IsOuter}
+use Rattle.rt_outline.specs.Built.{AreNamed, AreOuterArcs, HasHubs, IsHubbed}
 use Rattle.rt_outline.specs.Frames.{Origins, IsMade, IsClosed, IsPushedMore, IsStepped, AreOriginsOf, AreKept, AreLinesKept, AreMore, HavePointers, IsPointerPair}
 use Rattle.rt_outline.specs.Hubs.{HasAccess, HaveHubs, IsGrownBy}
 use Rattle.rt_outline.specs.Lines.{AreLineArcs}
-use Rattle.rt_outline.specs.Nodes.{AreClassesOf, AreFlipsOf}
 use Rattle.rt_outline.proofs.Outer.{outer_of}
 use Rattle.rt_outline.proofs.Standing.{all_set}
 
@@ -65,43 +62,58 @@ pointers_lines origins arcs next more v w i c = elim (more v w (Some i) c) [ inl
 pub pointers_kept : (origins : Origins) (arcs next : List (List Arc)) → AreKept arcs next → HavePointers origins arcs → HavePointers origins next
 pointers_kept origins arcs next kept have p v w m n = kept v w None (have p v w m n)
 
+-- hubs that are entered after loads and stores
+pub has_hubs : (known : List Dtv) (classes : List (Option ℕ)) (flips : List Bool) (first stepped grown : Origins) (none some hubbed : List (List Arc)) →
+    AreOriginsOf known first → ((v w : ℕ) (line : Option ℕ) → HasArc none v w line → ⊥) → IsStepped first none stepped some →
+    ((n : ℕ) → slice_get flips n ≡ Some true → HasAccess stepped n) → IsGrownBy stepped some grown hubbed → HaveHubs grown hubbed classes flips →
+    HasHubs known classes flips grown hubbed
+has_hubs known classes flips first stepped grown none some hubbed are absent steps accesses grows hubs = record {
+  first = first;
+  more = steps.more ++ grows.more;
+  are = are;
+  behind = grows.behind ∙ ap (λ (xs : Origins). xs ++ grows.more) steps.behind ∙ append_assoc first steps.more grows.more;
+  accesses = λ n f. grown_access stepped grown grows.more grows.behind n (accesses n f);
+  hubs = hubs;
+  none = λ v w i h. absent v w (Some i) (steps.same v w (Some i) (grows.lines v w i h));
+}
+
+-- there are as many nodes as variables
+pub hubbed_length : (lines : List Line) (known : List Dtv) (origins : Origins) (arcs : List (List Arc)) → IsHubbed lines known origins arcs →
+    length known ≤ length origins
+hubbed_length lines known origins arcs is =
+    let h : length is.hubbed.first ≤ length origins = grown_length is.hubbed.first origins is.hubbed.more is.hubbed.behind in
+    omega (arith, is.hubbed.are.each, h)
+
 -- what the steps of building give
-pub built : (lines : List Line) (extra known : List Dtv) (is : known ≡ named_by lines extra) (graph : Graph) (shape : IsShapeOf lines graph)
-    (classes : List (Option ℕ)) (flips : List Bool) (classed : AreClassesOf graph known classes) (flagged : AreFlipsOf graph classes flips)
-    (first stepped grown lined pointed last : Origins) (none some hubbed entered opened all : List (List Arc)) (are : AreOriginsOf known first)
-    (steps : IsStepped first none stepped some) (accesses : (n : ℕ) → slice_get flips n ≡ Some true → HasAccess stepped n)
-    (grows : IsGrownBy stepped some grown hubbed) (hubs : HaveHubs grown hubbed classes flips)
+pub built : (lines : List Line) (known : List Dtv) (named : AreNamed lines known) (grown lined pointed last : Origins)
+    (hubbed entered opened all : List (List Arc)) (is : IsHubbed lines known grown hubbed)
     (same_lined : lined ≡ grown) (are_lines : AreLineArcs lines (length lines) known entered) (kept : AreKept hubbed entered)
     (same_pointed : pointed ≡ lined) (kept_opened : AreKept entered opened) (pointers : HavePointers pointed opened) (only : AreMore (IsPointerPair lined) entered opened)
     (same_last : last ≡ pointed) (stands : List Bool) (pushed : IsPushedMore pointed stands opened all) (closed : IsClosed last all stands)
     (whole : stands ≡ replicate (length lines) true) →
-    IsOuter lines known all × AreLineArcs lines (length lines) known all × (length known ≤ length last)
-built lines extra known is graph shape classes flips classed flagged first stepped grown lined pointed last none some hubbed entered opened all are
-    steps accesses grows hubs same_lined are_lines kept same_pointed kept_opened pointers only same_last stands pushed closed whole = (
-      outer_of lines extra known is graph shape classes flips classed flagged first last are behind all stands (all_set stands (length lines) whole) closed
+    AreOuterArcs lines known last all
+built lines known named grown lined pointed last hubbed entered opened all is same_lined are_lines kept same_pointed kept_opened pointers only
+    same_last stands pushed closed whole = record {
+      nodes = subst (λ (os : Origins). length known ≤ length os) (sym same) (hubbed_length lines known grown hubbed is);
+      lines_all = lines_all;
+      outer =
+          outer_of lines named.0 known named.1 is.graph is.shape is.classes is.flips is.classed is.flagged is.hubbed.first last is.hubbed.are behind all
+          stands (all_set stands (length lines) whole) closed
           (pointers_kept last opened all pushed.kept (subst (λ (os : Origins). HavePointers os opened) (sym same_last) pointers))
-          (λ n f. subst (λ (os : Origins). HasAccess os n) (sym same) (grown_access stepped grown grows.more grows.behind n (accesses n f)))
-          (hubs_kept last hubbed all classes flips (λ v w line c. pushed.kept v w line (kept_opened v w line (kept v w line c)))
-          (subst (λ (os : Origins). HaveHubs os hubbed classes flips) (sym same) hubs)) lines_all,
-      lines_all,
-      subst (λ (os : Origins). length known ≤ length os) (sym same) longer_known,
-    )
+          (λ n f. subst (λ (os : Origins). HasAccess os n) (sym same) (is.hubbed.accesses n f))
+          (hubs_kept last hubbed all is.classes is.flips (λ v w line c. pushed.kept v w line (kept_opened v w line (kept v w line c)))
+          (subst (λ (os : Origins). HaveHubs os hubbed is.classes is.flips) (sym same) is.hubbed.hubs)) lines_all;
+    }
   where
     same : last ≡ grown
     same = same_last ∙ same_pointed ∙ same_lined
 
-    behind : (n p : ℕ) (l : Label) → IsMade first n p l → IsMade last n p l
+    behind : (n p : ℕ) (l : Label) → IsMade is.hubbed.first n p l → IsMade last n p l
     behind n p l m =
         subst (λ (os : Origins). IsMade os n p l) (sym same)
-        (grown_made stepped grown grows.more grows.behind n p l (grown_made first stepped steps.more steps.behind n p l m))
+        (grown_made is.hubbed.first grown is.hubbed.more is.hubbed.behind n p l m)
 
     lines_all : AreLineArcs lines (length lines) known all
     lines_all =
         lines_kept lines (length lines) known opened all pushed.kept pushed.lines
         (lines_kept lines (length lines) known entered opened kept_opened (pointers_lines lined entered opened only) are_lines)
-
-    longer_known : length known ≤ length grown
-    longer_known =
-        let h : length first ≤ length stepped = grown_length first stepped steps.more steps.behind in
-        let k : length stepped ≤ length grown = grown_length stepped grown grows.more grows.behind in
-        omega (arith, are.each, h, k)

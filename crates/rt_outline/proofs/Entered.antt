@@ -87,10 +87,6 @@ module _ (lines : List Line) (named : List Dtv) where
       line_in j a b less f (inl e) = let s : Some (Sub a b) ≡ Some l = sym f ∙ ap (slice_get lines) e ∙ here in absurd (not a b (cc))
       line_in j a b less f (inr m) = are.all j a b (omega (arith, less, m)) f
 
--- what is read at an index is there
-pub listed : {X : Type 0} (xs : List X) (i : ℕ) (d x : X) → i < length xs → get_or xs i d ≡ x → Contains xs x
-listed xs i d x h e = (i, h, get_or_default xs i x d h ∙ e)
-
 -- numbers of variables
 module _ (named : List Dtv) where
   pub numbers_none : (numbers : List ℕ) → numbers ≡ [] → AreNumbers named [] numbers

@@ -7,9 +7,9 @@ use Rattle.std.proofs.lemmas.Bool.{cases_eq}
 use Rattle.std.proofs.lemmas.List.{get_or_default, get_or_past, take_more}
 use Rattle.std.proofs.lemmas.List.Elements.{Contains-append_left, Contains-push, Contains-push_cases}
 use Rattle.rt_base.proofs.Lists.{Contains-none}
+use Rattle.rt_components.proofs.Reaching.{reaches_by}
 use Rattle.rt_components.specs.Graphs.{HasEdge}
 use Rattle.rt_components.specs.Groups.{AreGroups, AreTogether, IsAmongFirst, Reaches, group_at}
-use Rattle.rt_components.specs.Groups.Reaches.{there, onward}
 use Rattle.rt_outline.specs.Together.{HasPair, AreTogetherBy, IsGraphOf, IsFilled, AreGroupNumbers}
 
 pub graph_none : (count : ℕ) (graph : List (List ℕ)) → length graph ≡ count → ((u : ℕ) → get_or graph u [] ≡ []) → IsGraphOf [] count graph
@@ -121,10 +121,6 @@ groups_next count groups k group old new e n are = record { each = n.each ∙ ar
       | inr f ↦ subst (λ j. Contains (group_at groups j) a) (sym f) (are.member a (r.0, omega (arith, r.1, m), r.2))
     ]
 
-reaches_by : (P Q : ℕ → ℕ → Type 0) → ((u w : ℕ) → P u w → Q u w) → {u w : ℕ} → Reaches P u w → Reaches Q u w
-reaches_by P Q f there = there
-reaches_by P Q f (onward {a} {b} e r) = onward (f a b e) (reaches_by P Q f r)
-
 -- numbers of groups are equal exactly where pairs lead both ways
 pub together_whole : (pairs : List (ℕ × ℕ)) (count : ℕ) (graph groups : List (List ℕ)) (numbers : List ℕ) → IsGraphOf pairs count graph →
     AreGroups (length graph) (HasEdge graph) groups → AreGroupNumbers count groups (length groups) numbers →
@@ -159,12 +155,6 @@ in_group graph groups are k a c = elim (below k (length groups)) [
 pub group_read : (groups read : List (List ℕ)) (k : ℕ) (item group : List ℕ) → read ≡ groups → k < length groups →
     item ≡ get_or read k item → group ≡ item → group ≡ group_at groups k
 group_read groups read k item group e h i g = g ∙ i ∙ ap (λ xs. get_or xs k item) e ∙ get_or_default groups k item [] h
-
-pub listed : {X : Type 0} (xs : List X) (i : ℕ) (d x : X) → i < length xs → get_or xs i d ≡ x → Contains xs x
-listed xs i d x h e = (i, h, get_or_default xs i x d h ∙ e)
-
-pub is_listed : {X : Type 0} (xs : List X) (i : ℕ) (x : X) → i < length xs → x ≡ get_or xs i x → Contains xs x
-is_listed xs i x h e = (i, h, sym e)
 
 pub seen_next : {X : Type 0} (xs : List X) (i : ℕ) (x : X) → i < length xs → x ≡ get_or xs i x → take (i + 1) xs ≡ take i xs ++ x ∷ []
 seen_next xs i x h e = take_more xs i x h ∙ ap (λ y. take i xs ++ y ∷ []) (sym e)

@@ -4,8 +4,8 @@ use Rattle.std.proofs.lemmas.Bool.{cases_eq}
 use Rattle.std.proofs.lemmas.List.{get_or_past}
 use Rattle.std.proofs.lemmas.List.Elements.{Contains-append_left, Contains-push, Contains-push_cases}
 use Rattle.rt_base.proofs.Lists.{Contains-none}
+use Rattle.rt_components.proofs.Reaching.{reaches_by}
 use Rattle.rt_components.specs.Groups.{AreTogether, Reaches}
-use Rattle.rt_components.specs.Groups.Reaches.{there, onward}
 use Rattle.rt_outline.specs.declared.arc.Arc.{Arc}
 use Rattle.rt_outline.specs.Arcs.{HasArc, Leads, allows}
 use Rattle.rt_outline.specs.Together.{ArePairsBelow, AreTogetherBy, HasMorePairs, HasPair, IsOpenTo}
@@ -97,10 +97,6 @@ below_none arcs stands pairs e = record {
   all = λ v w h l. absurd (omega (arith, h));
   only = λ v w c. absurd (Contains-none (v, w) (subst (λ ps. Contains ps (v, w)) e c));
 }
-
-reaches_by : (P Q : ℕ → ℕ → Type 0) → ((u w : ℕ) → P u w → Q u w) → {u w : ℕ} → Reaches P u w → Reaches Q u w
-reaches_by P Q f there = there
-reaches_by P Q f (onward {a} {b} e r) = onward (f a b e) (reaches_by P Q f r)
 
 -- only nodes have arcs
 few_nodes : (arcs : List (List Arc)) (stands : List Bool) (v w : ℕ) → Leads arcs stands true v w → v < length arcs

@@ -1,9 +1,11 @@
 // Outer arcs.
-ghost use Rattle.std.specs.Prelude.{◌≡◌, ◌∷◌, [], Contains, IfOk};
+ghost use Rattle.std.specs.Prelude.{◌≡◌, ◌∷◌, [], Contains, IfOk, length};
 ghost use Rattle.rt_lines.specs.declared.variable.Dtv.{Dtv as Variable};
 ghost use Rattle.rt_lines.specs.Orders.{Below};
 ghost use Rattle.rt_named.specs.Naming.{named};
+ghost use Rattle.rt_outline.specs.Built.{AreNamed, AreOuterArcs, HasHubs, IsHubbed};
 ghost use Rattle.rt_outline.specs.Equal.{AreOuterEquals};
+ghost use Rattle.rt_outline.specs.Frames.{AreDistinct, IsFrame};
 ghost use Rattle.rt_outline.specs.Lines.{HasBelow, standing};
 ghost use Rattle.rt_outline.specs.declared.led.Led.TheVariants.{No as Never, Yes as Always};
 
@@ -53,17 +55,8 @@ impl Upper {
     pub fn of(alloc: Global, lines: &[Line], extra: &[Dtv]) -> Result<Upper, Memory>
         ensures { IfOk result (λ upper. upper ≡ record { lines = lines.now; named = named lines.now extra.now }) }
     {
-        let shape = rt_shape::of(alloc, lines)?;
         let named = Named::of(alloc, lines, extra)?;
-        let classes = shape_classes(alloc, &named, &shape)?;
-        let flips = flips(alloc, &shape, &classes)?;
-        let mut frame = Frame::of(alloc, &named)?;
-        let stands = vec![in alloc; true; lines.len()]?;
-        enter_accesses(alloc, &mut frame, &flips)?;
-        enter_hubs(alloc, &mut frame, &classes, &flips)?;
-        enter_lines(&named, lines, &mut frame)?;
-        enter_pointers(&mut frame)?;
-        close(alloc, &mut frame, &stands)?;
+        let frame = framed(alloc, lines, &named)?;
         let lines = copied(alloc, lines)?;
         Ok(Upper {
             lines,
@@ -119,4 +112,50 @@ impl Upper {
         classes.numbers.truncate(self.named.len());
         Ok(classes)
     }
+}
+
+// Nodes of the variables and hubs, with the arcs of the lines and of hubs, closed under what is pushed from ways of them.
+fn framed(alloc: Global, lines: &[Line], named: &Named) -> Result<Frame, Memory>
+    requires { AreNamed lines.now named.now }
+    ensures frame { IfOk result (λ frame. IsFrame frame.origins.items frame.steps.entries frame.arcs.items frame.back.items) }
+    ensures outer { IfOk result (λ frame. AreOuterArcs lines.now named.now frame.origins.items frame.arcs.items) }
+{
+    let mut frame = hubbed(alloc, lines, named)?;
+    enter_lines(named, lines, &mut frame)?;
+    enter_pointers(&mut frame)?;
+    let stands = vec![in alloc; true; lines.len()]?;
+    close(alloc, &mut frame, &stands)?;
+    Ok(frame)
+}
+
+// Nodes of the variables and hubs by the shape of the lines, with the arcs of hubs.
+fn hubbed(alloc: Global, lines: &[Line], named: &Named) -> Result<Frame, Memory>
+    requires { AreNamed lines.now named.now }
+    ensures frame { IfOk result (λ frame. IsFrame frame.origins.items frame.steps.entries frame.arcs.items frame.back.items) }
+    ensures hubs { IfOk result (λ frame. IsHubbed lines.now named.now frame.origins.items frame.arcs.items) }
+{
+    let shape = rt_shape::of(alloc, lines)?;
+    let classes = shape_classes(alloc, named, &shape)?;
+    let flips = flips(alloc, &shape, &classes)?;
+    let frame = with_hubs(alloc, named, &classes, &flips)?;
+    Ok(frame)
+}
+
+// Nodes of the variables and hubs by their classes, with the arcs of hubs.
+fn with_hubs(
+    alloc: Global,
+    named: &Named,
+    classes: &[Option<u32>],
+    flips: &[bool],
+) -> Result<Frame, Memory>
+    requires distinct { AreDistinct named.now }
+    requires classes { length classes.now ≡ length named.now }
+    requires flips { length flips.now ≡ length classes.now }
+    ensures frame { IfOk result (λ frame. IsFrame frame.origins.items frame.steps.entries frame.arcs.items frame.back.items) }
+    ensures hubs { IfOk result (λ frame. HasHubs named.now classes.now flips.now frame.origins.items frame.arcs.items) }
+{
+    let mut frame = Frame::of(alloc, named)?;
+    enter_accesses(alloc, &mut frame, flips)?;
+    enter_hubs(alloc, &mut frame, classes, flips)?;
+    Ok(frame)
 }

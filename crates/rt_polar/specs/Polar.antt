@@ -20,7 +20,8 @@ pub record IsSole (sign : Variance) (n : ℕ) (z : Dtv) (lines : List Line) (pla
 abbrev pub HasNoSole : Variance → ℕ → List Line → Type 0
 HasNoSole sign n lines = (z : Dtv) (place : ℕ) → IsSole sign n z lines place → ⊥
 
--- z is the side of the line at a place, the left one or not, that may take the place of the existential n: its only definition, or else its only consumer
+-- z is the side of the line at a place, the left one or not, that may take the place of the existential n: its only definition, or else
+-- its only consumer
 pub data IsCandidate (n : ℕ) (lines : List Line) : Variance → ℕ → Bool → Dtv → Type 0 where
   defines : (z : Dtv) (place : ℕ) → IsSole Co n z lines place → IsCandidate n lines Co place true z
   consumes : (z : Dtv) (place : ℕ) → HasNoSole Co n lines → IsSole Contra n z lines place → IsCandidate n lines Contra place false z

@@ -10,8 +10,8 @@ use Rattle.rt_rules.specs.Put.{use_of, put_lines}
 use Rattle.rt_polar.specs.Polar.{IsCandidate, HasCandidate}
 use Rattle.rt_polar.specs.Tidied.{tidied}
 
--- The existential n gives its place to its candidate, and the lines are tidied. The use that is put goes, where another line names n; where none does, the
--- variable still exists.
+-- The existential n gives its place to its candidate, and the lines are tidied. The use that is put goes, where another line names n;
+-- where none does, the variable still exists.
 pub data Exchanges (n : ℕ) (lines : List Line) : List Line → Type 0 where
   goes : (sign : Variance) (place : ℕ) (left : Bool) (z : Dtv) (before after : List Line) → IsCandidate n lines sign place left z →
       lines ≡ before ++ use_of sign n z ∷ after

@@ -15,8 +15,8 @@ use rt_outline::Upper;
 use std::alloc::Global;
 
 /// What stays of the lines when, from the last to the first, each line goes that the lines before it and those that stayed
-/// behind it derive with the order of constants. Arcs from outside tell of most lines whether they are derivable; where they
-/// don't, arcs from inside of what is left do, or it is saturated. The error is want of memory.
+/// behind it derive with the order of constants. A line that arcs from outside don't give isn't derivable; of another one arcs
+/// from inside of what is left tell, or it is saturated. The error is want of memory.
 pub fn drop_derivable(alloc: Global, lines: &[Line], order: &Order) -> Result<Lines, Memory>
     requires { All (HasConstantsBelow order.now.count) lines.now }
     ensures drops { IfOk result (λ left. Drops order.now [] lines.now left) }

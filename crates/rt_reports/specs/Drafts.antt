@@ -1,5 +1,6 @@
 -- Reports that are read in part, and which line may follow.
-use Rattle.std.specs.Prelude.{◌≡◌, ℕ, ◌+◌, ◌≤◌, ◌^◌, ◌⊎◌, List, [], ◌∷◌, ◌++◌, Option, Some, None, All, Contains, Result, MatchResult, fold, nat_eq}
+use Rattle.std.specs.Prelude.{◌≡◌, ℕ, ◌+◌, ◌≤◌, ◌^◌, ◌⊎◌, List, [], ◌∷◌, ◌++◌, Option, Some, None, All, Contains, Result, MatchResult}
+use Rattle.std.specs.Prelude.{fold, nat_eq}
 use Rattle.indexmap.specs.IndexSet.{insert_key}
 use Rattle.rt_lines.specs.declared.line.Line.{Line}
 use Rattle.rt_texts.specs.declared.fault.TextFault.{TextFault}

@@ -100,7 +100,8 @@ IsBaseOf rows (base.Global g) = NamesRoot rows (root.Global g)
 IsBaseOf rows (base.Exist n) = Unit {0}
 IsBaseOf rows (base.Outer n) = NamesRoot rows (root.Outer n)
 
--- a term that a group's lines may have: of a procedure, whose argument or result comes first, of a global, or of what an existential stands for
+-- a term that a group's lines may have: of a procedure, whose argument or result comes first, of a global, or of what an existential
+-- stands for
 abbrev pub is_group_side : Root → List Label → Bool
 is_group_side (root.Proc p) word = is_interface word
 is_group_side (root.Global g) word = true

@@ -12,8 +12,8 @@ abbrev pub value_of : List Bool → ℕ
 value_of [] = 0
 value_of (b ∷ digits) = digit_of b + 2 * value_of digits
 
--- the least count between children behind pointer letters whose parents are so far apart: twice it and the right parent's bit are no less than the parents' count
--- and the left one's bit, and it is even exactly if the children's signs are equal
+-- the least count between children behind pointer letters whose parents are so far apart: twice it and the right parent's bit are no less
+-- than the parents' count and the left one's bit, and it is even exactly if the children's signs are equal
 pub record IsLeastHalf (count : ℕ) (left right first second : Variance) (half : ℕ) : Type 0 where
   pub enough : count + bit left ≤ (half + half) + bit right
   pub parity : IsEven (half + differ first second)

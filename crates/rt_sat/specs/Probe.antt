@@ -1,5 +1,6 @@
 -- The least count from one variable to another, by a probe.
-use Rattle.std.specs.Prelude.{◌≡◌, ℕ, zero, suc, ℤ, ◌+◌, ◌≤◌, List, [], ◌∷◌, ◌++◌, map, length, Contains, Bool, true, replicate, Option, MatchOption, min}
+use Rattle.std.specs.Prelude.{◌≡◌, ℕ, zero, suc, ℤ, ◌+◌, ◌≤◌, List, [], ◌∷◌, ◌++◌, map, length, Contains, Bool, true, replicate, Option}
+use Rattle.std.specs.Prelude.{MatchOption, min}
 use Rattle.rt_lines.specs.declared.label.Label.{Label}
 use Rattle.rt_lines.specs.declared.label.Label.TheVariants.{Load, Store, Field}
 use Rattle.rt_lines.specs.declared.label.Variance.{Variance}

@@ -1,5 +1,6 @@
 -- What is pushed from ways between parents to edges between children, by numbers.
-use Rattle.std.specs.Prelude.{◌≡◌, ℕ, ◌+◌, ◌<◌, ◌≤◌, ◌⊎◌, ◌↔◌, List, [], Contains, Bool, true, false, Option, Some, None, length, drop, slice_index_or}
+use Rattle.std.specs.Prelude.{◌≡◌, ℕ, ◌+◌, ◌<◌, ◌≤◌, ◌⊎◌, ◌↔◌, List, [], Contains, Bool, true, false, Option, Some, None, length, drop}
+use Rattle.std.specs.Prelude.{slice_index_or}
 use Rattle.rt_lines.specs.declared.label.Label.{Label}
 use Rattle.rt_lines.specs.declared.label.Variance.{Variance}
 use Rattle.rt_lines.specs.declared.variable.Dtv.{Dtv}
@@ -35,7 +36,8 @@ pub record IsHalf (flip : Bool) (l m : Label) (d : ℕ) (a b : Variance) (k : �
   pub enough : d + bit (times (label_variance l) a) ≤ (k + k) + bit (times (label_variance m) b)
   pub parity : IsEven (k + differ a b)
 
--- the count between children with these letters and signs that a count between their parents gives: half of it, or the same under one letter
+-- the count between children with these letters and signs that a count between their parents gives: half of it, or the same under one
+-- letter
 abbrev pub PushBy : Bool → Label → Label → ℕ → Variance → Variance → ℕ → Type 0
 PushBy flip l m d a b k = IsHalf flip l m d a b k ⊎ ((l ≡ m) × (d ≡ k))
 

@@ -1,5 +1,6 @@
 -- What is kept of lines to tell the least counts between their variables.
-use Rattle.std.specs.Prelude.{◌≡◌, ℕ, ◌<◌, List, [], Contains, Bool, true, false, Option, Some, None, MatchOption, length, min, slice_get, slice_index_or}
+use Rattle.std.specs.Prelude.{◌≡◌, ℕ, ◌<◌, List, [], Contains, Bool, true, false, Option, Some, None, MatchOption, length, min}
+use Rattle.std.specs.Prelude.{slice_get, slice_index_or}
 use Rattle.rt_lines.specs.declared.label.Variance.{Variance}
 use Rattle.rt_lines.specs.declared.variable.Dtv.{Dtv}
 use Rattle.rt_lines.specs.declared.line.Line.{Line}

@@ -1,5 +1,6 @@
 -- What is wrong with a text that is that of no signatures: its first faulty line.
-use Rattle.std.specs.Prelude.{◌≡◌, ◌≢◌, ℕ, ◌+◌, ◌<◌, ◌≤◌, ◌⊎◌, Bool, true, false, IsTrue, Option, Some, None, IfSome, List, [], ◌∷◌, ◌++◌, All, Contains, codes, length}
+use Rattle.std.specs.Prelude.{◌≡◌, ◌≢◌, ℕ, ◌+◌, ◌<◌, ◌≤◌, ◌⊎◌, Bool, true, false, IsTrue, Option, Some, None, IfSome, List, [], ◌∷◌}
+use Rattle.std.specs.Prelude.{◌++◌, All, Contains, codes, length}
 use Rattle.rt_lines.specs.declared.line.Line.{Line}
 use Rattle.rt_lines.specs.declared.line.Line.TheVariants.{Var, Same, Sub, Low, Up}
 use Rattle.rt_lines.specs.Names.{IsName}
@@ -12,7 +13,8 @@ use Rattle.rt_sigs.specs.declared.fault.SigFault.TheVariants.{BadLine, UnknownCo
 use Rattle.rt_sigs.specs.declared.version.Version.{Version}
 use Rattle.rt_sigs.specs.declared.version.Version.TheVariants.{First, Second}
 use Rattle.rt_sigs.specs.Signatures.{Signature, is_signature_line, IsSignatureLine, is_within, most_args, AreSignatures, HasNamed}
-use Rattle.rt_sigs.specs.SignatureTexts.{heading_text, returns_text, count_text, remarks_text, file_text, AreSayable, IsSayable, IsOfVersion, remark_count, line_count, first_number}
+use Rattle.rt_sigs.specs.SignatureTexts.{heading_text, returns_text, count_text, remarks_text, file_text, AreSayable, IsSayable}
+use Rattle.rt_sigs.specs.SignatureTexts.{IsOfVersion, remark_count, line_count, first_number}
 
 -- the line has a constant
 abbrev pub has_constant : Line → Bool

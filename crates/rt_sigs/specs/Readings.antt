@@ -10,7 +10,8 @@ use Rattle.rt_sigs.specs.declared.version.Version.{Version}
 use Rattle.rt_sigs.specs.declared.remarks.Remarks.{Remarks}
 use Rattle.rt_sigs.specs.declared.body.Body.{Body}
 use Rattle.rt_sigs.specs.Signatures.{Signature, IsSignatureLine, is_within, most_args, HasNamed}
-use Rattle.rt_sigs.specs.SignatureTexts.{heading_text, version_text, args_text, remarks_text, IsSayable, IsOfVersion, args_count, remark_count, first_number}
+use Rattle.rt_sigs.specs.SignatureTexts.{heading_text, version_text, args_text, remarks_text, IsSayable, IsOfVersion, args_count}
+use Rattle.rt_sigs.specs.SignatureTexts.{remark_count, first_number}
 use Rattle.rt_sigs.specs.Faults.{IsFirstLine, IsUnknown, HasCount, HasRemark, IsBadInside, IsPastArgs}
 
 -- a text of a version begins with the version's line; the rest begins with the line of this number

@@ -1,5 +1,6 @@
 -- Signatures: names with what is said of their functions.
-use Rattle.std.specs.Prelude.{◌≡◌, ◌≢◌, ℕ, ◌≤◌, Bool, true, false, ◌&&◌, IsTrue, Option, Some, None, IfSome, nat_eq, nat_lt, if◌then◌else◌, List, [], ◌∷◌, All, AllPairs, Contains}
+use Rattle.std.specs.Prelude.{◌≡◌, ◌≢◌, ℕ, ◌≤◌, Bool, true, false, ◌&&◌, IsTrue, Option, Some, None, IfSome, nat_eq, nat_lt}
+use Rattle.std.specs.Prelude.{if◌then◌else◌, List, [], ◌∷◌, All, AllPairs, Contains}
 use lib.Pointwise.{pointwise}
 use Rattle.rt_lines.specs.declared.label.Loc.{Loc}
 use Rattle.rt_lines.specs.declared.label.Loc.TheVariants.{Arg, Stack}

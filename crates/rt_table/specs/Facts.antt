@@ -25,16 +25,16 @@ use Rattle.rt_table.specs.Table.{is_stack_word}
 use Rattle.rt_table.specs.declared.facts.Facts.{Facts}
 use Rattle.rt_table.specs.declared.facts.Framed.{Framed}
 
--- what is known of a procedure: its registers, the calls of its sites, its frame, and the offsets of the words of the stack that it takes as
--- arguments
+-- what is known of a procedure: its registers, the calls of its sites, its frame, and the offsets of the words of the stack that it takes
+-- as arguments
 pub record Knowledge : Type 0 where
   pub reading : Reading
   pub calls : List (List Call)
   pub frame : Frame
   pub words : List ℕ
 
--- a procedure takes the word of the stack at an offset: it loads a word there, on no object of its frame, of which a byte may be as the caller
--- left it
+-- a procedure takes the word of the stack at an offset: it loads a word there, on no object of its frame, of which a byte may be as the
+-- caller left it
 pub record TakesWord (reading : Reading) (frame : Frame) (k : ℕ) : Type 0 where
   pub is_word : is_stack_word (pos k) ≡ true
   pub site : ℕ

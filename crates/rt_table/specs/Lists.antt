@@ -39,8 +39,8 @@ abbrev pub scheme_target : Option ℕ → Option scheme.Scheme → Target
 scheme_target covered None = Unknown
 scheme_target covered (Some s) = Scheme s.base s.lines covered
 
--- How a callee is told: a procedure of the group by its own variables, another one by its scheme; a function outside by its signature, where
--- it has one; what a register holds, where nothing is added to it.
+-- How a callee is told: a procedure of the group by its own variables, another one by its scheme; a function outside by its signature,
+-- where it has one; what a register holds, where nothing is added to it.
 abbrev pub target_by : Program → List Knowledge → List (Option scheme.Scheme) → List ℕ → Callee → Bool → Target
 target_by program known schemes group (callee.Proc q) is_plain =
     if is_member group q then Member q (words_at known q) else scheme_target None (slice_index_or schemes q None)
@@ -74,8 +74,8 @@ pub record AreRowsOf (program : Program) (known : List Knowledge) (roles : Roles
   pub is_context : IsContext program known roles schemes group number context
   pub are_rows : AreProcedureRows context rows
 
--- The lists of the members of a group, which number their existentials together, where these signatures are given for functions outside, and
--- these schemes for procedures outside the group.
+-- The lists of the members of a group, which number their existentials together, where these signatures are given for functions outside,
+-- and these schemes for procedures outside the group.
 pub record AreLinesOf (object : Object) (roles : Roles) (procs : List procedure.Proc) (signatures : List Signature)
     (schemes : List (Option scheme.Scheme)) (group : List ℕ) (bodies : List (List Line)) : Type 0 where
   pub readings : List Reading

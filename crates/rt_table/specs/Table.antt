@@ -183,8 +183,8 @@ value_side context written own (value.Frame k) = Some (Variable (object context 
 value_side context written own value.Multi = Some (Variable (named own))
 value_side context written own (value.Const n) = None
 
--- the side of what a site wrote into a register. Where results of calls through registers are called in turn, it is followed through so many
--- of them: as each call comes before the next one on every way to it, there are no more than sites
+-- the side of what a site wrote into a register. Where results of calls through registers are called in turn, it is followed through so
+-- many of them: as each call comes before the next one on every way to it, there are no more than sites
 abbrev pub at_side : ℕ → Context → ℕ → ℕ → Option Side
 at_side zero context site register = None
 at_side (suc steps) context site register =

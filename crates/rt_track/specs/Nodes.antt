@@ -1,5 +1,6 @@
 -- Graphs of nodes that take each other's values, and what their values are.
-use Rattle.std.specs.Prelude.{◌≡◌, ◌⊎◌, ◌<◌, ℕ, ℤ, List, [], Option, Some, None, ◌++◌, Contains, length, slice_get, slice_index_or, slice_set, unwrap_or}
+use Rattle.std.specs.Prelude.{◌≡◌, ◌⊎◌, ◌<◌, ℕ, ℤ, List, [], Option, Some, None, ◌++◌, Contains, length, slice_get, slice_index_or}
+use Rattle.std.specs.Prelude.{slice_set, unwrap_or}
 use Rattle.rt_track.specs.declared.value.Value.{Value}
 use Rattle.rt_track.specs.declared.value.Value.TheVariants.{Multi}
 use Rattle.rt_track.specs.declared.nodes.Input.{Input}

@@ -117,8 +117,8 @@ pub record AreUnfolded (groups : List (List ℕ)) (templates : ℕ → Template)
   pub each : (group : List ℕ) (p : ℕ) → Contains groups group → Contains group p
       → unfolded p ≡ lines_with (λ q. split_for q (unfolded q)) templates group
 
--- what a caller can conclude from a procedure's scheme is what it could conclude from all lists below it, under the order of constants under
--- which the schemes are alike
+-- what a caller can conclude from a procedure's scheme is what it could conclude from all lists below it, under the order of constants
+-- under which the schemes are alike
 abbrev pub UnfoldingLaw : Type 0
 UnfoldingLaw =
     (order : Below) (groups : List (List ℕ)) (templates : ℕ → Template) (schemes unfolded : ℕ → List Line) →

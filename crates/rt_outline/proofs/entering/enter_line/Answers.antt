@@ -1,14 +1,15 @@
 use Rattle.std.proofs.Common.{◌<◌, ◌≤◌, arith, inl, inr, refl, length, None, Some, sym, ap, ◌∙◌}
 use Rattle.std.proofs.lemmas.Option.{slice_get_within, slice_get_read}
 use Rattle.rt_lines.specs.declared.line.Line.TheVariants.{Sub}
-use Rattle.rt_outline.proofs.Entered.{lines_more, lines_other, listed}
+use Rattle.rt_base.proofs.Lists.{Contains-read}
+use Rattle.rt_outline.proofs.Entered.{lines_more, lines_other}
 use Rattle.rt_outline.proofs.entering.enter_line.Goals as goal
 
 pub number-from-requires : goal.number-from-requires
-number-from-requires c = c.requires.sides (Sub c.in-Sub.x c.in-Sub.y) c.in-Sub.x (listed c.args.lines.now c.args.i c.index-lines-i.result (Sub c.in-Sub.x c.in-Sub.y) c.requires.index (sym c.index-lines-i.is ∙ c.in-Sub.is)) (inl refl)
+number-from-requires c = c.requires.sides (Sub c.in-Sub.x c.in-Sub.y) c.in-Sub.x (Contains-read c.args.lines.now c.args.i c.index-lines-i.result (Sub c.in-Sub.x c.in-Sub.y) c.requires.index (sym c.index-lines-i.is ∙ c.in-Sub.is)) (inl refl)
 
 pub number-requires : goal.number-requires
-number-requires c = c.requires.sides (Sub c.in-Sub.x c.in-Sub.y) c.in-Sub.y (listed c.args.lines.now c.args.i c.index-lines-i.result (Sub c.in-Sub.x c.in-Sub.y) c.requires.index (sym c.index-lines-i.is ∙ c.in-Sub.is)) (inr refl)
+number-requires c = c.requires.sides (Sub c.in-Sub.x c.in-Sub.y) c.in-Sub.y (Contains-read c.args.lines.now c.args.i c.index-lines-i.result (Sub c.in-Sub.x c.in-Sub.y) c.requires.index (sym c.index-lines-i.is ∙ c.in-Sub.is)) (inr refl)
 
 pub join-requires-clause-from : goal.join-requires-clause-from
 join-requires-clause-from c = let h : c.number-from.result < length c.args.named.now = slice_get_within c.args.named.now c.number-from.result c.in-Sub.x c.number-from.ensures in let n : length c.args.named.now ≤ length c.args.frame.now.origins.items = c.requires.nodes in omega (arith, h, n)

@@ -1,19 +1,20 @@
 use Rattle.std.proofs.Common.{ℕ, ◌+◌, ◌<◌, List, [], ◌∷◌, ◌++◌, get_or, refl, set, take, sym, subst}
 use Rattle.rt_outline.specs.Together.{IsGraphOf}
-use Rattle.rt_outline.proofs.Joining.{graph_more, listed, pair_next}
+use Rattle.rt_base.proofs.Lists.{Contains-read}
+use Rattle.rt_outline.proofs.Joining.{graph_more, pair_next}
 use Rattle.rt_outline.proofs.grouping.graph_of.Goals as goal
 
 pub add_edge-requires-clause-from : goal.add_edge-requires-clause-from
 add_edge-requires-clause-from c =
     let p = get_or c.args.pairs.now c.loop-pair.pair-index (0, 0) in
     subst (λ n. p.0 < n) (sym c.loop-pair.invariant.each)
-    (c.requires.within p.0 p.1 (listed c.args.pairs.now c.loop-pair.pair-index (0, 0) p c.loop-pair-test.true refl)).0
+    (c.requires.within p.0 p.1 (Contains-read c.args.pairs.now c.loop-pair.pair-index (0, 0) p c.loop-pair-test.true refl)).0
 
 pub add_edge-requires-clause-to : goal.add_edge-requires-clause-to
 add_edge-requires-clause-to c =
     let p = get_or c.args.pairs.now c.loop-pair.pair-index (0, 0) in
     subst (λ n. p.1 < n) (sym c.loop-pair.invariant.each)
-    (c.requires.within p.0 p.1 (listed c.args.pairs.now c.loop-pair.pair-index (0, 0) p c.loop-pair-test.true refl)).1
+    (c.requires.within p.0 p.1 (Contains-read c.args.pairs.now c.loop-pair.pair-index (0, 0) p c.loop-pair-test.true refl)).1
 
 pub loop-pair-preserved : goal.loop-pair-preserved
 loop-pair-preserved c =
@@ -25,4 +26,4 @@ loop-pair-preserved c =
     (set c.loop-pair.graph p.0 (get_or c.loop-pair.graph p.0 [] ++ p.1 ∷ []))) (sym (pair_next pairs i c.loop-pair-test.true))
     (graph_more (take i pairs) p.0 p.1 c.args.count c.loop-pair.graph
     (subst (λ n. p.0 < n) (sym c.loop-pair.invariant.each)
-    (c.requires.within p.0 p.1 (listed pairs i (0, 0) p c.loop-pair-test.true refl)).0) c.loop-pair.invariant))
+    (c.requires.within p.0 p.1 (Contains-read pairs i (0, 0) p c.loop-pair-test.true refl)).0) c.loop-pair.invariant))
