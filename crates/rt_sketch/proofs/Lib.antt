@@ -12,3 +12,4 @@ pub mod Edging
 pub mod Alike
 pub mod Growing
 pub mod Taking
+pub mod Ends

@@ -6,3 +6,4 @@ pub mod Letters
 pub mod Growths
 pub mod Unfoldings
 pub mod Texts
+pub mod Laws

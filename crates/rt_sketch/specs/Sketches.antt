@@ -1,6 +1,7 @@
 -- The sketch of a scheme.
 use Rattle.std.specs.Prelude.{◌≡◌, ◌↔◌, ℕ, ◌<◌, ◌⊎◌, Some, IsSome, List, []}
 use Rattle.rt_lines.specs.declared.label.Label.{Label}
+use Rattle.rt_lines.specs.declared.label.Label.TheVariants.{Load, Store}
 use Rattle.rt_lines.specs.declared.variable.Base.TheVariants.{Proc}
 use Rattle.rt_lines.specs.declared.variable.Dtv.{Dtv}
 use Rattle.rt_lines.specs.declared.line.Line.{Line}
@@ -8,7 +9,7 @@ use Rattle.rt_lines.specs.declared.line.Line.TheVariants.{Var, Low, Up}
 use Rattle.rt_lines.specs.Orders.{Below, IsAtOrBelow}
 use Rattle.rt_rules.specs.Rules.{Derivable}
 use Rattle.rt_loose.specs.Loose.{IsLoose}
-use Rattle.rt_tree.specs.Trees.{Nodes, walk, marks_from, IsMinimal, IsBreadthFirst}
+use Rattle.rt_tree.specs.Trees.{Nodes, step_of, walk, marks_from, IsMinimal, IsBreadthFirst}
 
 -- the least number of those below the count that is at or above all that a property has; the least of all, where it has none
 pub record IsJoinOf (order : Below) (Has : ℕ → Type 0) (join : ℕ) : Type 0 where
@@ -45,3 +46,7 @@ pub record IsSketchOf (order : Below) (own : ℕ) (lines : List Line) (tree : No
 -- the marks of all nodes are below the count
 abbrev pub HasMarksBelow : ℕ → Nodes → Type 0
 HasMarksBelow count tree = (w : List Label) (m : ℕ × ℕ) → marks_from tree 0 w ≡ Some m → (m.0 < count) × (m.1 < count)
+
+-- where a node has both a load and a store, the two lead to one node
+abbrev pub HasOneEnd : Nodes → Type 0
+HasOneEnd tree = (n load store : ℕ) → step_of tree n Load ≡ Some load → step_of tree n Store ≡ Some store → load ≡ store

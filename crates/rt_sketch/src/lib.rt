@@ -4,6 +4,7 @@
 
 mod bounds;
 mod growth;
+pub mod laws;
 mod letters;
 mod machine;
 mod making;

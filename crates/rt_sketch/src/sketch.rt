@@ -1,8 +1,9 @@
 // Sketches.
-ghost use Rattle.std.specs.Prelude.{◌≡◌, All, IfOk};
+ghost use Rattle.std.specs.Prelude.{◌≡◌, ℕ, ◌<◌, All, IfOk, Some, length};
 ghost use Rattle.rt_lines.specs.Lines.{HasConstantsBelow};
 ghost use Rattle.rt_lattice.specs.Lattices.{size_of};
-ghost use Rattle.rt_sketch.specs.Sketches.{IsSketchOf};
+ghost use Rattle.rt_tree.specs.Trees.{marks_of, node_at, step_of};
+ghost use Rattle.rt_sketch.specs.Sketches.{HasOneEnd, IsSketchOf};
 ghost use Rattle.rt_sketch.specs.Unfoldings.{IsUnfolded};
 
 use crate::growth::grown;
@@ -10,13 +11,14 @@ use crate::letters::letters_of;
 use crate::machine::Machine;
 use rt_base::Memory;
 use rt_lattice::Lattice;
-use rt_lines::{Base, Line};
+use rt_lines::{Base, Label, Line};
 use rt_scheme::Scheme;
 use rt_tree::{Tree, minimal};
 use std::alloc::Global;
 use std::marker::Model;
 
-/// The sketch of a type scheme, which contracts see as the list of the nodes of its tree.
+/// The sketch of a type scheme, which contracts see as the list of the nodes of its tree. Where a node has both a load and a
+/// store, the two lead to one node.
 #[derive(Drop)]
 pub struct Sketch {
     tree: Tree,
@@ -24,18 +26,40 @@ pub struct Sketch {
 
 impl Model for Sketch {
     ghost use Rattle.rt_tree.specs.Trees.{Nodes};
+    ghost use Rattle.rt_sketch.specs.Sketches.{HasOneEnd};
 
     ghost Value = { Nodes };
 
     ghost view = { λ s. s.tree };
+
+    ghost invariant = { λ s. HasOneEnd s.tree };
 }
 
 impl Sketch {
     /// Its tree. It takes no memory.
     pub fn tree(&self) -> &Tree
-        ensures { result.now ≡ self.now }
+        ensures tree { result.now ≡ self.now }
+        ensures one_end { HasOneEnd self.now }
     {
         &self.tree
+    }
+
+    /// The node that a node's edge of a label leads to, if it has one. It takes no memory, and time logarithmic in how many edges
+    /// the node has.
+    pub fn step(&self, node: u32, label: &Label) -> Option<u32>
+        requires { node < length self.now }
+        ensures step { result ≡ step_of self.now node label.now }
+        ensures within { (end : ℕ) → result ≡ Some end → end < length self.now }
+    {
+        self.tree.step(node, label)
+    }
+
+    /// A node's marks, the lower one first. It takes no memory.
+    pub fn mark(&self, node: u32) -> (u16, u16)
+        requires { node < length self.now }
+        ensures { result ≡ marks_of (node_at self.now node) }
+    {
+        self.tree.mark(node)
     }
 }
 
@@ -46,7 +70,7 @@ pub fn of(alloc: Global, scheme: &Scheme, lattice: &Lattice) -> Result<Sketch, M
 {
     let tree = unfolded(alloc, scheme.base, scheme.lines.items(), lattice)?;
     let least = minimal(alloc, &tree)?;
-    let _sizes = (tree.size(), least.size());
+    let _sizes = (tree.size(), least.size(), lattice.order().count());
     Ok(Sketch { tree: least })
 }
 

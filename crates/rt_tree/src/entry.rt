@@ -1,10 +1,10 @@
 // Nodes with their edges.
-ghost use Rattle.std.specs.Prelude.{◌≡◌, OnOk, OnErr, length};
+ghost use Rattle.std.specs.Prelude.{◌≡◌, ℕ, OnOk, OnErr, length};
 ghost use Rattle.std.specs.List.{AllByRecursion};
 ghost use Rattle.rt_lines.specs.Words.{IsLabel};
-ghost use Rattle.rt_tree.specs.Trees.{leaf, longer_node, marks_of, place_in};
+ghost use Rattle.rt_tree.specs.Trees.{AreEdges, AreOrdered, edge_of, leaf, longer_node, marks_of, place_in};
 
-use crate::order::compare;
+use crate::order::{compare, is_label};
 use rt_base::Memory;
 use rt_lines::Label;
 use std::alloc::Global;
@@ -65,10 +65,27 @@ impl Entry {
         self.edges.as_slice()
     }
 
+    /// Where its edge of a label leads, if it has one, found in time logarithmic in how many it has.
+    pub(crate) fn end(&self, label: Label) -> Option<u32>
+        requires { (count : ℕ) × AreEdges count self.now.edges }
+        ensures { result ≡ edge_of label self.now }
+    {
+        if !is_label(label) {
+            return None;
+        }
+        let place = place_of(&self.edges, label);
+        if place == 0 {
+            return None;
+        }
+        let (last, end) = self.edges[place - 1];
+        if last == label { Some(end) } else { None }
+    }
+
     /// Adds an edge. After want of memory the node is as it was.
     pub(crate) fn add(&mut self, label: Label, to: u32) -> Result<(), Memory>
         requires label { IsLabel label }
         requires edges { AllByRecursion (λ edge. IsLabel edge.0) self.old.edges }
+        requires ordered { AreOrdered self.old.edges }
         ensures ok { OnOk result (self.new ≡ longer_node self.old label to) }
         ensures err { OnErr result (self.new ≡ self.old) }
     {
@@ -82,14 +99,18 @@ impl Entry {
 fn place_of(edges: &[(Label, u32)], label: Label) -> usize
     requires label { IsLabel label }
     requires edges { AllByRecursion (λ edge. IsLabel edge.0) edges.now }
+    requires ordered { AreOrdered edges.now }
     ensures { result ≡ place_in label edges.now }
 {
-    let mut place = 0;
-    for (other, _) in edges {
-        if compare(label, *other) == Ordering::Less {
-            return place;
+    let mut low = 0;
+    let mut high = edges.len();
+    while low < high {
+        let middle = low + (high - low) / 2;
+        if compare(label, edges[middle].0) == Ordering::Less {
+            high = middle;
+        } else {
+            low = middle + 1;
         }
-        place += 1;
     }
-    place
+    low
 }

@@ -1,5 +1,5 @@
 // The order of labels' texts.
-ghost use Rattle.std.specs.Prelude.{◌≡◌};
+ghost use Rattle.std.specs.Prelude.{◌≡◌, ◌↔◌, IsTrue};
 ghost use Rattle.std.specs.Fmt.{signed_decimal};
 ghost use Rattle.std.specs.Ordering.{nat_cmp};
 ghost use Rattle.std.specs.Cmp.Lexicographic.{slice_cmp};
@@ -24,6 +24,19 @@ pub(crate) fn rank(label: Label) -> u8
         Label::Field(32, _) => 5,
         Label::Field(_, _) => 6,
         Label::Store => 7,
+    }
+}
+
+/// Whether the label is a letter that words are made of.
+pub(crate) fn is_label(label: Label) -> bool
+    ensures { IsTrue result ↔ IsLabel label }
+{
+    match label {
+        Label::In(Loc::Arg(n)) => n <= 7,
+        Label::In(Loc::Stack(k)) => k % 4 == 0 && k <= 65532,
+        Label::Out(n) => n <= 1,
+        Label::Load | Label::Store => true,
+        Label::Field(width, _) => width == 8 || width == 16 || width == 32,
     }
 }
 

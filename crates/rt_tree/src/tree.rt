@@ -1,5 +1,5 @@
 // Trees.
-ghost use Rattle.std.specs.Prelude.{◌≡◌, ◌∷◌, ◌<◌, [], IfOk, OnOk, OnErr, None, length};
+ghost use Rattle.std.specs.Prelude.{◌≡◌, ℕ, ◌∷◌, ◌<◌, [], IfOk, OnOk, OnErr, None, Some, length};
 ghost use Rattle.rt_lines.specs.Words.{IsLabel};
 ghost use Rattle.rt_tree.specs.Trees.{leaf, step_of, node_at, marks_of, joined, grown, IsTree, IsReachedTree};
 
@@ -97,6 +97,16 @@ impl Tree {
         ensures { result.now ≡ (node_at self.now node).edges }
     {
         self.nodes[node as usize].edges()
+    }
+
+    /// The node that a node's edge of a label leads to, if it has one. It takes no memory, and time logarithmic in how many edges
+    /// the node has.
+    pub fn step(&self, node: u32, label: &Label) -> Option<u32>
+        requires { node < length self.now }
+        ensures step { result ≡ step_of self.now node label.now }
+        ensures within { (end : ℕ) → result ≡ Some end → end < length self.now }
+    {
+        self.nodes[node as usize].end(*label)
     }
 
     // The nodes.

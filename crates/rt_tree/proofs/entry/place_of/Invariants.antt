@@ -1,13 +1,14 @@
-use Rattle.std.proofs.Common.{◌≡◌, ◌+◌, drop}
-use Rattle.std.specs.List.{AllByRecursion}
-use Rattle.rt_lines.specs.Words.{IsLabel}
+use Rattle.std.proofs.Common.{◌≤◌, ◌-◌, length}
 use Rattle.rt_tree.specs.Trees.{place_in}
 use Rattle.rt_tree.proofs.entry.place_of.Given as goal
 
--- the edges so far are less or equal
-abbrev pub invariant-loop-other : goal.invariant-loop-other
-invariant-loop-other l = record {
-  place : l.place ≡ l.other-index;
-  rest : place_in l.label l.edges ≡ l.place + place_in l.label (drop l.other-index l.edges);
-  labels : AllByRecursion (λ edge. IsLabel edge.0) (drop l.other-index l.edges);
+-- the place is between the two
+abbrev pub invariant-loop-low : goal.invariant-loop-low
+invariant-loop-low l = record {
+  low : l.low ≤ place_in l.label l.edges;
+  high : place_in l.label l.edges ≤ l.high;
+  within : l.high ≤ length l.edges;
 }
+
+abbrev pub decreases-loop-low : goal.decreases-loop-low
+decreases-loop-low l = l.high - l.low
