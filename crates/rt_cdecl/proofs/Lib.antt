@@ -2,3 +2,4 @@ pub mod Printed
 pub mod Clear
 pub mod OneRow
 pub mod OneDecls
+mod Noting

@@ -233,7 +233,7 @@ clear_carrier bits (inr (inr e)) = rw e (HasNo-above 32 47 (codes "int") (omega 
 abbrev typedef_tail : List ℕ → ℕ → List ℕ
 typedef_tail name bits = scalar_text name bits ++ codes ";"
 
-one_typedef : (t u : CType) → IsTypedef t → IsTypedef u → typedef_text t ≡ typedef_text u → t ≡ u
+pub one_typedef : (t u : CType) → IsTypedef t → IsTypedef u → typedef_text t ≡ typedef_text u → t ≡ u
 one_typedef Unused Unused g h same = refl
 one_typedef (Pointer n) u g h same = absurd g
 one_typedef Unused (Pointer n) g h same = absurd h

@@ -5,3 +5,4 @@ pub mod GoodDecls
 pub mod GoodRows
 pub mod HeaderWords
 pub mod Laws
+pub mod Lines

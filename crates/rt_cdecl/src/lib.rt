@@ -3,9 +3,11 @@
 
 mod declarations;
 pub mod laws;
+mod lines;
 mod printing;
 
 pub use declarations::{
     CArgs, CField, CFields, CFunction, CFunctions, CStruct, CStructs, CType, CTypes, Decls,
 };
+pub use lines::typedefs;
 pub use printing::print;

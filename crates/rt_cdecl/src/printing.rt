@@ -4,7 +4,7 @@ ghost use Rattle.std.specs.List.{flat_map};
 ghost use Rattle.rt_cdecl.specs.Types.{IsField, IsTypedef, bits_of};
 ghost use Rattle.rt_cdecl.specs.Rows.{Typedef, Named, Opened, Gap, Member, Closed, Pair, Half, Stated};
 ghost use Rattle.rt_cdecl.specs.Rows.{arg_text, args_text, carrier_text, more_args_text, returns_text};
-ghost use Rattle.rt_cdecl.specs.Rows.{row_text, rows_text, scalar_text, type_text};
+ghost use Rattle.rt_cdecl.specs.Rows.{row_text, rows_text, scalar_text, type_text, typedef_text};
 ghost use Rattle.rt_cdecl.specs.Texts.{decls_text, fields_rows, function_rows, gap_rows, pair_rows, returns_of, stated_row, struct_rows};
 ghost use Rattle.rt_cdecl.specs.GoodDecls.{FitFrom, IsGoodDecls, IsStruct};
 
@@ -88,15 +88,22 @@ fn push_scalar_line(name: &[u8], bits: u8, out: &mut Vec<u8>) -> Result<(), Memo
     Ok(())
 }
 
+// Adds the line of a type, without the line's end.
+pub(crate) fn push_typedef_text(kind: &CType, out: &mut Vec<u8>) -> Result<(), Memory>
+    ensures { OnOk result (out.new.items ≡ out.old.items ++ typedef_text kind.now) }
+{
+    match kind {
+        CType::Unused => out.extend_from_slice(b"typedef unsigned int rt_unused;"),
+        CType::Scalar(name, bits) => push_scalar_line(name.items(), *bits, out),
+        CType::Pointer(_) => Ok(()),
+    }
+}
+
 // Adds the line of a type.
 fn push_typedef(kind: &CType, out: &mut Vec<u8>) -> Result<(), Memory>
     ensures { OnOk result (out.new.items ≡ out.old.items ++ (row_text (Typedef kind.now) ++ 10 ∷ [])) }
 {
-    match kind {
-        CType::Unused => out.extend_from_slice(b"typedef unsigned int rt_unused;")?,
-        CType::Scalar(name, bits) => push_scalar_line(name.items(), *bits, out)?,
-        CType::Pointer(_) => (),
-    }
+    push_typedef_text(kind, out)?;
     out.push(b'\n')?;
     Ok(())
 }

@@ -1,0 +1,12 @@
+pub mod Growing
+pub mod Planting
+pub mod Numbering
+pub mod Fields
+pub mod Searching
+pub mod Telling
+pub mod Apart
+pub mod Reached
+pub mod Heading
+pub mod Joined
+pub mod Porting
+pub mod Typing
