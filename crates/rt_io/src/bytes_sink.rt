@@ -1,6 +1,6 @@
 // A sink in memory.
-ghost use Rattle.std.specs.Prelude.{◌≡◌, ◌≤◌, [], ◌++◌, IfOk, Some, length};
-ghost use Rattle.rt_base.specs.Outside.{Rose};
+ghost use Rattle.std.specs.Prelude.{◌≡◌, ◌↔◌, ◌≤◌, [], IfOk, IsTrue, Some, Contains, length, take};
+ghost use Rattle.rt_io.specs.Memory.{Refuses, Takes, after_put, counted};
 
 use crate::listed::is_listed;
 use crate::sink::{Sink, SinkFault};
@@ -8,7 +8,7 @@ use std::alloc::{AllocError, Global};
 use std::marker::Model;
 
 /// A sink in memory with a fixed room. Puts are numbered from 0. A put whose piece doesn't fit into the room fails and
-/// appends nothing; another one whose number is listed fails and appends a front of its piece.
+/// appends nothing; another one whose number is listed fails and appends a prefix of its piece.
 #[derive(Drop)]
 pub struct BytesSink {
     room: Vec<u8>,
@@ -25,7 +25,14 @@ impl Model for BytesSink {
 
     ghost Value = { Kept };
 
-    ghost view = { λ s. record { written = take s.used s.room.items; left = vec_len s.room - s.used; faults = s.faults; puts = s.puts } };
+    ghost view = { λ s. record {
+      written = take s.used s.room.items;
+      left = vec_len s.room - s.used;
+      fails = s.fails.items;
+      keeps = s.keeps;
+      faults = s.faults;
+      puts = s.puts;
+    } };
 
     ghost invariant = { λ s. s.used ≤ vec_len s.room };
 }
@@ -39,7 +46,7 @@ impl BytesSink {
         fails: Vec<u32>,
         keeps: u32,
     ) -> Result<BytesSink, AllocError>
-        ensures { IfOk result (λ sink. sink ≡ record { written = []; left = capacity; faults = 0; puts = 0 }) }
+        ensures { IfOk result (λ sink. sink ≡ record { written = []; left = capacity; fails = fails.items; keeps = keeps; faults = 0; puts = 0 }) }
     {
         let room = vec![in alloc; 0u8; capacity as usize]?;
         Ok(BytesSink {
@@ -59,22 +66,38 @@ impl BytesSink {
         self.room.len() - self.used
     }
 
-    // Appends a piece that fits.
-    fn append(&mut self, piece: &[u8])
-        requires { length piece.now ≤ self.old.left }
-        ensures written { self.new.written ≡ self.old.written ++ piece.now }
-        ensures faults { self.new.faults ≡ self.old.faults }
+    // Whether the number of the next put is listed.
+    fn is_next_listed(&self) -> bool
+        ensures { IsTrue result ↔ Contains self.now.fails self.now.puts }
     {
-        let end = self.used + piece.len();
-        self.room[self.used..end].copy_from_slice(piece);
-        self.used = end;
+        is_listed(&self.fails, self.puts)
     }
 
-    fn count_fault(&mut self)
-        ensures written { self.new.written ≡ self.old.written }
-        ensures counted { self.old.faults ≤ self.new.faults }
-        ensures rose { Rose self.old.faults self.new.faults }
+    // What a put that fails keeps of a piece that fits.
+    fn kept<'b>(&self, piece: &'b [u8]) -> &'b [u8]
+        ensures { result.now ≡ take self.now.keeps piece.now }
     {
+        &piece[..piece.len().min(self.keeps as usize)]
+    }
+
+    // Counts a put, and appends what is kept of its piece.
+    fn append(&mut self, kept: &[u8])
+        requires { length kept.now ≤ self.old.left }
+        ensures { self.new ≡ after_put self.old kept.now self.old.faults }
+    {
+        let end = self.used + kept.len();
+        self.room[self.used..end].copy_from_slice(kept);
+        self.used = end;
+        self.puts = self.puts.saturating_add(1);
+    }
+
+    // Counts a put that failed, and appends what is kept of its piece.
+    fn fail(&mut self, kept: &[u8])
+        requires { length kept.now ≤ self.old.left }
+        ensures next { self.new ≡ after_put self.old kept.now (counted self.old.faults) }
+        ensures rises { self.old.faults ≤ self.new.faults }
+    {
+        self.append(kept);
         self.faults = self.faults.saturating_add(1);
     }
 
@@ -91,17 +114,18 @@ impl Sink for BytesSink {
 
     ghost faults = { λ s. s.faults };
 
+    ghost takes = { Takes };
+
+    ghost refuses = { Refuses };
+
     fn put(&mut self, piece: &[u8]) -> Result<(), SinkFault> {
-        let number = self.puts;
-        self.puts = number.saturating_add(1);
         if piece.len() > self.left() {
-            self.count_fault();
+            self.fail(b"");
             return Err(SinkFault::Failed);
         }
-        if is_listed(&self.fails, number) {
-            let kept = piece.len().min(self.keeps as usize);
-            self.append(&piece[..kept]);
-            self.count_fault();
+        if self.is_next_listed() {
+            let kept = self.kept(piece);
+            self.fail(kept);
             return Err(SinkFault::Failed);
         }
         self.append(piece);

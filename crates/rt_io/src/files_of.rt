@@ -1,7 +1,7 @@
 // Files in memory.
-ghost use Rattle.std.specs.Prelude.{◌≡◌, ◌≤◌, List, ℕ, IsTrue, IfSome, IsNone, Some, None};
+ghost use Rattle.std.specs.Prelude.{◌≡◌, ◌↔◌, ◌<◌, ◌≤◌, List, ℕ, Contains, IsErrOf, IsTrue, IfOk, IfSome, IsNone, Some, None, length};
 ghost use Rattle.rt_base.specs.Outside.{Rose};
-ghost use Rattle.rt_io.specs.Memory.{content_of, faults_of};
+ghost use Rattle.rt_io.specs.Memory.{FailsToRead, after_read, content_of, faults_of};
 
 use crate::files::{FileFault, Files};
 use crate::listed::is_listed;
@@ -38,19 +38,16 @@ impl FilesOf {
         }
     }
 
-    // Counts a read, and tells whether it is one that fails.
+    // Counts a read, and says whether it is one that fails.
     fn count_read(&mut self) -> bool
-        ensures same { self.new.contents ≡ self.old.contents }
+        ensures next { self.new ≡ after_read self.old }
+        ensures fails { IsTrue result ↔ Contains self.old.fails self.old.reads }
         ensures counted { (n : List ℕ) → faults_of self.old n ≤ faults_of self.new n }
         ensures listed { IsTrue result → (n : List ℕ) → Rose (faults_of self.old n) (faults_of self.new n) }
         ensures absent { (n : List ℕ) → content_of self.old.contents n ≡ None → Rose (faults_of self.old n) (faults_of self.new n) }
     {
         let number = self.reads;
-        // The count stands still at its end, which is no listed number.
-        if number == u64::MAX {
-            return false;
-        }
-        self.reads = number + 1;
+        self.reads = number.saturating_add(1);
         is_listed(&self.fails, number)
     }
 }
@@ -73,7 +70,17 @@ impl Files for FilesOf {
 
     ghost faults = { faults_of };
 
-    fn read(&mut self, alloc: Global, name: &str, limit: u64) -> Result<Vec<u8>, FileFault> {
+    // What a read of any files ensures, and which reads of these fail.
+    fn read(&mut self, alloc: Global, name: &str, limit: u64) -> Result<Vec<u8>, FileFault>
+        ensures same { (n : List ℕ) → content_of self.new.contents n ≡ content_of self.old.contents n }
+        ensures counted { (n : List ℕ) → faults_of self.old n ≤ faults_of self.new n }
+        ensures failed { IsErrOf result FileFault.Failed → Rose (faults_of self.old name.now) (faults_of self.new name.now) }
+        ensures longer { IsErrOf result FileFault.Longer → IfSome (content_of self.old.contents name.now) (λ bytes. limit < length bytes) }
+        ensures ok { IfOk result (λ found. IfSome (content_of self.old.contents name.now) (λ bytes. found.items ≡ bytes)) }
+        ensures within { IfOk result (λ found. length found.items ≤ limit) }
+        ensures next { self.new ≡ after_read self.old }
+        ensures fails { IsErrOf result FileFault.Failed ↔ FailsToRead self.old name.now }
+    {
         if self.count_read() {
             return Err(FileFault::Failed);
         }

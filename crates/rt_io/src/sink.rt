@@ -18,10 +18,18 @@ pub trait Sink {
     /// How often puts have failed.
     ghost faults: { Self → ℕ };
 
-    /// Appends the piece. Where it fails, a front of the piece was appended. It takes no memory.
+    /// What a put that writes its piece whole can make of the sink.
+    ghost takes: { Self → List ℕ → Self → Type 0 } = { λ _ _ _. Unit {0} };
+
+    /// What a put that fails can make of it.
+    ghost refuses: { Self → List ℕ → Self → Type 0 } = { λ _ _ _. Unit {0} };
+
+    /// Appends the piece. Where it fails, a prefix of the piece was appended. It takes no memory.
     fn put(&mut self, piece: &[u8]) -> Result<(), SinkFault>
         ensures counted { faults self.old ≤ faults self.new }
         ensures ok { OnOk result (Appends (written self.old) (written self.new) piece.now) }
         ensures failed { OnErr result (Rose (faults self.old) (faults self.new)) }
-        ensures front { OnErr result (AppendsFront (written self.old) (written self.new) piece.now) };
+        ensures front { OnErr result (AppendsFront (written self.old) (written self.new) piece.now) }
+        ensures taken { OnOk result (takes self.old piece.now self.new) }
+        ensures refused { OnErr result (refuses self.old piece.now self.new) };
 }

@@ -1,3 +1,5 @@
+mod Declaring
+mod Goodness
 mod Lined
 mod Naming
 mod Placing
@@ -5,5 +7,4 @@ mod Reporting
 mod Sketching
 mod Stopping
 mod Wording
-pub mod Appending
 pub mod Refusing

@@ -1,12 +1,13 @@
 -- Which globals lines name, and sets of their numbers.
-use Rattle.std.proofs.Common.{◌≡◌, ◌∙◌, ◌⊎◌, Ordering, Ok, Err, Result, ℕ, ◌<◌, List, [], ◌∷◌, ◌++◌, All, Contains, ap, arith, flat_map, fold, get_or, inl, inr, length, map, refl, subst, sym}
+use Rattle.std.proofs.Common.{◌≡◌, ◌∙◌, ◌⊎◌, Ordering, Ok, Err, Result, ℕ, zero, suc, ◌+◌, ◌<◌, List, [], ◌∷◌, ◌++◌, All, Contains, ap, arith, flat_map, fold, get_or, inl, inr, length, map, refl, subst, sym, take}
 use Rattle.std.specs.Prelude.{IfOk, OnOk}
 use Rattle.std.specs.BTreeSet.{insert_key}
 use Rattle.std.specs.List.Sorted.{IsStrictlyIncreasing}
 use Rattle.std.specs.Ordering.{nat_cmp, match_ordering}
 use Rattle.std.specs.declared.cmp.Ordering.TheVariants.{Less, Equal, Greater}
 use Rattle.std.proofs.lemmas.Map.Lookups.{exact_unsigned}
-use Rattle.std.proofs.lemmas.List.Elements.{All-contains, Contains-append_cases, Contains-append_left, Contains-append_right, Contains-get_or, Contains-push, Contains-push_cases}
+use Rattle.std.proofs.lemmas.List.Elements.{All-contains, Contains-append_cases, Contains-append_left, Contains-append_right, Contains-get_or}
+use Rattle.rt_base.proofs.Lists.{Contains-cons_cases, Contains-flat_map, Contains-flat_map_source, Contains-here, Contains-none, Contains-there}
 use Rattle.rt_lines.specs.declared.variable.Base.{Base}
 use Rattle.rt_lines.specs.declared.variable.Base.TheVariants.{Proc, Global, Exist, Outer}
 use Rattle.rt_lines.specs.declared.variable.Dtv.{Dtv}
@@ -20,44 +21,8 @@ use Rattle.rt_table.specs.Lists.{HasGlobalsOf}
 use Rattle.rt_reports.specs.Globals.{base_globals, entries_globals, line_globals, lines_globals}
 use Rattle.rt_run.specs.Globals.{AreGlobals, IsNamedIn, global_of}
 
--- Lists.
-
-in_none : {X : Type 0} (x : X) → Contains [] x → ⊥
-in_none x (k, less, is) = omega (arith, less)
-
 in_one : {X : Type 0} (y x : X) → Contains (y ∷ []) x → y ≡ x
-in_one y x h = elim (Contains-push_cases [] y x h) [ inl none ↦ absurd (in_none x none) | inr is ↦ is ]
-
-first_in : {X : Type 0} (x : X) (xs : List X) → Contains (x ∷ xs) x
-first_in x xs = Contains-append_left (x ∷ []) xs x (Contains-push [] x)
-
-rest_in : {X : Type 0} (y : X) (xs : List X) (x : X) → Contains xs x → Contains (y ∷ xs) x
-rest_in y xs x h = Contains-append_right (y ∷ []) xs x h
-
-in_cons : {X : Type 0} (y : X) (xs : List X) (x : X) → Contains (y ∷ xs) x → (y ≡ x) ⊎ Contains xs x
-in_cons y xs x h = elim (Contains-append_cases (y ∷ []) xs x h) [ inl one ↦ inl (in_one y x one) | inr rest ↦ inr rest ]
-
--- what is in one of the lists that are put together
-pub record IsIn {X Y : Type 0} (f : X → List Y) (xs : List X) (y : Y) : Type 0 where
-  pub source : X
-  pub is_source : Contains xs source
-  pub is_of_it : Contains (f source) y
-
-in_together : {X Y : Type 0} (f : X → List Y) (xs : List X) (y : Y) → Contains (flat_map f xs) y → IsIn f xs y
-in_together f [] y h = absurd (in_none y h)
-in_together f (x ∷ xs) y h =
-    elim (Contains-append_cases (f x) (flat_map f xs) y h) [
-      | inl own ↦ record { source = x; is_source = first_in x xs; is_of_it = own }
-      | inr rest ↦ (let h = in_together f xs y rest in record { source = h.source; is_source = rest_in x xs h.source h.is_source; is_of_it = h.is_of_it })
-    ]
-
-together_in : {X Y : Type 0} (f : X → List Y) (xs : List X) (x : X) (y : Y) → Contains xs x → Contains (f x) y → Contains (flat_map f xs) y
-together_in f [] x y h k = absurd (in_none x h)
-together_in f (z ∷ xs) x y h k =
-    elim (in_cons z xs x h) [
-      | inl is ↦ Contains-append_left (f z) (flat_map f xs) y (subst (λ w. Contains (f w) y) (sym is) k)
-      | inr rest ↦ Contains-append_right (f z) (flat_map f xs) y (together_in f xs x y rest k)
-    ]
+in_one y x h = elim (Contains-cons_cases y [] x h) [ inl is ↦ is | inr none ↦ absurd (Contains-none x none) ]
 
 -- Sets of numbers.
 
@@ -66,12 +31,12 @@ abbrev put : Ordering → ℕ → ℕ → List ℕ → List ℕ
 put order k x ks = match_ordering order (k ∷ x ∷ ks) (x ∷ ks) (x ∷ insert_key nat_cmp ks k)
 
 in_put : (order : Ordering) (k x : ℕ) (ks : List ℕ) (n : ℕ) → (Contains (insert_key nat_cmp ks k) n → Contains ks n ⊎ (k ≡ n)) → Contains (put order k x ks) n → Contains (x ∷ ks) n ⊎ (k ≡ n)
-in_put Less k x ks n before h = elim (in_cons k (x ∷ ks) n h) [ inl is ↦ inr is | inr rest ↦ inl rest ]
+in_put Less k x ks n before h = elim (Contains-cons_cases k (x ∷ ks) n h) [ inl is ↦ inr is | inr rest ↦ inl rest ]
 in_put Equal k x ks n before h = inl h
 in_put Greater k x ks n before h =
-    elim (in_cons x (insert_key nat_cmp ks k) n h) [
-      | inl is ↦ inl (subst (Contains (x ∷ ks)) is (first_in x ks))
-      | inr rest ↦ elim (before rest) [ inl old ↦ inl (rest_in x ks n old) | inr is ↦ inr is ]
+    elim (Contains-cons_cases x (insert_key nat_cmp ks k) n h) [
+      | inl is ↦ inl (subst (Contains (x ∷ ks)) is (Contains-here x ks))
+      | inr rest ↦ elim (before rest) [ inl old ↦ inl (Contains-there x ks n old) | inr is ↦ inr is ]
     ]
 
 in_inserted : (k : ℕ) (ks : List ℕ) (n : ℕ) → Contains (insert_key nat_cmp ks k) n → Contains ks n ⊎ (k ≡ n)
@@ -79,33 +44,33 @@ in_inserted k [] n h = inr (in_one k n h)
 in_inserted k (x ∷ ks) n h = in_put (nat_cmp k x) k x ks n (in_inserted k ks n) h
 
 put_own : (order : Ordering) (k x : ℕ) (ks : List ℕ) → nat_cmp k x ≡ order → Contains (insert_key nat_cmp ks k) k → Contains (put order k x ks) k
-put_own Less k x ks is before = first_in k (x ∷ ks)
-put_own Equal k x ks is before = subst (Contains (x ∷ ks)) (sym (exact_unsigned k x is)) (first_in x ks)
-put_own Greater k x ks is before = rest_in x (insert_key nat_cmp ks k) k before
+put_own Less k x ks is before = Contains-here k (x ∷ ks)
+put_own Equal k x ks is before = subst (Contains (x ∷ ks)) (sym (exact_unsigned k x is)) (Contains-here x ks)
+put_own Greater k x ks is before = Contains-there x (insert_key nat_cmp ks k) k before
 
 inserted_own : (k : ℕ) (ks : List ℕ) → Contains (insert_key nat_cmp ks k) k
-inserted_own k [] = first_in k []
+inserted_own k [] = Contains-here k []
 inserted_own k (x ∷ ks) = put_own (nat_cmp k x) k x ks refl (inserted_own k ks)
 
 put_old : (order : Ordering) (k x : ℕ) (ks : List ℕ) (n : ℕ) → (Contains ks n → Contains (insert_key nat_cmp ks k) n) → Contains (x ∷ ks) n → Contains (put order k x ks) n
-put_old Less k x ks n before h = rest_in k (x ∷ ks) n h
+put_old Less k x ks n before h = Contains-there k (x ∷ ks) n h
 put_old Equal k x ks n before h = h
 put_old Greater k x ks n before h =
-    elim (in_cons x ks n h) [
-      | inl is ↦ subst (Contains (x ∷ insert_key nat_cmp ks k)) is (first_in x (insert_key nat_cmp ks k))
-      | inr rest ↦ rest_in x (insert_key nat_cmp ks k) n (before rest)
+    elim (Contains-cons_cases x ks n h) [
+      | inl is ↦ subst (Contains (x ∷ insert_key nat_cmp ks k)) is (Contains-here x (insert_key nat_cmp ks k))
+      | inr rest ↦ Contains-there x (insert_key nat_cmp ks k) n (before rest)
     ]
 
 inserted_old : (k : ℕ) (ks : List ℕ) (n : ℕ) → Contains ks n → Contains (insert_key nat_cmp ks k) n
-inserted_old k [] n h = absurd (in_none n h)
+inserted_old k [] n h = absurd (Contains-none n h)
 inserted_old k (x ∷ ks) n h = put_old (nat_cmp k x) k x ks n (inserted_old k ks n) h
 
 in_set : (ns ks : List ℕ) (n : ℕ) → Contains (fold (insert_key nat_cmp) ks ns) n → Contains ks n ⊎ Contains ns n
 in_set [] ks n h = inl h
 in_set (m ∷ ns) ks n h =
     elim (in_set ns (insert_key nat_cmp ks m) n h) [
-      | inl set ↦ elim (in_inserted m ks n set) [ inl old ↦ inl old | inr is ↦ inr (subst (Contains (m ∷ ns)) is (first_in m ns)) ]
-      | inr rest ↦ inr (rest_in m ns n rest)
+      | inl set ↦ elim (in_inserted m ks n set) [ inl old ↦ inl old | inr is ↦ inr (subst (Contains (m ∷ ns)) is (Contains-here m ns)) ]
+      | inr rest ↦ inr (Contains-there m ns n rest)
     ]
 
 set_old : (ns ks : List ℕ) (n : ℕ) → Contains ks n → Contains (fold (insert_key nat_cmp) ks ns) n
@@ -113,23 +78,43 @@ set_old [] ks n h = h
 set_old (m ∷ ns) ks n h = set_old ns (insert_key nat_cmp ks m) n (inserted_old m ks n h)
 
 set_in : (ns ks : List ℕ) (n : ℕ) → Contains ns n → Contains (fold (insert_key nat_cmp) ks ns) n
-set_in [] ks n h = absurd (in_none n h)
+set_in [] ks n h = absurd (Contains-none n h)
 set_in (m ∷ ns) ks n h =
-    elim (in_cons m ns n h) [
+    elim (Contains-cons_cases m ns n h) [
       | inl is ↦ set_old ns (insert_key nat_cmp ks m) n (subst (Contains (insert_key nat_cmp ks m)) is (inserted_own m ks))
       | inr rest ↦ set_in ns (insert_key nat_cmp ks m) n rest
     ]
 
+fold_append : (a b start : List ℕ) → fold (insert_key nat_cmp) start (a ++ b) ≡ fold (insert_key nat_cmp) (fold (insert_key nat_cmp) start a) b
+fold_append [] b start = refl
+fold_append (n ∷ a) b start = fold_append a b (insert_key nat_cmp start n)
+
+fold_next : {X : Type 0} (f : X → List ℕ) (xs : List X) (i : ℕ) (x : X) (start now new : List ℕ) → i < length xs → x ≡ get_or xs i x → now ≡ fold (insert_key nat_cmp) start (flat_map f (take i xs))
+    → new ≡ fold (insert_key nat_cmp) now (f x) → new ≡ fold (insert_key nat_cmp) start (flat_map f (take (suc i) xs))
+fold_next f [] i x start now new less is was next = absurd (omega (arith, less))
+fold_next f (y ∷ xs) zero x start now new less is was next =
+    next ∙ (ap (λ (ks : List ℕ). fold (insert_key nat_cmp) ks (f x)) was ∙ (ap (λ z. fold (insert_key nat_cmp) start (f z)) is ∙ sym (fold_append (f y) [] start)))
+fold_next f (y ∷ xs) (suc i) x start now new less is was next =
+    fold_next f xs i x (fold (insert_key nat_cmp) start (f y)) now new (omega (arith, less)) is (was ∙ fold_append (f y) (flat_map f (take i xs)) start) next
+    ∙ sym (fold_append (f y) (flat_map f (take (suc i) xs)) start)
+
+-- the numbers of one more element are put into the set of those before
+pub fold_more : {X : Type 0} (f : X → List ℕ) (xs : List X) (i : ℕ) (x : X) (start now new : List ℕ) → i < length xs → x ≡ get_or xs i x → now ≡ fold (insert_key nat_cmp) start (flat_map f (take i xs))
+    → new ≡ fold (insert_key nat_cmp) now (f x) → new ≡ fold (insert_key nat_cmp) start (flat_map f (take (i + 1) xs))
+fold_more f xs i x start now new less is was next =
+    let e : suc i ≡ i + 1 = omega arith in
+    subst (λ n. new ≡ fold (insert_key nat_cmp) start (flat_map f (take n xs))) e (fold_next f xs i x start now new less is was next)
+
 -- Lines.
 
 base_is : (b : Base) (n : ℕ) → Contains (base_globals b) n → b ≡ Global n
-base_is (Proc m) n h = absurd (in_none n h)
+base_is (Proc m) n h = absurd (Contains-none n h)
 base_is (Global m) n h = ap Global (in_one m n h)
-base_is (Exist m) n h = absurd (in_none n h)
-base_is (Outer m) n h = absurd (in_none n h)
+base_is (Exist m) n h = absurd (Contains-none n h)
+base_is (Outer m) n h = absurd (Contains-none n h)
 
 base_in : (b : Base) (n : ℕ) → b ≡ Global n → Contains (base_globals b) n
-base_in b n is = subst (λ c. Contains (base_globals c) n) (sym is) (first_in n [])
+base_in b n is = subst (λ c. Contains (base_globals c) n) (sym is) (Contains-here n [])
 
 -- a side of a line that is of a global
 record IsSide (l : Line) (n : ℕ) : Type 0 where
@@ -167,28 +152,28 @@ side_in (Up x k) z n is global = one_in x z n is global
 
 names_of : (lines : List Line) (n : ℕ) → Contains (lines_globals lines) n → NamesBase lines (Global n)
 names_of lines n h =
-    let of_line = in_together line_globals lines n h in
-    let side = side_of of_line.source n of_line.is_of_it in
-    (of_line.source, side.side, of_line.is_source, side.is_side, side.is_global)
+    let (line, is_line, is_of_it) = Contains-flat_map_source line_globals lines n h in
+    let side = side_of line n is_of_it in
+    (line, side.side, is_line, side.is_side, side.is_global)
 
 of_names : (lines : List Line) (n : ℕ) → NamesBase lines (Global n) → Contains (lines_globals lines) n
-of_names lines n (l, x, is_line, is_side, is_global) = together_in line_globals lines l n is_line (side_in l x n is_side is_global)
+of_names lines n (l, x, is_line, is_side, is_global) = Contains-flat_map line_globals lines l n is_line (side_in l x n is_side is_global)
 
-named_in : (entries : List Entry) (n : ℕ) → Contains (entries_globals entries) n → IsNamedIn entries n
+pub named_in : (entries : List Entry) (n : ℕ) → Contains (entries_globals entries) n → IsNamedIn entries n
 named_in entries n h =
-    let of_entry = in_together (λ (entry : Entry). lines_globals entry.lines) entries n h in
-    record { entry = of_entry.source; is_entry = of_entry.is_source; names = names_of of_entry.source.lines n of_entry.is_of_it }
+    let (entry, is_entry, is_of_it) = Contains-flat_map_source (λ (entry : Entry). lines_globals entry.lines) entries n h in
+    record { entry = entry; is_entry = is_entry; names = names_of entry.lines n is_of_it }
 
-in_named : (entries : List Entry) (n : ℕ) → IsNamedIn entries n → Contains (entries_globals entries) n
+pub in_named : (entries : List Entry) (n : ℕ) → IsNamedIn entries n → Contains (entries_globals entries) n
 in_named entries n named =
-    together_in (λ (entry : Entry). lines_globals entry.lines) entries named.entry n named.is_entry (of_names named.entry.lines n named.names)
+    Contains-flat_map (λ (entry : Entry). lines_globals entry.lines) entries named.entry n named.is_entry (of_names named.entry.lines n named.names)
 
 -- The numbers of the globals of entries.
 
 pub set_named : (entries : List Entry) (keys : List ℕ) (n : ℕ) → keys ≡ fold (insert_key nat_cmp) [] (entries_globals entries) → Contains keys n → IsNamedIn entries n
 set_named entries keys n is h =
     elim (in_set (entries_globals entries) [] n (subst (λ ks. Contains ks n) is h)) [
-      | inl none ↦ absurd (in_none n none)
+      | inl none ↦ absurd (Contains-none n none)
       | inr named ↦ named_in entries n named
     ]
 

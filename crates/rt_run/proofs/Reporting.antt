@@ -11,15 +11,19 @@ use Rattle.rt_elf.specs.Parts.{Parts as Object}
 use Rattle.rt_proc.specs.declared.proc.Proc.{Proc}
 use Rattle.rt_sigs.specs.Signatures.{Signature}
 use Rattle.rt_table.specs.Lists.{HasGlobalsOf}
+use Rattle.rt_scheme.specs.declared.scheme.Scheme.{Scheme}
 use Rattle.rt_scheme.specs.declared.report.Entry.{Entry}
 use Rattle.rt_scheme.specs.declared.report.Report.{Report}
 use Rattle.rt_scheme.specs.Reports.{report_text}
+use Rattle.rt_reports.specs.GoodReports.{IsGlobal, IsReport}
 use Rattle.rt_run.specs.declared.analysis.Analysis.{Analysis}
 use Rattle.rt_run.specs.declared.content.Told.{Told}
 use Rattle.rt_run.specs.Analyses.{AreListsOf, AreToldOf, IsAnalysis, IsListed, object_in, procs_in}
 use Rattle.rt_liveness.specs.Ends.{ends_of}
 use Rattle.rt_run.specs.Objects.{IsInProfile}
 use Rattle.rt_run.specs.Globals.{AreGlobals}
+use Rattle.rt_run.specs.Goods.{HasGoodParts}
+use Rattle.rt_run.proofs.Goodness.{good_report}
 use Rattle.rt_run.specs.Reports.{AreEntries, IsEntryOf, IsReportOf, IsRightOf, IsTold}
 
 -- Lists.
@@ -133,16 +137,31 @@ right told object procs analysis report in_profile is_analysis is_object are_pro
       globals = subst (λ o. AreGlobals o report.entries report.globals) (sym is_object) globals;
     })
 
+-- an entry's number is its place
+some_of : {X : Type 0} (xs : List X) (k : ℕ) → k < length xs → X
+some_of [] k less = absurd (omega (arith, less))
+some_of (x ∷ xs) k less = x
+
+numbered : (told : Told) (object : Object) (order : NamedOrder) (signatures : List Signature) (procs : List Proc) (schemes : List (Option Scheme)) (entries : List Entry)
+    → AreEntries told object order signatures procs schemes entries → (k : ℕ) (entry : Entry) → k < length entries → (get_or entries k entry).number ≡ k
+numbered told object order signatures procs schemes entries are k entry less =
+    let within : k < length procs = omega (arith, less, are.one_each) in
+    (are.each k (some_of procs k within) entry within).has_number
+
 pub right_text : (told : Told) (object : Object) (procs : List Proc) (order : NamedOrder) (signatures : List Signature) (names : List (List ℕ)) (analysis : Analysis) (report : Report)
     {X E : Type 0} (items : X → List ℕ) (text : Result X E)
     → IsInProfile object (ends_of object signatures) procs → IsAnalysis analysis → object_in analysis ≡ object → procs_in analysis ≡ procs → analysis.sigs.now ≡ signatures → analysis.lattice.now ≡ order
     → AreEntries told (object_in analysis) analysis.lattice.now analysis.sigs.now (procs_in analysis) analysis.schemes report.entries → AreGlobals object report.entries report.globals
+    → All IsGlobal report.globals → All (λ entry. All (HasConstantsBelow (size_of analysis.lattice.now)) entry.lines) report.entries → All HasGoodParts report.entries
     → names ≡ order.names → IfOk text (λ t. items t ≡ report_text names report)
     → IfOk text (λ t. IsReportOf told order signatures object (items t))
-right_text told object procs order signatures names analysis report items (Ok t) in_profile is_analysis is_object are_procs are_signatures is_order entries globals named is = record {
+right_text told object procs order signatures names analysis report items (Ok t) in_profile is_analysis is_object are_procs are_signatures is_order entries globals good few parts named is = record {
   report = report;
   is_right = subst (λ s. IsRightOf told order s object report) are_signatures (subst (λ o. IsRightOf told o analysis.sigs.now object report) is_order
       (right told object procs analysis report (subst (λ s. IsInProfile object (ends_of object s) procs) (sym are_signatures) in_profile) is_analysis is_object are_procs entries globals));
+  is_good = subst (λ (o : NamedOrder). IsReport (length o.names) report) is_order
+      (good_report object (size_of analysis.lattice.now) report globals good few parts
+      (numbered told (object_in analysis) analysis.lattice.now analysis.sigs.now (procs_in analysis) analysis.schemes report.entries entries));
   is_text = is ∙ ap (λ n. report_text n report) named;
 }
-right_text told object procs order signatures names analysis report items (Err e) in_profile is_analysis is_object are_procs are_signatures is_order entries globals named is = tt
+right_text told object procs order signatures names analysis report items (Err e) in_profile is_analysis is_object are_procs are_signatures is_order entries globals good few parts named is = tt

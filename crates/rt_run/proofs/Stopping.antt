@@ -1,7 +1,7 @@
 -- How a command stops, and what it writes.
 use Rattle.std.proofs.Common.{Bor, ◌≡◌, ◌∙◌, ℕ, zero, suc, ◌≤◌, List, [], ◌∷◌, Option, Some, None, ap, arith, inl, inr, refl, subst, sym, take}
 use Rattle.std.specs.Prelude.{IfSome}
-use Rattle.rt_base.specs.Outside.{Rose, Tells}
+use Rattle.rt_base.specs.Outside.{Rose}
 use Rattle.rt_lattice.specs.Lattices.{NamedOrder}
 use Rattle.rt_sigs.specs.Signatures.{Signature}
 use Rattle.rt_run.specs.declared.refusal.Refusal.{Refusal}
@@ -153,19 +153,19 @@ gives_for command content content' order signatures name found shown text one sa
   gained = refl;
 }
 
--- What is told of a command that stopped.
+-- What is told of a command that stopped; `Puts` says what err has of a line.
 
-pub unread_told : (asked : Option Command) (command : Command) (content : Contents) (faults faults' : List ℕ → ℕ) (stop : Stop) (unread : Bor (List ℕ)) (puts puts' : ℕ) (old new : Option (List ℕ))
-    → asked ≡ Some command → stop ≡ NoRead unread → Stops command content faults faults' stop → Tells puts puts' old new (read_line unread.now)
-    → IfSome asked (λ (command : Command). (step : Step) × (name : List ℕ) × ComesTo command content step name × Rose (faults name) (faults' name) × Tells puts puts' old new (read_line name))
-unread_told asked command content faults faults' stop unread puts puts' old new is is_stop stops told =
+pub unread_told : (asked : Option Command) (command : Command) (content : Contents) (faults faults' : List ℕ → ℕ) (stop : Stop) (unread : Bor (List ℕ)) (Puts : List ℕ → Type 0)
+    → asked ≡ Some command → stop ≡ NoRead unread → Stops command content faults faults' stop → Puts (read_line unread.now)
+    → IfSome asked (λ (command : Command). (step : Step) × (name : List ℕ) × ComesTo command content step name × Rose (faults name) (faults' name) × Puts (read_line name))
+unread_told asked command content faults faults' stop unread Puts is is_stop stops told =
     let (step, comes, rose) = subst (Stops command content faults faults') is_stop stops in
-    subst (λ o. IfSome o (λ (command : Command). (step : Step) × (name : List ℕ) × ComesTo command content step name × Rose (faults name) (faults' name) × Tells puts puts' old new (read_line name))) (sym is)
+    subst (λ o. IfSome o (λ (command : Command). (step : Step) × (name : List ℕ) × ComesTo command content step name × Rose (faults name) (faults' name) × Puts (read_line name))) (sym is)
     (step, unread.now, comes, rose, told)
 
-pub refused_told : (asked : Option Command) (command : Command) (content : Contents) (faults faults' : List ℕ → ℕ) (stop : Stop) (refusal : Refusal) (puts puts' : ℕ) (old new : Option (List ℕ))
-    → asked ≡ Some command → stop ≡ Refused refusal → Stops command content faults faults' stop → Tells puts puts' old new (refusal_line refusal)
-    → IfSome asked (λ (command : Command). (refusal : Refusal) × IsRefusedBy command content refusal × Tells puts puts' old new (refusal_line refusal))
-refused_told asked command content faults faults' stop refusal puts puts' old new is is_stop stops told =
+pub refused_told : (asked : Option Command) (command : Command) (content : Contents) (faults faults' : List ℕ → ℕ) (stop : Stop) (refusal : Refusal) (Puts : List ℕ → Type 0)
+    → asked ≡ Some command → stop ≡ Refused refusal → Stops command content faults faults' stop → Puts (refusal_line refusal)
+    → IfSome asked (λ (command : Command). (refusal : Refusal) × IsRefusedBy command content refusal × Puts (refusal_line refusal))
+refused_told asked command content faults faults' stop refusal Puts is is_stop stops told =
     let refused : IsRefusedBy command content refusal = subst (Stops command content faults faults') is_stop stops in
-    subst (λ o. IfSome o (λ (command : Command). (refusal : Refusal) × IsRefusedBy command content refusal × Tells puts puts' old new (refusal_line refusal))) (sym is) (refusal, refused, told)
+    subst (λ o. IfSome o (λ (command : Command). (refusal : Refusal) × IsRefusedBy command content refusal × Puts (refusal_line refusal))) (sym is) (refusal, refused, told)

@@ -4,7 +4,8 @@ use Rattle.rt_lattice.specs.Lattices.{NamedOrder}
 use Rattle.rt_entail.specs.declared.fault.EntailFault.TheVariants.{BadLine as HasBadLine, BadJudgement as IsBadJudgement}
 use Rattle.rt_entail.specs.Entailment.{IsRefusal, IsAnswer}
 use Rattle.rt_run.specs.declared.refusal.Refusal.{Refusal}
-use Rattle.rt_run.specs.declared.refusal.Refusal.TheVariants.{Object, Link, Code, BadLattice, BadSignatures, TextTooLarge, BadLine, BadJudgement}
+use Rattle.rt_run.specs.declared.refusal.Refusal.TheVariants.{Object, Link, Code, BadLattice, BadSignatures, TextTooLarge, BadLine}
+use Rattle.rt_run.specs.declared.refusal.Refusal.TheVariants.{BadJudgement}
 
 -- Why a text and a judgement are refused: the text is too long, else for its first bad line, else for the judgement.
 -- Constants are those of the names.

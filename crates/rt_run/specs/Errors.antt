@@ -2,7 +2,8 @@
 use Rattle.std.specs.Prelude.{ℕ, List, [], ◌++◌, codes, decimal, if◌then◌else◌, ◌==◌}
 use Rattle.rt_scheme.specs.NameTexts.{name_text}
 use Rattle.rt_run.specs.declared.refusal.Refusal.{Refusal}
-use Rattle.rt_run.specs.declared.refusal.Refusal.TheVariants.{Object, Link, Code, BadLattice, BadSignatures, TextTooLarge, BadLine, BadJudgement}
+use Rattle.rt_run.specs.declared.refusal.Refusal.TheVariants.{Object, Link, Code, BadLattice, BadSignatures, TextTooLarge, BadLine}
+use Rattle.rt_run.specs.declared.refusal.Refusal.TheVariants.{BadJudgement}
 use Rattle.rt_lattice.specs.declared.fault.LatFault.{LatFault}
 use Rattle.rt_lattice.specs.declared.fault.LatFault.TheVariants as lattice
 use Rattle.rt_lattice.specs.Roles.{role_key}

@@ -5,8 +5,10 @@ pub mod Inputs
 pub mod NoTexts
 pub mod Objects
 pub mod Globals
+pub mod Goods
 pub mod Reports
 pub mod Sketches
+pub mod Headers
 pub mod Texts
 pub mod Analyses
 pub mod Entails

@@ -12,7 +12,8 @@ use Rattle.rt_proc.specs.Procs.{AreProcs}
 use Rattle.rt_sigs.specs.Signatures.{Signature}
 use Rattle.rt_liveness.specs.Ends.{ends_of}
 use Rattle.rt_run.specs.declared.refusal.Refusal.{Refusal}
-use Rattle.rt_run.specs.declared.refusal.Refusal.TheVariants.{Object as BadObject, Link as BadLink, Code as BadCode, BadLattice, BadSignatures, TextTooLarge, BadLine, BadJudgement}
+use Rattle.rt_run.specs.declared.refusal.Refusal.TheVariants.{Object as BadObject, Link as BadLink, Code as BadCode, BadLattice}
+use Rattle.rt_run.specs.declared.refusal.Refusal.TheVariants.{BadSignatures, TextTooLarge, BadLine, BadJudgement}
 
 -- the bytes pass all checks of an object, and are read as this one
 pub record IsReadAs (bytes : List ℕ) (object : Object) : Type 0 where

@@ -13,14 +13,15 @@ use Rattle.rt_scheme.specs.declared.scheme.Scheme.{Scheme}
 use Rattle.rt_scheme.specs.declared.report.Entry.{Entry}
 use Rattle.rt_scheme.specs.declared.report.Report.{Report}
 use Rattle.rt_scheme.specs.Reports.{report_text}
+use Rattle.rt_reports.specs.GoodReports.{IsReport}
 use Rattle.rt_run.specs.declared.content.Told.{Told}
 use Rattle.rt_run.specs.declared.content.Told.TheVariants.{Constraints, Schemes}
 use Rattle.rt_run.specs.Objects.{IsInProfile}
 use Rattle.rt_run.specs.Globals.{AreGlobals}
 
--- The schemes of an object's procedures: in each group of procedures that call each other, each member's scheme is reduced (nothing in it is
--- to spare) and gives whoever calls it, under the order of the lattice, the same as the lists of the group's members together, where callees
--- outside the group have these same schemes and functions outside their signatures.
+-- The schemes of an object's procedures: in each group of procedures that call each other, each member's scheme is reduced (nothing in it
+-- is to spare) and gives whoever calls it, under the order of the lattice, the same as the lists of the group's members together, where
+-- callees outside the group have these same schemes and functions outside their signatures.
 pub record AreSchemes (object : Object) (order : NamedOrder) (signatures : List Signature) (procs : List Proc)
     (schemes : List (Option Scheme)) : Type 0 where
   pub groups : List (List ℕ)
@@ -77,8 +78,9 @@ pub record IsRightOf (told : Told) (order : NamedOrder) (signatures : List Signa
   pub entries : AreEntries told object order signatures procs schemes report.entries
   pub globals : AreGlobals object report.entries report.globals
 
--- the text of a right report of an object
+-- the text of a right report of an object, which is well formed, so that no other such report has the text
 pub record IsReportOf (told : Told) (order : NamedOrder) (signatures : List Signature) (object : Object) (text : List ℕ) : Type 0 where
   pub report : Report
   pub is_right : IsRightOf told order signatures object report
+  pub is_good : IsReport (length order.names) report
   pub is_text : text ≡ report_text order.names report

@@ -1,7 +1,6 @@
 -- What the commands write, when they refuse, and how a run ends.
 use Rattle.std.specs.Prelude.{◌≡◌, ℕ, List, [], ◌∷◌, ◌++◌, length, take, Option, Some, None, IfSome}
-use Rattle.std.specs.Io.KnownBytes.{Appends}
-use Rattle.rt_base.specs.Outside.{Rose, AppendsFront}
+use Rattle.rt_base.specs.Outside.{Rose}
 use Rattle.rt_lattice.specs.Lattices.{NamedOrder}
 use Rattle.rt_sigs.specs.Signatures.{Signature}
 use Rattle.rt_run.specs.declared.refusal.Refusal.{Refusal}
@@ -117,9 +116,9 @@ Stops command content faults faults' NoMemory = Unit {0}
 abbrev pub Gives : Command → Contents → List ℕ → Type 0
 Gives command content text = Writes command content (λ (given : List ℕ). given ≡ text)
 
--- How the work of a command ends. `puts` and `puts'` count the faults of out before and after, `old` and `new` are what it holds, where it
--- is told.
-abbrev pub Ends : Command → Contents → (List ℕ → ℕ) → (List ℕ → ℕ) → ℕ → ℕ → Option (List ℕ) → Option (List ℕ) → Ending → Type 0
-Ends command content faults faults' puts puts' old new Written = Writes command content (Appends old new)
-Ends command content faults faults' puts puts' old new NoWrite = Rose puts puts' × Writes command content (AppendsFront old new)
-Ends command content faults faults' puts puts' old new (Stopped stop) = Stops command content faults faults' stop × (new ≡ old)
+-- How the work of a command ends: a text was put, or a put failed and so rose a count of faults, or it stopped and out is as it was.
+-- `Whole` and `Front` say what out has of a text that was put, and of one of which a put failed.
+abbrev pub Ends : Command → Contents → (List ℕ → ℕ) → (List ℕ → ℕ) → (List ℕ → Type 0) → Type 0 → (List ℕ → Type 0) → Type 0 → Ending → Type 0
+Ends command content faults faults' Whole Failed Front Same Written = Writes command content Whole
+Ends command content faults faults' Whole Failed Front Same NoWrite = Failed × Writes command content Front
+Ends command content faults faults' Whole Failed Front Same (Stopped stop) = Stops command content faults faults' stop × Same

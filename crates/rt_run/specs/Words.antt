@@ -2,7 +2,7 @@
 use Rattle.std.specs.Prelude.{◌==◌, ◌&&◌, not, ℕ, nat_eq, Bool, false, Option, Some, None, is_none, List, [], ◌∷◌, if◌then◌else◌, codes}
 use lib.Pointwise.{pointwise}
 use Rattle.rt_run.specs.declared.content.Content.{Content}
-use Rattle.rt_run.specs.declared.content.Content.TheVariants.{Lines, Sketches}
+use Rattle.rt_run.specs.declared.content.Content.TheVariants.{Header, Lines, Sketches}
 use Rattle.rt_run.specs.declared.content.Told.TheVariants.{Constraints, Schemes}
 
 -- the files that options name: a lattice, and the signatures of functions outside
@@ -51,14 +51,15 @@ entail_of words = None
 abbrev pub no_options : Options
 no_options = record { lattice = None; signatures = None }
 
--- the command of the words: `constraints OPTIONS OBJECT`, `schemes OPTIONS OBJECT`, `sketches OPTIONS OBJECT` or
--- `entail [--lattice FILE] FILE JUDGEMENT`, where OPTIONS are `--lattice FILE` and `--signatures FILE`
+-- the command of the words: `constraints OPTIONS OBJECT`, `schemes OPTIONS OBJECT`, `sketches OPTIONS OBJECT`,
+-- `header OPTIONS OBJECT` or `entail [--lattice FILE] FILE JUDGEMENT`, where OPTIONS are `--lattice FILE` and `--signatures FILE`
 abbrev pub command_of : List (List ℕ) → Option Command
 command_of [] = None
 command_of (word ∷ words) =
     if is_text word (codes "constraints") then report_of (Lines Constraints) no_options words else
     if is_text word (codes "schemes") then report_of (Lines Schemes) no_options words else
     if is_text word (codes "sketches") then report_of Sketches no_options words else
+    if is_text word (codes "header") then report_of Header no_options words else
     if is_text word (codes "entail") then entail_of words else None
 
 -- the files that a command reads, in this order: the lattice and the signatures, where they are named, and then its own files, from 0

@@ -7,6 +7,8 @@ pub enum Content {
     Lines(Told),
     /// The sketch of its scheme.
     Sketches,
+    /// What a C header declares by its sketch.
+    Header,
 }
 
 /// Which lines a report tells of each procedure.

@@ -21,7 +21,7 @@ use std::alloc::{AllocError, Global};
 
 impl Analysis<'_> {
     // The scheme of the procedure of a number.
-    fn scheme(&self, number: u32) -> &Scheme
+    pub(crate) fn scheme(&self, number: u32) -> &Scheme
         requires analysis { IsAnalysis self.now }
         requires number { number < length (procs_in self.now) }
         ensures found { slice_index_or self.now.schemes number None ≡ Some result.now }

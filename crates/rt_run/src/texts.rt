@@ -9,6 +9,7 @@ ghost use Rattle.rt_run.specs.Objects.{IsInProfile, IsRefused};
 ghost use Rattle.rt_run.specs.Texts.{IsObjectText, IsTextOf};
 
 use crate::content::Content;
+use crate::headers::header_text;
 use crate::no_text::NoText;
 use crate::objects::{Program, read_program};
 use crate::reports::report_text;
@@ -34,6 +35,7 @@ fn text_of(
     match content {
         Content::Lines(told) => report_text(alloc, told, program, sigs, lattice),
         Content::Sketches => sketches_text(alloc, program, sigs, lattice),
+        Content::Header => header_text(alloc, program, sigs, lattice),
     }
 }
 

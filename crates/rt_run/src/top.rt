@@ -1,8 +1,8 @@
 // The whole run.
 ghost use Rattle.std.specs.Prelude.{◌≡◌, ◌≢◌, ◌≤◌, ◌⊎◌, ◌↔◌, ℕ, List, None, map, IfSome, MatchResult, option_copied};
 ghost use Rattle.std.specs.String.{string_bytes};
-ghost use Rattle.std.specs.Io.KnownBytes.{Appends};
-ghost use Rattle.rt_base.specs.Outside.{Rose, AppendsFront, Tells};
+ghost use Rattle.rt_base.specs.Outside.{Rose};
+ghost use Rattle.rt_io.specs.Puts.{PutsFront, PutsLine, PutsText};
 ghost use Rattle.rt_run.specs.Words.{Step, Report, Entail, command_of};
 ghost use Rattle.rt_run.specs.Meant.{meaning, options_of};
 ghost use Rattle.rt_run.specs.Errors.{usage_line, read_line, write_line, memory_line, refusal_line};
@@ -12,12 +12,11 @@ use crate::content::Content;
 use crate::entail::entail_text;
 use crate::inputs::{content_of, lattice_for, signatures_for};
 use crate::no_text::NoText;
-use crate::put::{put_all, tell};
 use crate::refusal::{Refusal, read_line, refusal_line};
 use crate::stop::{Ending, Stop};
 use crate::texts::object_text;
 use crate::words::{Options, Request, read_words};
-use rt_io::{Files, Sink};
+use rt_io::{Files, Sink, put_all, put_line};
 use std::alloc::Global;
 
 /// The greatest length of an object, in bytes.
@@ -125,7 +124,8 @@ fn work<'a, F: Files, O: Sink>(
     out: &mut O,
 ) -> Ending<'a>
     ensures { Ends (meaning request.entry) (F.content files.old) (F.faults files.old) (F.faults files.new)
-        (O.faults out.old) (O.faults out.new) (O.written out.old) (O.written out.new) result }
+        (PutsText O.written O.takes out.old out.new) (Rose (O.faults out.old) (O.faults out.new))
+        (PutsFront O.written O.takes O.refuses out.old out.new) (out.new ≡ out.old) result }
 {
     match text_of(alloc, request, files) {
         Ok(text) => match put_all(out, text.as_slice()) {
@@ -139,17 +139,16 @@ fn work<'a, F: Files, O: Sink>(
 // Tells a refusal, and answers the status.
 fn tell_refusal<E: Sink>(alloc: Global, refusal: &Refusal, err: &mut E) -> u8
     ensures statuses { (result ≡ 1) ⊎ (result ≡ 5) }
-    ensures told { result ≡ 1 → Tells (E.faults err.old) (E.faults err.new) (E.written err.old) (E.written err.new)
-        (refusal_line refusal.now) }
-    ensures memory { result ≡ 5 → Tells (E.faults err.old) (E.faults err.new) (E.written err.old) (E.written err.new) memory_line }
+    ensures told { result ≡ 1 → PutsLine E.written E.faults E.takes E.refuses err.old err.new (refusal_line refusal.now) }
+    ensures memory { result ≡ 5 → PutsLine E.written E.faults E.takes E.refuses err.old err.new memory_line }
 {
     match refusal_line(alloc, refusal) {
         Ok(line) => {
-            tell(err, line.as_slice());
+            put_line(err, line.as_slice());
             1
         }
         Err(_) => {
-            tell(err, b"error memory\n");
+            put_line(err, b"error memory\n");
             5
         }
     }
@@ -158,16 +157,16 @@ fn tell_refusal<E: Sink>(alloc: Global, refusal: &Refusal, err: &mut E) -> u8
 // Tells that a file wasn't read, and answers the status.
 fn tell_unread<E: Sink>(alloc: Global, name: &str, err: &mut E) -> u8
     ensures statuses { (result ≡ 3) ⊎ (result ≡ 5) }
-    ensures told { result ≡ 3 → Tells (E.faults err.old) (E.faults err.new) (E.written err.old) (E.written err.new) (read_line name.now) }
-    ensures memory { result ≡ 5 → Tells (E.faults err.old) (E.faults err.new) (E.written err.old) (E.written err.new) memory_line }
+    ensures told { result ≡ 3 → PutsLine E.written E.faults E.takes E.refuses err.old err.new (read_line name.now) }
+    ensures memory { result ≡ 5 → PutsLine E.written E.faults E.takes E.refuses err.old err.new memory_line }
 {
     match read_line(alloc, name) {
         Ok(line) => {
-            tell(err, line.as_slice());
+            put_line(err, line.as_slice());
             3
         }
         Err(_) => {
-            tell(err, b"error memory\n");
+            put_line(err, b"error memory\n");
             5
         }
     }
@@ -177,10 +176,11 @@ fn tell_unread<E: Sink>(alloc: Global, name: &str, err: &mut E) -> u8
 /// aren't of the grammar, 3 a read failed, 4 a write failed, 5 no memory. At each status but 0 one line on `err` tells why.
 ///
 /// `constraints OBJECT` writes, for each procedure of the object, the lines of its instructions, `schemes OBJECT` a scheme
-/// with nothing to spare that tells whoever calls it the same, and `sketches OBJECT` the sketch of that scheme. `entail FILE
-/// JUDGEMENT` writes whether the judgement is derivable from the lines of the file. The option `--lattice FILE` gives the
-/// constants, and `--signatures FILE`, which `entail` has not, what functions outside the object take and give. Before its own
-/// file a command reads and checks the lattice, and then the signatures. The text is made whole before it is put.
+/// with nothing to spare that tells whoever calls it the same, `sketches OBJECT` the sketch of that scheme, and `header
+/// OBJECT` the C declarations of these sketches. `entail FILE JUDGEMENT` writes whether the judgement is derivable from the
+/// lines of the file. The option `--lattice FILE` gives the constants, and `--signatures FILE`, which `entail` has not, what
+/// functions outside the object take and give. Before its own file a command reads and checks the lattice, and then the
+/// signatures. The text is made whole before it is put.
 pub fn run<F: Files, O: Sink, E: Sink>(
     alloc: Global,
     words: &Vec<String>,
@@ -192,38 +192,40 @@ pub fn run<F: Files, O: Sink, E: Sink>(
     ensures usage { (result ≡ 2) ↔ (command_of (map string_bytes words.now.items) ≡ None) }
     ensures statuses { result ≤ 5 }
 
-    // At status 0 a text that the command writes was written, and nothing on err.
+    // At status 0 a text that the command writes was written, in pieces of 4,096 bytes, and err is as it was.
     ensures written { result ≡ 0 → IfSome (command_of (map string_bytes words.now.items)) (λ command.
-        Writes command (F.content files.old) (Appends (O.written out.old) (O.written out.new))) }
-    ensures silent { result ≡ 0 → E.written err.new ≡ E.written err.old }
+        Writes command (F.content files.old) (PutsText O.written O.takes out.old out.new)) }
+    ensures silent { result ≡ 0 → err.new ≡ err.old }
 
-    // At status 1 the first of the command's files that is refused is so by the refusal that the line tells.
+    // At each other status its line was put on err, once, whatever came of that.
+
+    // At status 1 the first of the command's files that is refused is so by the refusal that the line names.
     ensures refused { result ≡ 1 → IfSome (command_of (map string_bytes words.now.items)) (λ command. (refusal : Refusal) ×
         IsRefusedBy command (F.content files.old) refusal ×
-        Tells (E.faults err.old) (E.faults err.new) (E.written err.old) (E.written err.new) (refusal_line refusal)) }
+        PutsLine E.written E.faults E.takes E.refuses err.old err.new (refusal_line refusal)) }
 
     ensures usage_told { result ≡ 2 →
-        Tells (E.faults err.old) (E.faults err.new) (E.written err.old) (E.written err.new) usage_line }
+        PutsLine E.written E.faults E.takes E.refuses err.old err.new usage_line }
 
     // At status 3 a read of a file of the command failed, where those before it are accepted, and the line names it.
     ensures unread { result ≡ 3 → IfSome (command_of (map string_bytes words.now.items)) (λ command. (step : Step) × (name : List ℕ) ×
         ComesTo command (F.content files.old) step name × Rose (F.faults files.old name) (F.faults files.new name) ×
-        Tells (E.faults err.old) (E.faults err.new) (E.written err.old) (E.written err.new) (read_line name)) }
+        PutsLine E.written E.faults E.takes E.refuses err.old err.new (read_line name)) }
 
-    // At status 4 a put failed, and a front of a text that the command writes was written.
+    // At status 4 a put failed, and a prefix of a text that the command writes was written, in its pieces up to the one that failed.
     ensures unwritten { result ≡ 4 → Rose (O.faults out.old) (O.faults out.new) ×
-        Tells (E.faults err.old) (E.faults err.new) (E.written err.old) (E.written err.new) write_line }
+        PutsLine E.written E.faults E.takes E.refuses err.old err.new write_line }
     ensures front { result ≡ 4 → IfSome (command_of (map string_bytes words.now.items)) (λ command.
-        Writes command (F.content files.old) (AppendsFront (O.written out.old) (O.written out.new))) }
+        Writes command (F.content files.old) (PutsFront O.written O.takes O.refuses out.old out.new)) }
 
     ensures memory_told { result ≡ 5 →
-        Tells (E.faults err.old) (E.faults err.new) (E.written err.old) (E.written err.new) memory_line }
+        PutsLine E.written E.faults E.takes E.refuses err.old err.new memory_line }
 
-    // At the others nothing was written.
-    ensures untouched { result ≢ 0 → result ≢ 4 → O.written out.new ≡ O.written out.old }
+    // At the others out is as it was.
+    ensures untouched { result ≢ 0 → result ≢ 4 → out.new ≡ out.old }
 {
     let Some(request) = read_words(words.as_slice()) else {
-        tell(
+        put_line(
             err,
             b"usage: retypd COMMAND [--lattice FILE] [--signatures FILE] ARGUMENTS\n",
         );
@@ -232,13 +234,13 @@ pub fn run<F: Files, O: Sink, E: Sink>(
     match work(alloc, request, files, out) {
         Ending::Written => 0,
         Ending::NoWrite => {
-            tell(err, b"error write\n");
+            put_line(err, b"error write\n");
             4
         }
         Ending::Stopped(Stop::Refused(refusal)) => tell_refusal(alloc, &refusal, err),
         Ending::Stopped(Stop::NoRead(name)) => tell_unread(alloc, name, err),
         Ending::Stopped(Stop::NoMemory) => {
-            tell(err, b"error memory\n");
+            put_line(err, b"error memory\n");
             5
         }
     }

@@ -151,6 +151,7 @@ pub fn read_words(words: &[String]) -> Option<Request<'_>>
         "constraints" => read_report(Content::Lines(Told::Constraints), rest),
         "schemes" => read_report(Content::Lines(Told::Schemes), rest),
         "sketches" => read_report(Content::Sketches, rest),
+        "header" => read_report(Content::Header, rest),
         "entail" => read_entail(rest),
         _ => None,
     }
