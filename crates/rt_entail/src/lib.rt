@@ -8,3 +8,6 @@ mod file;
 pub use entail::entails;
 pub use fault::EntailFault;
 pub use file::read_file;
+
+#[cfg(test)]
+mod tests;

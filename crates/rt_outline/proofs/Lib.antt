@@ -17,3 +17,4 @@ pub mod Outer
 pub mod Built
 pub mod Gathered
 pub mod Classing
+pub mod Behind

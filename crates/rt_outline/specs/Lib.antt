@@ -9,3 +9,4 @@ pub mod Together
 pub mod Equal
 pub mod Hubs
 pub mod Nodes
+pub mod Accesses

@@ -3,6 +3,7 @@
 //! the lines. Both are closed under what is pushed from ways of arcs behind a letter.
 #![tactic(auto)]
 
+mod accessing;
 mod adding;
 mod arc;
 mod classes;
@@ -19,6 +20,7 @@ mod spreading;
 mod sweeping;
 mod upper;
 
+pub use accessing::with_accesses;
 pub use arc::Arc;
 pub use grouping::{Classes, together};
 pub use led::Led;

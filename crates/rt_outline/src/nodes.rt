@@ -61,7 +61,7 @@ pub(crate) fn flips(
 }
 
 // Whether a class can be read and written through.
-fn is_flip(shape: &Shape, class: Option<u32>) -> bool
+pub(crate) fn is_flip(shape: &Shape, class: Option<u32>) -> bool
     ensures { result ≡ flips_at shape.now class }
 {
     match class {

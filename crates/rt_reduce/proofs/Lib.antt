@@ -15,3 +15,4 @@ pub mod Noting
 pub mod Opening
 pub mod Compared
 pub mod Going
+pub mod Anew

@@ -1,6 +1,7 @@
 -- What the shape of lines and arcs from inside tell of a line.
-use Rattle.std.proofs.Common.{◌≡◌, ℕ, ◌<◌, ◌⊎◌, inl, inr, true, false, refl, sym, subst, List, [], ◌∷◌, All, Contains}
+use Rattle.std.proofs.Common.{◌≡◌, ℕ, ◌<◌, ◌⊎◌, inl, inr, true, false, refl, sym, ap, subst, ◌∙◌, List, [], ◌∷◌, ◌++◌, All, Contains}
 use Rattle.std.specs.Prelude.{◌↔◌, IsTrue}
+use Rattle.std.proofs.lemmas.List.Elements.{Contains-append_cases, Contains-append_left}
 use Rattle.rt_base.proofs.Lists.{Contains-none, Contains-here, Contains-there, Contains-cons_cases}
 use Rattle.rt_lines.specs.declared.variable.Dtv.{Dtv}
 use Rattle.rt_lines.specs.declared.line.Line.{Line}
@@ -14,9 +15,10 @@ use Rattle.rt_rules.proofs.Carry.{are_there}
 use Rattle.rt_named.specs.Naming.{named as named_by}
 use Rattle.rt_sat.proofs.Frames.{extra_named}
 use Rattle.rt_outline.specs.declared.led.Led.TheVariants.{Yes}
+use Rattle.rt_outline.specs.Accesses.{AreThereBehind}
 use Rattle.rt_outline.specs.Enclosing.{AreThere}
-use Rattle.rt_outline.specs.Lines.{HasBelow}
-use Rattle.rt_reduce.specs.Deciding.{AreAbove, AreBelow}
+use Rattle.rt_outline.specs.Lines.{HasBelow, Lined}
+use Rattle.rt_reduce.specs.Deciding.{AreAbove, AreBelow, IsLowerWith}
 use Rattle.rt_reduce.proofs.Telling.{low_tells, tells_below, up_tells}
 
 -- what holds, and what doesn't
@@ -91,3 +93,21 @@ first_in x rest sides e = subst (λ xs. Contains xs x) (sym e) (Contains-here x 
 
 pub second_in : (x y : Dtv) (sides : List Dtv) → sides ≡ x ∷ y ∷ [] → Contains sides y
 second_in x y sides e = subst (λ xs. Contains xs y) (sym e) (Contains-there x (y ∷ []) y (Contains-here y []))
+
+-- what stands behind variables exists with them
+pub all_there : (lines : List Line) (sides all given : List Dtv) → given ≡ all → AreThere lines sides → AreThereBehind lines sides all →
+    AreThere lines given
+all_there lines sides all given e there behind order x c =
+    elim (Contains-append_cases sides behind.more x (subst (λ xs. Contains xs x) (e ∙ behind.behind) c)) [
+      | inl d ↦ there order x d
+      | inr d ↦ behind.there order x d
+    ]
+
+pub lower_with : (lines : List Line) (sides all given : List Dtv) (lower : Lined) → given ≡ all → AreThereBehind lines sides all →
+    lower ≡ record { lines = lines; named = named_by lines given } → IsLowerWith lines sides lower
+lower_with lines sides all given lower e behind is = record {
+  extra = given;
+  own = ap (λ (l : Lined). l.lines) is;
+  names = ap (λ (l : Lined). l.named) is;
+  given = λ x c. subst (λ xs. Contains xs x) (sym (e ∙ behind.behind)) (Contains-append_left sides behind.more x c);
+}

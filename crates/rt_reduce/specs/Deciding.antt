@@ -15,6 +15,13 @@ use Rattle.rt_outline.specs.Lines.{Lined, standing}
 abbrev pub IsOwnOuter : List Line → Lined → Type 0
 IsOwnOuter lines outer = (outer.lines ≡ lines) × (outer.named ≡ named_by lines [])
 
+-- arcs of lines between the variables that they and others name, the given ones among these
+pub record IsLowerWith (lines : List Line) (sides : List Dtv) (lower : Lined) : Type 0 where
+  pub extra : List Dtv
+  pub own : lower.lines ≡ lines
+  pub names : lower.named ≡ named_by lines extra
+  pub given : (x : Dtv) → Contains sides x → Contains extra x
+
 -- what is left are those of the lines of arcs whose flags are set, among them all before a place
 pub record AreStanding (left : List Line) (stands : List Bool) (place : ℕ) (outer : Lined) : Type 0 where
   pub own : outer.named ≡ named_by outer.lines []
@@ -25,6 +32,12 @@ pub record AreStanding (left : List Line) (stands : List Bool) (place : ℕ) (ou
 pub record IsOuterFor (left : List Line) (stands : List Bool) (line : Line) (outer : Lined) : Type 0 where
   pub left_are : left ≡ standing outer.lines stands
   pub sides : (l : Line) (x : Dtv) → Contains left l → HasSide l x → Contains outer.named x
+  pub line_sides : (x : Dtv) → HasSide line x → Contains outer.named x
+
+-- arcs of lines, between the variables that these and another line name
+pub record IsUpperWith (lines : List Line) (line : Line) (outer : Lined) : Type 0 where
+  pub own : outer.lines ≡ lines
+  pub sides : (l : Line) (x : Dtv) → Contains lines l → HasSide l x → Contains outer.named x
   pub line_sides : (x : Dtv) → HasSide line x → Contains outer.named x
 
 -- the answer says no only of a line that isn't derivable, and yes only of one that is

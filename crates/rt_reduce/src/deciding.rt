@@ -6,10 +6,12 @@ ghost use Rattle.rt_lines.specs.Orders.{Below};
 ghost use Rattle.rt_rules.specs.Rules.{Derivable};
 ghost use Rattle.rt_shape.specs.Shapes.{IsFront, IsNamed};
 ghost use Rattle.rt_outline.specs.Lines.{standing};
-ghost use Rattle.rt_reduce.specs.Deciding.{HasFront, IsOuterFor, Tells};
+ghost use Rattle.rt_reduce.specs.Deciding.{HasFront, IsOuterFor, IsUpperWith, Tells};
 
 use crate::bounds::{lows, ups};
-use crate::opened::derives_open;
+use crate::derivable::derives_line;
+use crate::merging::push_sides;
+use crate::opened::seen;
 use rt_base::Memory;
 use rt_lines::{Dtv, Line, Order};
 use rt_outline::{Led, Upper};
@@ -35,6 +37,68 @@ pub fn is_derivable(
         Led::Yes => Ok(true),
         Led::Open => derives_open(alloc, left, order, line),
     }
+}
+
+// Whether the line is derivable from the lines left, where arcs from outside of more lines leave it open.
+fn derives_open(alloc: Global, left: &[Line], order: &Order, line: &Line) -> Result<bool, Memory>
+    requires constants { All (HasConstantsBelow order.now.count) left.now }
+    requires constant { HasConstantsBelow order.now.count line.now }
+    ensures { IfOk result (λ yes. IsTrue yes ↔ Derivable order.now left.now line.now) }
+{
+    if let Some(yes) = seen(alloc, left, order, line)? {
+        return Ok(yes);
+    }
+    derives_unseen(alloc, left, order, line)
+}
+
+// Whether the line is derivable from the lines left: by arcs from outside of these alone, where they tell, else by a
+// saturation.
+fn derives_unseen(alloc: Global, left: &[Line], order: &Order, line: &Line) -> Result<bool, Memory>
+    requires constants { All (HasConstantsBelow order.now.count) left.now }
+    requires constant { HasConstantsBelow order.now.count line.now }
+    ensures { IfOk result (λ yes. IsTrue yes ↔ Derivable order.now left.now line.now) }
+{
+    match told_anew(alloc, left, order, line)? {
+        Led::No => Ok(false),
+        Led::Yes => Ok(true),
+        Led::Open => derives_line(alloc, left, order, line),
+    }
+}
+
+// What arcs from outside of the lines left alone tell of a `<=` line or a bound.
+fn told_anew(alloc: Global, left: &[Line], order: &Order, line: &Line) -> Result<Led, Memory>
+    requires constants { All (HasConstantsBelow order.now.count) left.now }
+    requires constant { HasConstantsBelow order.now.count line.now }
+    ensures { IfOk result (Tells order.now left.now line.now) }
+{
+    match line {
+        Line::Var(_) | Line::Same(_, _) => Ok(Led::Open),
+        Line::Sub(_, _) | Line::Low(_, _) | Line::Up(_, _) => {
+            told_alone(alloc, left, order, line)
+        }
+    }
+}
+
+// What arcs from outside of the lines left alone tell of a line.
+fn told_alone(alloc: Global, left: &[Line], order: &Order, line: &Line) -> Result<Led, Memory>
+    requires constants { All (HasConstantsBelow order.now.count) left.now }
+    requires constant { HasConstantsBelow order.now.count line.now }
+    ensures { IfOk result (Tells order.now left.now line.now) }
+{
+    let outer = upper_with(alloc, left, line)?;
+    let stands = vec![in alloc; true; left.len()]?;
+    let led = told_by(alloc, &outer, &stands, left, order, line)?;
+    Ok(led)
+}
+
+// The arcs from outside of lines, between the variables that these and another line name.
+fn upper_with(alloc: Global, lines: &[Line], line: &Line) -> Result<Upper, Memory>
+    ensures { IfOk result (IsUpperWith lines.now line.now) }
+{
+    let mut sides = Vec::new(alloc);
+    push_sides(line, &mut sides)?;
+    let outer = Upper::of(alloc, lines, &sides)?;
+    Ok(outer)
 }
 
 // Whether the line is derivable from the lines left, as far as their sides and arcs from outside tell.

@@ -16,7 +16,7 @@ use std::alloc::Global;
 
 /// What stays of the lines when, from the last to the first, each line goes that the lines before it and those that stayed
 /// behind it derive with the order of constants. A line that arcs from outside don't give isn't derivable; of another one arcs
-/// from inside of what is left tell, or it is saturated. The error is want of memory.
+/// from inside and from outside of what is left tell, or it is saturated. The error is want of memory.
 pub fn drop_derivable(alloc: Global, lines: &[Line], order: &Order) -> Result<Lines, Memory>
     requires { All (HasConstantsBelow order.now.count) lines.now }
     ensures drops { IfOk result (λ left. Drops order.now [] lines.now left) }

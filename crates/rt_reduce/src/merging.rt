@@ -138,7 +138,7 @@ fn sides(alloc: Global, lines: &[Line]) -> Result<Vec<Dtv>, Memory>
 }
 
 // Adds the variables of the line.
-fn push_sides(line: &Line, sides: &mut Vec<Dtv>) -> Result<(), Memory>
+pub(crate) fn push_sides(line: &Line, sides: &mut Vec<Dtv>) -> Result<(), Memory>
     ensures { OnOk result (sides.new.items ≡ sides.old.items ++ sides_of line.now) }
 {
     match line {

@@ -1,38 +1,27 @@
-// Whether a line is derivable from others, where arcs from outside leave it open.
+// What the shape of lines and arcs from inside tell of a line.
 ghost use Rattle.std.specs.Prelude.{◌↔◌, ◌<◌, ◌≡◌, ◌∷◌, [], All, IsTrue, IfOk, IfSome};
 ghost use Rattle.rt_lines.specs.declared.line.Line.TheVariants.{Low as LowerBound, Sub as Subtype, Up as UpperBound};
 ghost use Rattle.rt_lines.specs.Lines.{HasConstantsBelow};
 ghost use Rattle.rt_lines.specs.Orders.{Below};
 ghost use Rattle.rt_rules.specs.Rules.{Derivable};
+ghost use Rattle.rt_outline.specs.Enclosing.{AreThere};
+ghost use Rattle.rt_reduce.specs.Deciding.{IsLowerWith};
 
 use crate::bounds::{lows, ups};
-use crate::derivable::{are_one, derives_line, exists};
+use crate::derivable::{are_one, exists};
 use rt_base::Memory;
 use rt_lines::{Dtv, Line, Order};
-use rt_outline::Lower;
+use rt_outline::{Lower, with_accesses};
 use std::alloc::Global;
 use std::slice;
 
-// Whether the line is derivable from the lines: not where their shape says no, and where arcs from inside lead; else by a
-// saturation.
-pub fn derives_open(
+// Whether the line is derivable, as far as the shape and arcs from inside tell.
+pub(crate) fn seen(
     alloc: Global,
     lines: &[Line],
     order: &Order,
     line: &Line,
-) -> Result<bool, Memory>
-    requires constants { All (HasConstantsBelow order.now.count) lines.now }
-    requires constant { HasConstantsBelow order.now.count line.now }
-    ensures { IfOk result (λ yes. IsTrue yes ↔ Derivable order.now lines.now line.now) }
-{
-    if let Some(yes) = seen(alloc, lines, order, line)? {
-        return Ok(yes);
-    }
-    derives_line(alloc, lines, order, line)
-}
-
-// Whether the line is derivable, as far as the shape and arcs from inside tell.
-fn seen(alloc: Global, lines: &[Line], order: &Order, line: &Line) -> Result<Option<bool>, Memory>
+) -> Result<Option<bool>, Memory>
     requires constants { All (HasConstantsBelow order.now.count) lines.now }
     requires constant { HasConstantsBelow order.now.count line.now }
     ensures { IfOk result (λ seen. IfSome seen (λ yes. IsTrue yes ↔ Derivable order.now lines.now line.now)) }
@@ -58,8 +47,7 @@ fn seen_below(alloc: Global, lines: &[Line], x: &Dtv, y: &Dtv) -> Result<Option<
     if !are_one(&shape, x, y) {
         return Ok(Some(false));
     }
-    let sides = pair(alloc, x, y)?;
-    let lower = Lower::of(alloc, lines, &sides)?;
+    let lower = lower_of(alloc, lines, pair(alloc, x, y)?)?;
     if lower.leads(alloc, slice::from_ref(x), slice::from_ref(y))? {
         return Ok(Some(true));
     }
@@ -85,7 +73,7 @@ fn seen_low(
         return Ok(Some(false));
     }
     let from = lows(alloc, lines, order, k)?;
-    let lower = Lower::of(alloc, lines, slice::from_ref(x))?;
+    let lower = lower_of(alloc, lines, one(alloc, x)?)?;
     if lower.leads(alloc, &from, slice::from_ref(x))? {
         return Ok(Some(true));
     }
@@ -111,11 +99,30 @@ fn seen_up(
         return Ok(Some(false));
     }
     let to = ups(alloc, lines, order, k)?;
-    let lower = Lower::of(alloc, lines, slice::from_ref(x))?;
+    let lower = lower_of(alloc, lines, one(alloc, x)?)?;
     if lower.leads(alloc, slice::from_ref(x), &to)? {
         return Ok(Some(true));
     }
     Ok(None)
+}
+
+// The arcs from inside of lines, which lead also between loads and stores that these don't name, with more variables.
+fn lower_of(alloc: Global, lines: &[Line], sides: Vec<Dtv>) -> Result<Lower, Memory>
+    requires { AreThere lines.now sides.items }
+    ensures { IfOk result (IsLowerWith lines.now sides.items) }
+{
+    let all = with_accesses(alloc, lines, sides)?;
+    let lower = Lower::of(alloc, lines, &all)?;
+    Ok(lower)
+}
+
+// A list of one variable.
+fn one(alloc: Global, x: &Dtv) -> Result<Vec<Dtv>, Memory>
+    ensures { IfOk result (λ one. one.items ≡ x.now ∷ []) }
+{
+    let mut one = Vec::with_capacity(alloc, 1)?;
+    one.push(x.copy()?)?;
+    Ok(one)
 }
 
 // A list of two variables.

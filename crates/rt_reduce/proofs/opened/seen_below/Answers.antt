@@ -1,8 +1,8 @@
-use Rattle.std.proofs.Common.{[], ◌∷◌, List, ap, sym, subst, ◌∙◌}
+use Rattle.std.proofs.Common.{[], ◌∷◌, List, subst}
 use Rattle.rt_lines.specs.declared.line.Line.{Line}
 use Rattle.rt_lines.specs.declared.line.Line.TheVariants.{Sub}
 use Rattle.rt_rules.specs.Rules.{Derivable}
-use Rattle.rt_outline.specs.Lines.{HasBelow, Lined}
+use Rattle.rt_outline.specs.Lines.{HasBelow}
 use Rattle.rt_reduce.proofs.Opening.{apart, below_seen, first_in, given_named, no_of, pair_there, second_in, yes_of}
 use Rattle.rt_reduce.proofs.opened.seen_below.Goals as goal
 
@@ -12,23 +12,24 @@ returns-then-not-are_one c = λ order.
     (apart order c.args.lines.now c.args.x.now c.args.y.now
     (λ d. (let t = (c.are_one.ensures c.args.lines.now order c.in_ok-shape.ensures).1 d in absurd (cc))))
 
-pub of-requires-2 : goal.of-requires-2
-of-requires-2 c =
-    pair_there c.args.lines.now c.args.x.now c.args.y.now c.deref.result.now
-    (λ order. (c.are_one.ensures c.args.lines.now order c.in_ok-shape.ensures).0 c.if-not-are_one.false)
-    (c.deref.ensures.value ∙ c.in_ok-sides.ensures)
+pub lower_of-requires : goal.lower_of-requires
+lower_of-requires c =
+    pair_there c.args.lines.now c.args.x.now c.args.y.now c.in_ok-pair.field-0.items
+    (λ order. (c.are_one.ensures c.args.lines.now order c.in_ok-shape.ensures).0 c.if-not-are_one.false) c.in_ok-pair.ensures
 
 pub leads-requires-clause-from : goal.leads-requires-clause-from
 leads-requires-clause-from c =
-    given_named c.args.lines.now c.deref.result.now c.in_ok-lower.lower.named c.from_ref.result.now c.args.x.now
-    (ap (λ (l : Lined). l.named) c.in_ok-lower.ensures)
-    (first_in c.args.x.now (c.args.y.now ∷ []) c.deref.result.now (c.deref.ensures.value ∙ c.in_ok-sides.ensures)) c.from_ref.ensures.value
+    given_named c.args.lines.now c.in_ok-lower.ensures.extra c.in_ok-lower.lower.named c.from_ref.result.now c.args.x.now
+    c.in_ok-lower.ensures.names
+    (c.in_ok-lower.ensures.given c.args.x.now (first_in c.args.x.now (c.args.y.now ∷ []) c.in_ok-pair.field-0.items c.in_ok-pair.ensures))
+    c.from_ref.ensures.value
 
 pub leads-requires-clause-to : goal.leads-requires-clause-to
 leads-requires-clause-to c =
-    given_named c.args.lines.now c.deref.result.now c.in_ok-lower.lower.named c.from_ref-2.result.now c.args.y.now
-    (ap (λ (l : Lined). l.named) c.in_ok-lower.ensures)
-    (second_in c.args.x.now c.args.y.now c.deref.result.now (c.deref.ensures.value ∙ c.in_ok-sides.ensures)) c.from_ref-2.ensures.value
+    given_named c.args.lines.now c.in_ok-lower.ensures.extra c.in_ok-lower.lower.named c.from_ref-2.result.now c.args.y.now
+    c.in_ok-lower.ensures.names
+    (c.in_ok-lower.ensures.given c.args.y.now (second_in c.args.x.now c.args.y.now c.in_ok-pair.field-0.items c.in_ok-pair.ensures))
+    c.from_ref-2.ensures.value
 
 pub returns-then-branch : goal.returns-then-branch
 returns-then-branch c = λ order.
@@ -36,4 +37,4 @@ returns-then-branch c = λ order.
     (below_seen order c.args.lines.now c.args.x.now c.args.y.now c.from_ref.result.now c.from_ref-2.result.now c.from_ref.ensures.value
     c.from_ref-2.ensures.value
     (λ o. subst (λ (ls : List Line). HasBelow o ls c.from_ref.result.now c.from_ref-2.result.now)
-    (ap (λ (l : Lined). l.lines) c.in_ok-lower.ensures) (c.in_ok-leads.ensures c.if-branch.true o)))
+    c.in_ok-lower.ensures.own (c.in_ok-leads.ensures c.if-branch.true o)))
