@@ -6,7 +6,7 @@ use Rattle.std.proofs.lemmas.Bool.{cases_eq}
 use Rattle.rt_lines.specs.declared.label.Label.{Label}
 use Rattle.rt_tree.specs.Trees.{Nodes, node_at, AreLike, IsEdge}
 use Rattle.rt_tree.specs.Pairs.{ArePaired, InOneClass}
-use Rattle.rt_tree.specs.Partitions.{AreClassesOf, AreTwins, AreFinerClasses, AreCoarseClasses}
+use Rattle.rt_tree.specs.Partitions.{AreClassesOf, AreTwins, AreFinerClasses, AreCoarseClasses, AreToldNodes}
 use Rattle.rt_tree.proofs.Words.{AreNodes}
 use Rattle.rt_tree.proofs.Alike.{edges_of, like_edges, like_marks, named}
 use Rattle.rt_tree.proofs.Rows.{row_twins, twin_rows}
@@ -18,13 +18,13 @@ paired_weaker P Q count f (x ∷ xs) [] good good' h = absurd h
 paired_weaker P Q count f (x ∷ xs) (y ∷ ys) good good' h = (h.0, f x.1 y.1 good.0.1 good'.0.1 h.1, paired_weaker P Q count f xs ys good.1 good'.1 h.2)
 
 -- nodes that are alike are twins
-like_twins : (t : Nodes) → AreNodes t → (class : List ℕ) → AreCoarseClasses t class → (x y : ℕ) → x < length t → y < length t → AreLike t x y → AreTwins class t x y
+like_twins : (t : Nodes) → AreNodes t → (class : List ℕ) → AreToldNodes t class → (x y : ℕ) → x < length t → y < length t → AreLike t x y → AreTwins class t x y
 like_twins t good class are x y less less' like = record {
-  one = are.told x y less less' like;
+  one = are x y less less' like;
   alike = record {
     marks = like_marks t x y less less' like;
     edges =
-        paired_weaker (AreLike t) (InOneClass class) (length t) are.told (node_at t x).edges (node_at t y).edges (edges_of t good x less).each (edges_of t good y less').each
+        paired_weaker (AreLike t) (InOneClass class) (length t) are (node_at t x).edges (node_at t y).edges (edges_of t good x less).each (edges_of t good y less').each
         (like_edges t good x y less less' like);
   };
 }
@@ -38,15 +38,15 @@ one_first t good class finer are x y less less' twins =
 turned : (t : Nodes) → AreNodes t → (class : List ℕ) (x y : ℕ) → x < length t → y < length t → AreTwins class t x y → AreTwins class t y x
 turned t good class x y less less' twins = row_twins t good class y x less' less (sym (twin_rows t class x y twins))
 
-pub finer_coarse : (t : Nodes) → AreNodes t → (class finer : List ℕ) → AreCoarseClasses t class → AreFinerClasses t class finer → AreCoarseClasses t finer
-finer_coarse t good class finer coarse are = record {
+pub finer_coarse : (t : Nodes) → AreNodes t → (class finer : List ℕ) → AreToldNodes t class → AreFinerClasses t class finer → AreCoarseClasses t finer
+finer_coarse t good class finer told are = record {
   each = are.each;
   first = λ x y less less' same.
       let itself = are.first y y less' less' (row_twins t good class y y less' less' refl) in
       let one : slice_index finer x ≡ slice_index finer y = same in
       omega arith;
   told = λ x y less less' like.
-      let twins = like_twins t good class coarse x y less less' like in
+      let twins = like_twins t good class told x y less less' like in
       let below = one_first t good class finer are x y less less' twins in
       let above = one_first t good class finer are y x less' less (turned t good class x y less less' twins) in
       omega arith;

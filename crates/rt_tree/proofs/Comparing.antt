@@ -5,7 +5,7 @@ use Rattle.std.specs.Ordering.{nat_cmp, ordering_then}
 use Rattle.std.specs.Cmp.Lexicographic.{slice_cmp}
 use Rattle.std.specs.declared.cmp.Ordering.{Ordering}
 use Rattle.std.specs.declared.cmp.Ordering.TheVariants.{Less, Equal, Greater}
-use Rattle.std.proofs.lemmas.Cmp.{ranked, nat_list_cmp_total, tied_itself}
+use Rattle.std.proofs.lemmas.Cmp.{nat_list_cmp_total, tied_itself}
 use Rattle.std.proofs.lemmas.Fmt.{decimal_digit, decimal_step, signed_decimal_injective}
 use Rattle.rt_lines.specs.Words.{IsLabel}
 use Rattle.rt_lines.specs.declared.label.Loc.TheVariants.{Arg, Stack}
@@ -14,6 +14,7 @@ use Rattle.rt_lines.specs.declared.label.Label.TheVariants.{In, Out, Load, Store
 use Rattle.rt_tree.specs.Labels.{label_text, label_cmp}
 use Rattle.rt_tree.specs.Kinds.{Kind, OfArgument, OfStack, OfLoad, OfResult, OfHalf, OfWord, OfByte, OfStore, rank_of_kind, front_of, has_number, kind_of, rank_of, number_of}
 use lib.Signed.{mag}
+use Rattle.rt_base.proofs.Numbers.{nat_cmp-equal, then-equal}
 
 -- the text of the number, where there is one
 abbrev pub digits_of : Label → List ℕ
@@ -127,11 +128,8 @@ kind_by_rank OfWord = refl
 kind_by_rank OfByte = refl
 kind_by_rank OfStore = refl
 
-equal_numbers : (m n : ℕ) → nat_cmp m n ≡ Equal → m ≡ n
-equal_numbers m n e = ranked m n Equal (sym e)
-
 one_kind : (j k : Kind) → nat_cmp (rank_of_kind j) (rank_of_kind k) ≡ Equal → j ≡ k
-one_kind j k e = sym (kind_by_rank j) ∙ (ap kind_at (equal_numbers (rank_of_kind j) (rank_of_kind k) e) ∙ kind_by_rank k)
+one_kind j k e = sym (kind_by_rank j) ∙ (ap kind_at (nat_cmp-equal (rank_of_kind j) (rank_of_kind k) e) ∙ kind_by_rank k)
 
 a_field_has : (a b : Bool) → has_number (cond a OfHalf (cond b OfWord OfByte)) ≡ false → ⊥
 a_field_has true b e = cc
@@ -167,11 +165,6 @@ compared k l good good' =
     ∙ (fronts (kind_of k) (kind_of l) (digits_of k) (digits_of l)
     ∙ then_same (nat_cmp (rank_of k) (rank_of l)) (slice_cmp nat_cmp (digits_of k) (digits_of l)) (slice_cmp nat_cmp (signed_decimal (number_of k)) (signed_decimal (number_of l)))
     (λ e. numbers_alike (has_number (kind_of k)) (has_number (kind_of l)) (number_of k) (number_of l) (ap has_number (one_kind (kind_of k) (kind_of l) e)) (no_number k) (no_number l))))
-
-then_equal : (o p : Ordering) → ordering_then o p ≡ Equal → (o ≡ Equal) × (p ≡ Equal)
-then_equal Less p e = cc
-then_equal Equal p e = (refl, e)
-then_equal Greater p e = cc
 
 label_from : Kind → ℤ → Label
 label_from OfArgument z = In (Arg (mag z))
@@ -226,15 +219,15 @@ one_list [] [] e = refl
 one_list [] (y ∷ ys) e = cc
 one_list (x ∷ xs) [] e = cc
 one_list (x ∷ xs) (y ∷ ys) e =
-    let parts = then_equal (nat_cmp x y) (slice_cmp nat_cmp xs ys) e in
-    let heads : x ≡ y = equal_numbers x y parts.0 in
+    let parts = then-equal (nat_cmp x y) (slice_cmp nat_cmp xs ys) e in
+    let heads : x ≡ y = nat_cmp-equal x y parts.0 in
     let tails : xs ≡ ys = one_list xs ys parts.1 in
     rw (heads, tails) refl
 
 -- labels that compare as equal are equal
 pub one_label : (k l : Label) → IsLabel k → IsLabel l → label_cmp k l ≡ Equal → k ≡ l
 one_label k l good good' e =
-    let parts = then_equal (nat_cmp (rank_of k) (rank_of l)) (slice_cmp nat_cmp (signed_decimal (number_of k)) (signed_decimal (number_of l))) (sym (compared k l good good') ∙ e) in
+    let parts = then-equal (nat_cmp (rank_of k) (rank_of l)) (slice_cmp nat_cmp (signed_decimal (number_of k)) (signed_decimal (number_of l))) (sym (compared k l good good') ∙ e) in
     let kinds : kind_of k ≡ kind_of l = one_kind (kind_of k) (kind_of l) parts.0 in
     let texts : signed_decimal (number_of k) ≡ signed_decimal (number_of l) = one_list (signed_decimal (number_of k)) (signed_decimal (number_of l)) parts.1 in
     let numbers : number_of k ≡ number_of l = signed_decimal_injective (number_of k) (number_of l) (small_number k good) (small_number l good') texts in

@@ -6,24 +6,16 @@ use Rattle.std.specs.Cmp.{IsTotalOrder}
 use Rattle.std.specs.Ordering.{is_lt, ordering_reverse}
 use Rattle.std.specs.declared.cmp.Ordering.{Ordering}
 use Rattle.std.specs.declared.cmp.Ordering.TheVariants.{Less, Equal, Greater}
-use Rattle.std.proofs.lemmas.Cmp.{nat_list_cmp_total, on_total, int_eq_equiv, nat_eq_equiv}
+use Rattle.std.proofs.lemmas.Cmp.{nat_list_cmp_total, on_total}
 use Rattle.rt_lines.specs.Words.{IsLabel}
 use Rattle.rt_lines.specs.Equality.{label_eq}
 use Rattle.rt_lines.proofs.Equal.{label_equal}
-use Rattle.rt_lines.specs.declared.label.Loc.TheVariants.{Arg, Stack}
 use Rattle.rt_lines.specs.declared.label.Label.{Label}
-use Rattle.rt_lines.specs.declared.label.Label.TheVariants.{In, Out, Load, Store, Field}
 use Rattle.rt_tree.specs.Labels.{label_text, label_cmp}
 use Rattle.rt_tree.specs.Trees.{with_edge, place_in, AreOrdered, IsEdge, AreEdges}
 use Rattle.rt_tree.proofs.Comparing.{not_less_itself, one_label}
-
-pub label_itself : (l : Label) → label_eq l l ≡ true
-label_itself (In (Arg n)) = nat_eq_equiv.refl n
-label_itself (In (Stack k)) = nat_eq_equiv.refl k
-label_itself (Out n) = nat_eq_equiv.refl n
-label_itself Load = refl
-label_itself Store = refl
-label_itself (Field w k) = rw (nat_eq_equiv.refl w, int_eq_equiv.refl k) refl
+use Rattle.rt_lines.proofs.Same.{label_self}
+use Rattle.rt_base.proofs.Numbers.{less_lt}
 
 pub labels_total : IsTotalOrder label_cmp
 labels_total = on_total label_text nat_list_cmp_total
@@ -75,7 +67,7 @@ after : (o : Ordering) (k l : Label) → IsLabel k → IsLabel l → (label_eq l
 after Less k l good good' apart e not = cc
 after Equal k l good good' apart e not =
     let same : l ≡ k = one_label l k good' good (sym e) in
-    absurd (differ (sym (label_itself l) ∙ (ap (label_eq l) same ∙ apart)))
+    absurd (differ (sym (label_self l) ∙ (ap (label_eq l) same ∙ apart)))
   where
     differ : true ≡ false → ⊥
     differ e = cc
@@ -131,11 +123,6 @@ each_got {X} P (y ∷ xs) zero x h e = subst P (the e) h.0
     the : ◌≡◌ {A = Option X} (Some y) (Some x) → y ≡ x
     the e = cc
 each_got P (y ∷ xs) (suc k) x h e = each_got P xs k x h.1 e
-
-less_lt : (o : Ordering) → is_lt o ≡ true → o ≡ Less
-less_lt Less e = refl
-less_lt Equal e = cc
-less_lt Greater e = cc
 
 -- an edge whose label is greater isn't before the place
 pub place_before : (l : Label) (edges : List (Label × ℕ)) (k : ℕ) (edge : Label × ℕ) → slice_get edges k ≡ Some edge → label_cmp l edge.0 ≡ Less → place_in l edges ≤ k
@@ -245,7 +232,7 @@ found_label l edges ordered k edge place at is = by (lookup (label_eq l) edges) 
     there (x ∷ xs) zero e none =
         let heads : x ≡ edge = cc in
         let parts = not_found (label_eq l x.0) x.1 (lookup (label_eq l) xs) none in
-        let itself : label_eq l x.0 ≡ true = subst (λ m. label_eq l m ≡ true) (sym (ap (λ (y : Label × ℕ). y.0) heads ∙ same)) (label_itself l) in
+        let itself : label_eq l x.0 ≡ true = subst (λ m. label_eq l m ≡ true) (sym (ap (λ (y : Label × ℕ). y.0) heads ∙ same)) (label_self l) in
         differ (sym itself ∙ parts.0)
       where
         differ : true ≡ false → ⊥
@@ -270,7 +257,7 @@ found_other l edges ordered k edge place at not = by (lookup (label_eq l) edges)
         let last = found_last l n edges ordered (sym is) in
         let where_it_is : last.0 ≡ k = let p = last.2 in omega arith in
         let both : ◌≡◌ {A = Option (Label × ℕ)} (Some (l, n)) (Some edge) = sym last.1 ∙ (ap (slice_get edges) where_it_is ∙ at) in
-        absurd (differ (sym (label_itself l) ∙ subst (λ (x : Label × ℕ). label_eq x.0 l ≡ false) (sym (one_edge (l, n) edge both)) not))
+        absurd (differ (sym (label_self l) ∙ subst (λ (x : Label × ℕ). label_eq x.0 l ≡ false) (sym (one_edge (l, n) edge both)) not))
       where
         differ : true ≡ false → ⊥
         differ e = cc

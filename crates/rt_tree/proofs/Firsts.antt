@@ -6,7 +6,7 @@ use Rattle.std.specs.Cmp.Lexicographic.{slice_cmp}
 use Rattle.std.specs.Map.{lookup, KeepsOthers, IsKeyTest, AreApart}
 use Rattle.std.specs.Ordering.{nat_cmp, is_eq, eq_by_cmp}
 use Rattle.std.specs.Str.{bytes_eq}
-use Rattle.std.proofs.lemmas.Bool.{cond-true, cond-false}
+use Rattle.std.proofs.lemmas.Bool.{cond-true, cond-false, cases_Bool}
 use Rattle.std.proofs.lemmas.Cmp.{nat_list_cmp_total, nat_list_eq_equiv, eq_by_cmp_equiv}
 use Rattle.std.proofs.lemmas.List.{get_or_append_left, get_or_push}
 use Rattle.std.proofs.lemmas.Map.Text.{is_eq-slice_cmp}
@@ -15,10 +15,6 @@ use Rattle.rt_tree.specs.Trees.{Nodes}
 use Rattle.rt_tree.specs.Partitions.{AreFinerClasses, row_at, number_at}
 use Rattle.rt_tree.proofs.Words.{AreNodes}
 use Rattle.rt_tree.proofs.Rows.{row_twins, twin_rows}
-
-bool_cases : (b : Bool) → (b ≡ true) ⊎ (b ≡ false)
-bool_cases true = inl refl
-bool_cases false = inr refl
 
 apart : (row other key : List ℕ) → bytes_eq row other ≡ false → is_eq (slice_cmp nat_cmp row key) ≡ true → is_eq (slice_cmp nat_cmp other key) ≡ false
 apart row other key n y =
@@ -30,7 +26,7 @@ unfolding KeepsOthers
 other_entries eq test old new h = h
 
 by_rows : (F G : List ℕ → Option ℕ) (row : List ℕ) (w : Option ℕ) → G row ≡ w → ((other : List ℕ) → bytes_eq row other ≡ false → G other ≡ F other) → (other : List ℕ) → G other ≡ cond (bytes_eq row other) w (F other)
-by_rows F G row w here there other = by (bool_cases (bytes_eq row other))
+by_rows F G row w here there other = by (cases_Bool (bytes_eq row other))
   where
     by : (bytes_eq row other ≡ true) ⊎ (bytes_eq row other ≡ false) → G other ≡ cond (bytes_eq row other) w (F other)
     by (inl y) = subst (λ l. G l ≡ w) ((bytes_eq-Decides row other).0 y) here ∙ sym (cond-true (bytes_eq row other) w (F other) y)
@@ -75,7 +71,7 @@ module _ (F G : List ℕ → Option ℕ) (rows : ℕ → List ℕ) (first : List
   before y less = get_or_append_left first (f ∷ []) 0 y (subst (λ n. y < n) (sym are.each) less)
 
   told_before : (y : ℕ) → y < x → G (rows y) ≡ Some (slice_index first y)
-  told_before y less = by (bool_cases (bytes_eq (rows x) (rows y)))
+  told_before y less = by (cases_Bool (bytes_eq (rows x) (rows y)))
     where
       by : (bytes_eq (rows x) (rows y) ≡ true) ⊎ (bytes_eq (rows x) (rows y) ≡ false) → G (rows y) ≡ Some (slice_index first y)
       by (inr n) = noted (rows y) ∙ (cond-false (bytes_eq (rows x) (rows y)) (Some f) (F (rows y)) n ∙ are.told y less)
@@ -101,7 +97,7 @@ module _ (F G : List ℕ → Option ℕ) (rows : ℕ → List ℕ) (first : List
   low_more y (inr same) = subst (λ z. slice_index (first ++ f ∷ []) z ≤ z) same (let e = here in let h = f_first.0 in omega arith)
 
   back_more : (row : List ℕ) (g : ℕ) → G row ≡ Some g → (g < x + 1) × (rows g ≡ row)
-  back_more row g e = by (bool_cases (bytes_eq (rows x) row))
+  back_more row g e = by (cases_Bool (bytes_eq (rows x) row))
     where
       by : (bytes_eq (rows x) row ≡ true) ⊎ (bytes_eq (rows x) row ≡ false) → (g < x + 1) × (rows g ≡ row)
       by (inr n) =

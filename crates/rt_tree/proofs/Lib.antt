@@ -13,3 +13,6 @@ pub mod Firsts
 pub mod Coarse
 pub mod Numbers
 pub mod Quotients
+pub mod EdgeLists
+pub mod Moving
+pub mod Items

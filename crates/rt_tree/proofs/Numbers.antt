@@ -1,5 +1,5 @@
 -- Classes numbered in the order in which they first stand.
-use Rattle.std.proofs.Common.{◌≡◌, ℕ, zero, suc, ◌+◌, ◌<◌, ◌≤◌, ◌⊎◌, inl, inr, Option, Some, None, List, [], ◌∷◌, ◌++◌, map, length, set, get_or, refl, sym, ap, subst, ◌∙◌, arith, length-append}
+use Rattle.std.proofs.Common.{◌≡◌, ℕ, zero, suc, ◌+◌, ◌<◌, ◌≤◌, ◌⊎◌, inl, inr, Option, Some, None, List, [], ◌∷◌, ◌++◌, length, set, get_or, refl, sym, ap, subst, ◌∙◌, arith, length-append}
 use Rattle.std.specs.Prelude.{slice_index}
 use Rattle.std.proofs.lemmas.Bool.{cases_eq}
 use Rattle.std.proofs.lemmas.List.{get_or_append_left, get_or_push, length-set, get_or-set_same, get_or-set_other}
@@ -7,12 +7,7 @@ use Rattle.rt_lines.specs.declared.label.Label.{Label}
 use Rattle.rt_tree.specs.Trees.{Node, Nodes, ends_of, Stand, Numbered}
 use Rattle.rt_tree.specs.Pairs.{ArePaired}
 use Rattle.rt_tree.specs.Quotients.{IsEndOf, gaps, AreNumbers, IsNumberOf, Extends, Stands}
-
-split : (x y : ℕ) → y < x + 1 → (y < x) ⊎ (x ≡ y)
-split x y less = cases y x (omega arith)
-  where
-    cases : (i j : ℕ) → i ≤ j → (i < j) ⊎ (j ≡ i)
-    cases i j le = search (arith)
+use Rattle.rt_base.proofs.Numbers.{last_or_before}
 
 -- no class has a number yet
 pub none_pushed : (xs : List (Option ℕ)) → ((c : ℕ) → get_or xs c None ≡ None) → (c : ℕ) → get_or (xs ++ None ∷ []) c None ≡ None
@@ -91,7 +86,7 @@ module _ (number : List (Option ℕ)) (order : List ℕ) (class : ℕ) (are : Ar
     filled =
         let l = longer in let g = gaps_set number class (length order) less free in let f = are.filled in let s = length-set number class (Some (length order)) in
         omega arith;
-    there = λ k inside. there_more k (split (length order) k (let l = longer in omega arith));
+    there = λ k inside. there_more k (last_or_before (length order) k (let l = longer in omega arith));
     back = back_more;
   }
 
@@ -106,7 +101,7 @@ extends_more class old mid new x n was less h = by h.next
     by (inr more) = subst (Extends class old) (sym more.1) (record {
       longer = let l = was.longer in let e = length-append mid (slice_index class x ∷ []) in omega arith;
       front = λ k inside. let l = was.longer in get_or_append_left mid (slice_index class x ∷ []) 0 k (omega arith) ∙ was.front k inside;
-      named = λ k out inside. let e = length-append mid (slice_index class x ∷ []) in named k out (split (length mid) k (omega arith));
+      named = λ k out inside. let e = length-append mid (slice_index class x ∷ []) in named k out (last_or_before (length mid) k (omega arith));
     })
       where
         named : (k : ℕ) → length old ≤ k → (k < length mid) ⊎ (length mid ≡ k) → (y : ℕ) × (y < length class) × (slice_index (mid ++ slice_index class x ∷ []) k ≡ slice_index class y)
@@ -137,10 +132,6 @@ number_stands old new class n h = by h.next
     by : ((n < length old) × (new ≡ old)) ⊎ ((n ≡ length old) × (new ≡ old ++ class ∷ [])) → ((n < length old) × (length old ≡ length new)) ⊎ ((n ≡ length old) × (length old + 1 ≡ length new))
     by (inl same) = inl (same.0, sym (ap length same.1))
     by (inr more) = inr (more.0, sym (ap length more.1 ∙ length-append old (class ∷ [])))
-
-pub map_pushed : {X Y : Type 0} (f : X → Y) (xs : List X) (x : X) → map f (xs ++ x ∷ []) ≡ map f xs ++ f x ∷ []
-map_pushed f [] x = refl
-map_pushed f (y ∷ xs) x = ap (λ ys. f y ∷ ys) (map_pushed f xs x)
 
 pub paired_more : (R : ℕ → ℕ → Type 0) (xs ys : List (Label × ℕ)) (x y : Label × ℕ) → ArePaired R xs ys → x.0 ≡ y.0 → R x.1 y.1 → ArePaired R (xs ++ x ∷ []) (ys ++ y ∷ [])
 paired_more R [] [] x y h e r = (e, r, tt)

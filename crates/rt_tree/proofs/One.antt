@@ -12,8 +12,13 @@ use Rattle.rt_tree.specs.Labels.{label_cmp}
 use Rattle.rt_tree.specs.Trees.{Node, Nodes, edge_of, step_of, walk, marks_of, marks_from, ends_of, AreSame, IsMinimal, Stand, Numbered, IsBreadthFirst, AreOrdered, IsNode, IsTree}
 use Rattle.rt_tree.specs.Pairs.{ArePaired}
 use Rattle.rt_tree.proofs.Comparing.{not_less_itself}
-use Rattle.rt_tree.proofs.Edges.{label_itself, less_chain, found_has}
-use Rattle.rt_tree.proofs.Words.{then_some, All-at, node_of, step_in, walk_in, marks-append, walk_on, marked, leads}
+use Rattle.rt_tree.proofs.Edges.{less_chain, found_has}
+use Rattle.rt_tree.proofs.Words.{then_some, node_of, step_in, walk_in, marks-append, walk_on, marked, leads}
+use Rattle.rt_lines.proofs.Same.{label_self}
+use Rattle.rt_base.proofs.Options.{past_back, here_back}
+use Rattle.rt_base.proofs.Numbers.{after_one}
+use Rattle.rt_base.proofs.Lists.{All-at}
+use Rattle.std.proofs.lemmas.Bool.{cases_Bool}
 
 -- one word leads to both, from the roots
 abbrev Meet : Nodes → Nodes → ℕ → ℕ → Type 0
@@ -55,21 +60,9 @@ past : (b : Bool) (i : ℕ) (o : Option ℕ) (j : ℕ) → b ≡ false → cond 
 past true i o j e f = cc
 past false i o j e f = f
 
-past_back : (b : Bool) (i : ℕ) (o : Option ℕ) (j : ℕ) → b ≡ false → o ≡ Some j → cond b (Some i) o ≡ Some j
-past_back true i o j e f = cc
-past_back false i o j e f = f
-
 here : (b : Bool) (i : ℕ) (o : Option ℕ) (j : ℕ) → b ≡ true → cond b (Some i) o ≡ Some j → i ≡ j
 here true i o j e f = cc
 here false i o j e f = cc
-
-here_back : (b : Bool) (i : ℕ) (o : Option ℕ) → b ≡ true → cond b (Some i) o ≡ Some i
-here_back true i o e = refl
-here_back false i o e = cc
-
-bool_cases : (b : Bool) → (b ≡ true) ⊎ (b ≡ false)
-bool_cases true = inl refl
-bool_cases false = inr refl
 
 both_ways : (b : Bool) → b ≡ true → b ≡ false → ⊥
 both_ways true p q = cc
@@ -77,7 +70,7 @@ both_ways false p q = cc
 
 -- no edge of later ones has the label of the first
 apart : (x : Label × ℕ) (xs : List (Label × ℕ)) → AreOrdered (x ∷ xs) → (l : Label) (i : ℕ) → lookup (label_eq l) xs ≡ Some i → label_eq l x.0 ≡ false
-apart x xs ordered l i e = by (bool_cases (label_eq l x.0))
+apart x xs ordered l i e = by (cases_Bool (label_eq l x.0))
   where
     less : label_cmp x.0 l ≡ Less
     less = found_has (λ (later : Label × ℕ). label_cmp x.0 later.0 ≡ Less) l i xs ordered.0 e
@@ -99,10 +92,10 @@ greater y ys ordered l j e unlike =
     found_has (λ (later : Label × ℕ). label_cmp y.0 later.0 ≡ Less) l j ys ordered.0 (past (label_eq l y.0) y.1 (lookup (label_eq l) ys) j unlike e)
 
 found_first : (x : Label × ℕ) (xs : List (Label × ℕ)) → lookup (label_eq x.0) (x ∷ xs) ≡ Some x.1
-found_first x xs = here_back (label_eq x.0 x.0) x.1 (lookup (label_eq x.0) xs) (label_itself x.0)
+found_first x xs = here_back (label_eq x.0 x.0) x.1 (lookup (label_eq x.0) xs) (label_self x.0)
 
 heads_agree : (R Q : ℕ → ℕ → Type 0) (x y : Label × ℕ) (xs ys : List (Label × ℕ)) → AreOrdered (x ∷ xs) → AreOrdered (y ∷ ys) → Follows R (x ∷ xs) (y ∷ ys) → Follows Q (y ∷ ys) (x ∷ xs) → x.0 ≡ y.0
-heads_agree R Q x y xs ys p q f g = by (bool_cases (label_eq x.0 y.0)) (bool_cases (label_eq y.0 x.0))
+heads_agree R Q x y xs ys p q f g = by (cases_Bool (label_eq x.0 y.0)) (cases_Bool (label_eq y.0 x.0))
   where
     by : (label_eq x.0 y.0 ≡ true) ⊎ (label_eq x.0 y.0 ≡ false) → (label_eq y.0 x.0 ≡ true) ⊎ (label_eq y.0 x.0 ≡ false) → x.0 ≡ y.0
     by (inl e) _ = label_equal x.0 y.0 e
@@ -119,7 +112,7 @@ paired R Q (x ∷ xs) [] p q f g = let there = f x.0 x.1 (found_first x xs) in l
 paired R Q (x ∷ xs) (y ∷ ys) p q f g =
     let heads : x.0 ≡ y.0 = heads_agree R Q x y xs ys p q f g in
     let there = f x.0 x.1 (found_first x xs) in
-    let end : y.1 ≡ there.0 = here (label_eq x.0 y.0) y.1 (lookup (label_eq x.0) ys) there.0 (subst (λ k. label_eq x.0 k ≡ true) heads (label_itself x.0)) there.1 in
+    let end : y.1 ≡ there.0 = here (label_eq x.0 y.0) y.1 (lookup (label_eq x.0) ys) there.0 (subst (λ k. label_eq x.0 k ≡ true) heads (label_self x.0)) there.1 in
     (heads, subst (λ k. R x.1 k) (sym end) there.2, paired R Q xs ys p.1 q.1 (tail_follows R x y xs ys p heads f) (tail_follows Q y x ys xs q (sym heads) g))
 
 -- each number below meets itself
@@ -201,9 +194,6 @@ meet_match a b good good' least least' same = record {
   forward = λ m n k p q. one_end a b good' least' same m n k p q;
   back = λ m n k p q. one_end b a good least (turned_same a b same) k m n (turned a b m k p) (turned a b n k q);
 }
-
-after_one : (n : ℕ) → suc n ≡ n + 1
-after_one n = omega arith
 
 same_rest : (a b : Nodes) → IsTree a → IsTree b → AreSame a b → IsMatch (Meet a b) → (n before : ℕ) (xs ys : Nodes) → drop n a ≡ xs → drop n b ≡ ys → Fixed (Meet a b) before → Numbered n before xs → Numbered n before ys → xs ≡ ys
 same_rest a b good good' same match n before [] [] e f fixed p q = refl

@@ -1,5 +1,5 @@
 -- The tree of the classes of a tree's nodes is the least tree.
-use Rattle.std.proofs.Common.{◌≡◌, ℕ, suc, ◌+◌, ◌<◌, ◌≤◌, ◌⊎◌, inl, inr, Bool, true, false, cond, Option, Some, None, List, [], ◌∷◌, ◌++◌, map, length, drop, get_or, refl, sym, ap, subst, ◌∙◌, arith, length-append}
+use Rattle.std.proofs.Common.{◌≡◌, ℕ, ◌+◌, ◌<◌, ◌≤◌, ◌⊎◌, inl, inr, true, false, Option, Some, None, List, [], ◌∷◌, ◌++◌, map, length, drop, get_or, refl, sym, ap, subst, ◌∙◌, arith, length-append}
 use Rattle.std.specs.Prelude.{slice_index}
 use Rattle.std.specs.List.{AllByRecursion, slice_get}
 use Rattle.std.specs.Map.{lookup}
@@ -18,33 +18,19 @@ use Rattle.rt_tree.specs.Pairs.{ArePaired}
 use Rattle.rt_tree.specs.Partitions.{AreClassesOf}
 use Rattle.rt_tree.specs.Quotients.{IsEndOf, IsImage, AreNumbers, Extends, Stands, IsQuotientOf, IsQuotient}
 use Rattle.rt_tree.proofs.Comparing.{not_less_itself}
-use Rattle.rt_tree.proofs.Edges.{label_itself, each_weaker}
-use Rattle.rt_tree.proofs.Words.{All-at, step_in, walk_on}
+use Rattle.rt_tree.proofs.Edges.{each_weaker}
+use Rattle.rt_tree.proofs.Words.{step_in, walk_on}
 use Rattle.rt_tree.proofs.One.{at_drop}
 use Rattle.rt_tree.proofs.Alike.{edges_of, at_node, paired_lookup}
 use Rattle.rt_tree.proofs.Numbers.{paired_weaker, end_kept, stands_more, all_numbered}
-
-bool_cases : (b : Bool) → (b ≡ true) ⊎ (b ≡ false)
-bool_cases true = inl refl
-bool_cases false = inr refl
-
-split : (x y : ℕ) → y < x + 1 → (y < x) ⊎ (x ≡ y)
-split x y less = cases y x (omega arith)
-  where
-    cases : (i j : ℕ) → i ≤ j → (i < j) ⊎ (j ≡ i)
-    cases i j le = search (arith)
-
--- each edge of edges in order is found
-passed : (b : Bool) (n : ℕ) (o : Option ℕ) (m : ℕ) → b ≡ false → o ≡ Some m → cond b (Some n) o ≡ Some m
-passed true n o m e f = cc
-passed false n o m e f = f
-
-first_found : (b : Bool) (n : ℕ) (o : Option ℕ) → b ≡ true → cond b (Some n) o ≡ Some n
-first_found true n o e = refl
-first_found false n o e = cc
+use Rattle.rt_lines.proofs.Same.{label_self}
+use Rattle.rt_base.proofs.Numbers.{last_or_before, after_one}
+use Rattle.rt_base.proofs.Options.{past_back, here_back}
+use Rattle.rt_base.proofs.Lists.{All-at}
+use Rattle.std.proofs.lemmas.Bool.{cases_Bool}
 
 apart : (k l : Label) → label_cmp k l ≡ Less → label_eq l k ≡ false
-apart k l less = by (bool_cases (label_eq l k))
+apart k l less = by (cases_Bool (label_eq l k))
   where
     by : (label_eq l k ≡ true) ⊎ (label_eq l k ≡ false) → label_eq l k ≡ false
     by (inr e) = e
@@ -55,11 +41,11 @@ AreFound edges some = AllByRecursion (λ (edge : Label × ℕ). lookup (label_eq
 
 found_behind : (x : Label × ℕ) (xs some : List (Label × ℕ)) → AllByRecursion (λ (later : Label × ℕ). label_cmp x.0 later.0 ≡ Less) some → AreFound xs some → AreFound (x ∷ xs) some
 found_behind x xs [] less h = tt
-found_behind x xs (edge ∷ some) less h = (passed (label_eq edge.0 x.0) x.1 (lookup (label_eq edge.0) xs) edge.1 (apart x.0 edge.0 less.0) h.0, found_behind x xs some less.1 h.1)
+found_behind x xs (edge ∷ some) less h = (past_back (label_eq edge.0 x.0) x.1 (lookup (label_eq edge.0) xs) edge.1 (apart x.0 edge.0 less.0) h.0, found_behind x xs some less.1 h.1)
 
 all_found : (edges : List (Label × ℕ)) → AreOrdered edges → AreFound edges edges
 all_found [] h = tt
-all_found (x ∷ xs) h = (first_found (label_eq x.0 x.0) x.1 (lookup (label_eq x.0) xs) (label_itself x.0), found_behind x xs xs h.0 (all_found xs h.1))
+all_found (x ∷ xs) h = (here_back (label_eq x.0 x.0) x.1 (lookup (label_eq x.0) xs) (label_self x.0), found_behind x xs xs h.0 (all_found xs h.1))
 
 -- nodes that stand are reached
 abbrev ReachedBelow : Nodes → ℕ → Type 0
@@ -74,14 +60,11 @@ ends_reached t n from (edge ∷ edges) found before after below (inr new) = ends
     here = subst (IsReached t) new.0 (from.0 ++ edge.0 ∷ [], walk_on t 0 from.0 n edge.0 edge.1 from.1 found.0)
 
     more : ReachedBelow t (before + 1)
-    more i less = by (split before i less)
+    more i less = by (last_or_before before i less)
       where
         by : (i < before) ⊎ (before ≡ i) → IsReached t i
         by (inl old) = below i old
         by (inr same) = subst (IsReached t) same here
-
-after_one : (n : ℕ) → suc n ≡ n + 1
-after_one n = omega arith
 
 stands_reached : (t : Nodes) → ((n : ℕ) (node : Node) → slice_get t n ≡ Some node → AreOrdered node.edges) → (n before after : ℕ) (nodes : Nodes) → drop n t ≡ nodes → ReachedBelow t before → Stands n before nodes after → ReachedBelow t after
 stands_reached t ordered n before after [] e below h = subst (ReachedBelow t) h below
@@ -153,7 +136,7 @@ quotient_more t class order new number least image are is less longer numbers ea
   root = longer.front 0 is.some ∙ is.root;
   named = λ k inside. named k inside (cases k (length order));
   one = one_number number new numbers;
-  nodes = λ k inside. image_at k (split (length least) k (let m = one_more in omega arith));
+  nodes = λ k inside. image_at k (last_or_before (length least) k (let m = one_more in omega arith));
   stands = stands_more 0 1 (length order) (length new) least image is.stands (omega arith) stand;
 }
   where

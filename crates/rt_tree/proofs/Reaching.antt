@@ -4,7 +4,7 @@ use Rattle.std.specs.List.{slice_get}
 use Rattle.std.specs.Option.{option_and_then}
 use Rattle.std.specs.Map.{lookup}
 use Rattle.std.specs.Ordering.{is_lt}
-use Rattle.std.proofs.lemmas.Bool.{cases_eq}
+use Rattle.std.proofs.lemmas.Bool.{cases_eq, cases_Bool}
 use Rattle.std.proofs.lemmas.List.{length-set, get_or-set_same, get_or-set_other, set-get_or}
 use Rattle.std.proofs.lemmas.Option.{slice_get-get_or, slice_get_within}
 use Rattle.rt_lines.specs.declared.label.Label.{Label}
@@ -14,28 +14,14 @@ use Rattle.rt_lines.proofs.Equal.{label_equal}
 use Rattle.rt_tree.specs.Labels.{label_cmp}
 use Rattle.rt_tree.specs.Trees.{Node, Nodes, leaf, edge_of, step_of, walk, node_at, with_edge, longer_node, joined, IsReached, IsReachedTree}
 use Rattle.rt_tree.specs.Partitions.{IsGraph}
-use Rattle.rt_tree.proofs.Edges.{label_itself}
 use Rattle.rt_tree.proofs.Words.{then_some, walk_on}
 use Rattle.rt_tree.proofs.Growing.{get-front, with_leaf, joined_nodes, with_joined, none_in_front}
+use Rattle.rt_lines.proofs.Same.{label_self}
+use Rattle.rt_base.proofs.Options.{here_back, skipped, passed}
+use Rattle.rt_tree.proofs.Alike.{at_node}
 
-bool_cases : (b : Bool) → (b ≡ true) ⊎ (b ≡ false)
-bool_cases true = inl refl
-bool_cases false = inr refl
-
-skipped : (b : Bool) (n : ℕ) (o : Option ℕ) → cond b (Some n) o ≡ None → o ≡ None
-skipped true n o e = cc
-skipped false n o e = e
-
-found : (b : Bool) (n : ℕ) (o : Option ℕ) → b ≡ true → cond b (Some n) o ≡ Some n
-found true n o e = refl
-found false n o e = cc
-
-passed : (b : Bool) (n : ℕ) (o : Option ℕ) → b ≡ false → cond b (Some n) o ≡ o
-passed true n o e = cc
-passed false n o e = refl
-
--- an edge of another label is found as before
-kept_edge : (edges : List (Label × ℕ)) (l : Label) (to : ℕ) (k : Label) → label_eq k l ≡ false → lookup (label_eq k) (with_edge edges l to) ≡ lookup (label_eq k) edges
+-- an edge of another label is here_back as before
+pub kept_edge : (edges : List (Label × ℕ)) (l : Label) (to : ℕ) (k : Label) → label_eq k l ≡ false → lookup (label_eq k) (with_edge edges l to) ≡ lookup (label_eq k) edges
 kept_edge [] l to k apart = passed (label_eq k l) to None apart
 kept_edge (edge ∷ edges) l to k apart = by (is_lt (label_cmp l edge.0)) (kept_edge edges l to k apart)
   where
@@ -43,13 +29,13 @@ kept_edge (edge ∷ edges) l to k apart = by (is_lt (label_cmp l edge.0)) (kept_
     by true rest = passed (label_eq k l) to (lookup (label_eq k) (edge ∷ edges)) apart
     by false rest = ap (cond (label_eq k edge.0) (Some edge.1)) rest
 
--- the new edge is found
-new_edge : (edges : List (Label × ℕ)) (l : Label) (to : ℕ) → lookup (label_eq l) edges ≡ None → lookup (label_eq l) (with_edge edges l to) ≡ Some to
-new_edge [] l to none = found (label_eq l l) to None (label_itself l)
+-- the new edge is here_back
+pub new_edge : (edges : List (Label × ℕ)) (l : Label) (to : ℕ) → lookup (label_eq l) edges ≡ None → lookup (label_eq l) (with_edge edges l to) ≡ Some to
+new_edge [] l to none = here_back (label_eq l l) to None (label_self l)
 new_edge (edge ∷ edges) l to none = by (is_lt (label_cmp l edge.0)) (new_edge edges l to (skipped (label_eq l edge.0) edge.1 (lookup (label_eq l) edges) none))
   where
     by : (b : Bool) → lookup (label_eq l) (with_edge edges l to) ≡ Some to → lookup (label_eq l) (cond b ((l, to) ∷ edge ∷ edges) (edge ∷ with_edge edges l to)) ≡ Some to
-    by true rest = found (label_eq l l) to (lookup (label_eq l) (edge ∷ edges)) (label_itself l)
+    by true rest = here_back (label_eq l l) to (lookup (label_eq l) (edge ∷ edges)) (label_self l)
     by false rest = over (label_eq l edge.0) none rest
       where
         over : (b : Bool) → cond b (Some edge.1) (lookup (label_eq l) edges) ≡ None → lookup (label_eq l) (with_edge edges l to) ≡ Some to → cond b (Some edge.1) (lookup (label_eq l) (with_edge edges l to)) ≡ Some to
@@ -58,7 +44,7 @@ new_edge (edge ∷ edges) l to none = by (is_lt (label_cmp l edge.0)) (new_edge 
 
 -- what an edge leads to, it leads to when there is one edge more
 wider_edge : (edges : List (Label × ℕ)) (l : Label) (to : ℕ) (k : Label) (m : ℕ) → lookup (label_eq l) edges ≡ None → lookup (label_eq k) edges ≡ Some m → lookup (label_eq k) (with_edge edges l to) ≡ Some m
-wider_edge edges l to k m none e = by (bool_cases (label_eq k l))
+wider_edge edges l to k m none e = by (cases_Bool (label_eq k l))
   where
     by : (label_eq k l ≡ true) ⊎ (label_eq k l ≡ false) → lookup (label_eq k) (with_edge edges l to) ≡ Some m
     by (inr apart) = kept_edge edges l to k apart ∙ e
@@ -69,17 +55,13 @@ wider_edge edges l to k m none e = by (bool_cases (label_eq k l))
         clash : (o : Option ℕ) → o ≡ None → o ≡ Some m → ⊥
         clash o p q = cc
 
-at_set : (t : Nodes) (i : ℕ) (x : Node) → i < length t → slice_get (set t i x) i ≡ Some x
+pub at_set : (t : Nodes) (i : ℕ) (x : Node) → i < length t → slice_get (set t i x) i ≡ Some x
 at_set t i x less = slice_get-get_or (set t i x) i (leaf 0 0) (subst (λ n. i < n) (sym (length-set t i x)) less) ∙ ap Some (get_or-set_same t i x (leaf 0 0) less)
 
 off_set : (t : Nodes) (i j : ℕ) (x : Node) → j < length t → (j ≡ i → ⊥) → slice_get (set t i x) j ≡ slice_get t j
 off_set t i j x less apart =
     slice_get-get_or (set t i x) j (leaf 0 0) (subst (λ n. j < n) (sym (length-set t i x)) less)
     ∙ (ap Some (get_or-set_other t i j x (leaf 0 0) apart) ∙ sym (slice_get-get_or t j (leaf 0 0) less))
-
--- by the node itself
-at_node : (t : Nodes) (n : ℕ) (l : Label) → n < length t → step_of t n l ≡ lookup (label_eq l) (node_at t n).edges
-at_node t n l less = ap (option_and_then (edge_of l)) (slice_get-get_or t n (leaf 0 0) less)
 
 kept_step : (t : Nodes) (from : ℕ) (l : Label) (to : ℕ) → from < length t → step_of t from l ≡ None → (n : ℕ) (k : Label) (m : ℕ) → step_of t n k ≡ Some m → step_of (joined t from l to) n k ≡ Some m
 kept_step t from l to less none n k m e = by (cases_eq n from)
@@ -95,7 +77,7 @@ kept_step t from l to less none n k m e = by (cases_eq n from)
         subst (λ i. step_of (joined t from l to) i k ≡ Some m) (sym same)
         (ap (option_and_then (edge_of k)) (at_set t from (longer_node (node_at t from) l to) less) ∙ wider_edge (node_at t from).edges l to k m free was)
 
-new_step : (t : Nodes) (from : ℕ) (l : Label) (to : ℕ) → from < length t → step_of t from l ≡ None → step_of (joined t from l to) from l ≡ Some to
+pub new_step : (t : Nodes) (from : ℕ) (l : Label) (to : ℕ) → from < length t → step_of t from l ≡ None → step_of (joined t from l to) from l ≡ Some to
 new_step t from l to less none =
     ap (option_and_then (edge_of l)) (at_set t from (longer_node (node_at t from) l to) less) ∙ new_edge (node_at t from).edges l to (sym (at_node t from l less) ∙ none)
 
@@ -184,3 +166,6 @@ popped t items left x now from n e same count rest =
     let m : n - 1 ≡ length t = omega arith in
     let back : set items from now ≡ items = ap (set items from) same ∙ set-get_or items from (leaf 0 0) in
     rest ∙ (ap (λ k. take k (set items from now)) m ∙ (ap (take (length t)) (back ∙ e) ∙ take_front t x))
+
+pub joined_length : (t : Nodes) (from : ℕ) (l : Label) (to : ℕ) → length (joined t from l to) ≡ length t
+joined_length t from l to = length-set t from (longer_node (node_at t from) l to)

@@ -1,24 +1,16 @@
 -- Where words lead in a tree.
-use Rattle.std.proofs.Common.{◌≡◌, ℕ, zero, suc, ◌<◌, Option, Some, None, All, List, [], ◌∷◌, ◌++◌, length, refl, ap, subst, ◌∙◌}
+use Rattle.std.proofs.Common.{◌≡◌, ℕ, ◌<◌, Option, Some, None, All, List, [], ◌∷◌, ◌++◌, length, refl, ap, subst, ◌∙◌}
 use Rattle.std.specs.List.{slice_get}
 use Rattle.std.specs.Option.{option_map, option_and_then}
-use Rattle.std.proofs.lemmas.List.Elements.{All-head, All-tail}
 use Rattle.std.proofs.lemmas.Option.{slice_get-get_or}
 use Rattle.rt_lines.specs.declared.label.Label.{Label}
 use Rattle.rt_tree.specs.Trees.{Node, Nodes, leaf, edge_of, step_of, walk, marks_of, marks_from, IsNode, IsEdge}
 use Rattle.rt_tree.proofs.Edges.{found_has}
+use Rattle.rt_base.proofs.Lists.{All-at}
 
 pub then_some : {A B : Type 0} (f : A → Option B) (o : Option A) (y : B) → option_and_then f o ≡ Some y → (x : A) × (o ≡ Some x) × (f x ≡ Some y)
 then_some f None y e = cc
 then_some f (Some x) y e = (x, refl, e)
-
-pub All-at : {X : Type 0} (P : X → Type 0) (xs : List X) (k : ℕ) (x : X) → All P xs → slice_get xs k ≡ Some x → P x
-All-at P [] k x h e = cc
-All-at {X} P (y ∷ xs) zero x h e = subst P (the e) (All-head P y xs h)
-  where
-    the : ◌≡◌ {A = Option X} (Some y) (Some x) → y ≡ x
-    the e = cc
-All-at P (y ∷ xs) (suc k) x h e = All-at P xs k x (All-tail P y xs h) e
 
 -- the node that a number below the count has
 pub node_of : (tree : Nodes) (n : ℕ) → n < length tree → (node : Node) × (slice_get tree n ≡ Some node)

@@ -6,3 +6,4 @@ pub mod Rooms
 pub mod Laws
 pub mod Partitions
 pub mod Quotients
+pub mod Splits

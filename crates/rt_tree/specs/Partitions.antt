@@ -38,6 +38,11 @@ pub record AreCoarseClasses (tree : Nodes) (class : List ℕ) : Type 0 where
   pub first : (x y : ℕ) → x < length tree → y < length tree → InOneClass class x y → slice_index class x ≤ y
   pub told : (x y : ℕ) → x < length tree → y < length tree → AreLike tree x y → InOneClass class x y
 
+-- classes of nodes, of which nodes that are alike have one
+abbrev pub AreToldNodes : Nodes → List ℕ → Type 0
+AreToldNodes nodes class =
+    (x y : ℕ) → x < length nodes → y < length nodes → AreLike nodes x y → slice_index class x ≡ slice_index class y
+
 -- a number of 32 bits with a sign, counted from the least on
 abbrev pub slot_of : ℤ → ℕ
 slot_of (pos n) = 2147483648 + n

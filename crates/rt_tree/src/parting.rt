@@ -5,7 +5,7 @@ ghost use Rattle.rt_tree.specs.Trees.{leaf, step_of, joined};
 ghost use Rattle.rt_tree.specs.Partitions.{IsGraph, AreClassesOf};
 
 use crate::entry::Entry;
-use crate::refining::classes;
+use crate::splitting::classes;
 use rt_base::Memory;
 use rt_lines::Label;
 use std::alloc::{AllocError, Global};

@@ -7,7 +7,7 @@ ghost use Rattle.rt_tree.specs.Partitions.{AreClassesOf};
 ghost use Rattle.rt_tree.specs.Quotients.{AreNumbers, Extends, IsEndOf, IsNumberOf, IsQuotient};
 
 use crate::entry::Entry;
-use crate::refining::classes;
+use crate::splitting::classes;
 use crate::tree::Tree;
 use rt_base::Memory;
 use rt_lines::Label;

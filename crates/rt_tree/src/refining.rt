@@ -6,7 +6,7 @@ ghost use Rattle.std.specs.Str.{bytes_eq};
 ghost use Rattle.rt_lines.specs.Words.{IsLabel};
 ghost use Rattle.rt_tree.specs.Kinds.{rank_of, number_of};
 ghost use Rattle.rt_tree.specs.Trees.{IsEdge, IsNode};
-ghost use Rattle.rt_tree.specs.Partitions.{AreClassesOf, AreFinerClasses, slot_of, row_of, number_at};
+ghost use Rattle.rt_tree.specs.Partitions.{AreClassesOf, AreFinerClasses, AreToldNodes, slot_of, row_of, number_at};
 
 use crate::entry::Entry;
 use crate::order::{number, rank};
@@ -18,8 +18,8 @@ use std::collections::BTreeMap;
 // The first node with each row so far.
 type Rows = BTreeMap<Vec<usize>, usize>;
 
-// The number in a label's text, counted from the least number of 32 bits on.
-fn slot(label: Label) -> usize
+/// The number in a label's text, counted from the least number of 32 bits on.
+pub(crate) fn slot(label: Label) -> usize
     requires { IsLabel label }
     ensures { result ≡ slot_of (number_of label) }
 {
@@ -53,8 +53,8 @@ fn row_of(alloc: Global, node: &Entry, own: usize, class: &[usize]) -> Result<Ve
     Ok(row)
 }
 
-// The first node with a row, which is this one where there was none.
-fn first_with(rows: &mut Rows, row: Vec<usize>, x: usize) -> Result<usize, Memory>
+/// The first node with a row, which is this one where there was none.
+pub(crate) fn first_with(rows: &mut Rows, row: Vec<usize>, x: usize) -> Result<usize, Memory>
     ensures first { IfOk result (λ first. first ≡ unwrap_or (number_at rows.old row.items) x) }
     ensures noted { IfOk result (λ first. (other : List ℕ)
         → number_at rows.new other
@@ -67,8 +67,8 @@ fn first_with(rows: &mut Rows, row: Vec<usize>, x: usize) -> Result<usize, Memor
     Ok(x)
 }
 
-// Classes that are finer by one label, in time near linear in the edges. The error is want of memory.
-fn finer(alloc: Global, nodes: &[Entry], class: &[usize]) -> Result<Vec<usize>, Memory>
+/// Classes that are finer by one label, in time near linear in the edges. The error is want of memory.
+pub(crate) fn finer(alloc: Global, nodes: &[Entry], class: &[usize]) -> Result<Vec<usize>, Memory>
     requires nodes { All (IsNode (length nodes.now)) nodes.now }
     requires class { length class.now ≡ length nodes.now }
     ensures { IfOk result (λ finer. AreFinerClasses nodes.now class.now finer.items) }
@@ -82,8 +82,8 @@ fn finer(alloc: Global, nodes: &[Entry], class: &[usize]) -> Result<Vec<usize>, 
     Ok(finer)
 }
 
-// The first node for each of so many nodes.
-fn one_class(alloc: Global, count: usize) -> Result<Vec<usize>, Memory>
+/// The first node for each of so many nodes. The error is want of memory.
+pub(crate) fn one_class(alloc: Global, count: usize) -> Result<Vec<usize>, Memory>
     ensures each { IfOk result (λ class. length class.items ≡ count) }
     ensures one { IfOk result (λ class. (x : ℕ) → slice_index class.items x ≡ 0) }
 {
@@ -94,13 +94,15 @@ fn one_class(alloc: Global, count: usize) -> Result<Vec<usize>, Memory>
     Ok(class)
 }
 
-/// The classes of nodes that have the same words and marks after them, each named by its first node: all nodes are one class,
-/// and classes are made finer by one label after another until that changes none. The error is want of memory.
-pub(crate) fn classes(alloc: Global, nodes: &[Entry]) -> Result<Vec<usize>, Memory>
-    requires { All (IsNode (length nodes.now)) nodes.now }
+/// The classes of nodes that have the same words and marks after them, each named by its first node: classes that tell no like
+/// nodes apart are made finer by one label after another until that changes none. The error is want of memory.
+pub(crate) fn refined(alloc: Global, nodes: &[Entry], told: &[usize]) -> Result<Vec<usize>, Memory>
+    requires nodes { All (IsNode (length nodes.now)) nodes.now }
+    requires each { length told.now ≡ length nodes.now }
+    requires told { AreToldNodes nodes.now told.now }
     ensures { IfOk result (λ class. AreClassesOf nodes.now class.items) }
 {
-    let mut class = one_class(alloc, nodes.len())?;
+    let mut class = finer(alloc, nodes, told)?;
     loop {
         let next = finer(alloc, nodes, &class)?;
         if next == class {

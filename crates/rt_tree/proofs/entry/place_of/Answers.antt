@@ -1,4 +1,4 @@
-use Rattle.std.proofs.Common.{◌≡◌, ℕ, ◌+◌, ◌-◌, ◌<◌, ◌/◌, true, false, nat_eq, List, length, ap, sym, ◌∙◌, refl, arith}
+use Rattle.std.proofs.Common.{◌≡◌, ◌+◌, ◌-◌, ◌<◌, ◌/◌, true, false, length, sym, ◌∙◌, refl, arith}
 use Rattle.std.specs.Bool.{◌==◌}
 use Rattle.std.specs.Ordering.{ordering_index}
 use Rattle.std.specs.declared.cmp.Ordering.{Ordering}

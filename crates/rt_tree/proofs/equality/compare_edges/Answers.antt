@@ -5,8 +5,8 @@ use Rattle.rt_lines.specs.declared.label.Loc.TheVariants.{Arg}
 use Rattle.rt_lines.specs.declared.label.Label.{Label}
 use Rattle.rt_lines.specs.declared.label.Label.TheVariants.{In}
 use Rattle.rt_lines.specs.Equality.{label_eq}
-use Rattle.rt_tree.proofs.Edges.{label_itself}
 use Rattle.rt_tree.proofs.equality.compare_edges.Goals as goal
+use Rattle.rt_lines.proofs.Same.{label_self}
 
 none : Label × ℕ
 none = (In (Arg 0), 0)
@@ -21,7 +21,7 @@ labels_differ xs ys k r is test same =
     let labels : (get_or xs k (In (Arg 0), 0)).0 ≡ (get_or ys k (In (Arg 0), 0)).0 =
     sym (get_or-map f xs k (In (Arg 0), 0)) ∙ (ap (λ ls. get_or ls k (In (Arg 0))) same ∙ get_or-map f ys k (In (Arg 0), 0)) in
     absurd_test (label_eq (get_or xs k (In (Arg 0), 0)).0 (get_or ys k (In (Arg 0), 0)).0) r
-    (ap (label_eq (get_or xs k (In (Arg 0), 0)).0) (sym labels) ∙ label_itself (get_or xs k (In (Arg 0), 0)).0) is test
+    (ap (label_eq (get_or xs k (In (Arg 0), 0)).0) (sym labels) ∙ label_self (get_or xs k (In (Arg 0), 0)).0) is test
 
 pub returns-then-ne : goal.returns-then-ne
 returns-then-ne c = labels_differ c.args.xs.now c.args.ys.now c.loop-k.k c.ne.result c.if-ne.true c.ne.ensures

@@ -1,10 +1,9 @@
-use Rattle.std.proofs.Common.{◌≡◌, ℕ, suc, ◌-◌, ◌<◌, List, Some, None, ap, get_or, length, sym, subst, ◌∙◌, arith}
+use Rattle.std.proofs.Common.{◌≡◌, ℕ, ◌-◌, ◌<◌, List, Some, ap, get_or, length, sym, subst, ◌∙◌, arith}
 use Rattle.std.specs.List.{AllByRecursion, slice_get}
 use Rattle.std.proofs.lemmas.Option.{slice_get-get_or}
 use Rattle.rt_lines.specs.declared.label.Label.{Label}
-use Rattle.rt_lines.specs.Equality.{label_eq}
 use Rattle.rt_lines.specs.Words.{IsLabel}
-use Rattle.rt_tree.specs.Trees.{AreEdges, Node, edge_of, place_in}
+use Rattle.rt_tree.specs.Trees.{Node, place_in}
 use Rattle.rt_tree.proofs.Edges.{found_label, found_none, found_other, found_unlike, labels_of, place-le}
 use Rattle.rt_tree.proofs.entry.Entry.end.Goals as goal
 

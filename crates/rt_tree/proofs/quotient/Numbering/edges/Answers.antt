@@ -7,8 +7,9 @@ use Rattle.rt_tree.specs.Trees.{IsEdge, Stand}
 use Rattle.rt_tree.specs.Pairs.{ArePaired}
 use Rattle.rt_tree.specs.Quotients.{IsEndOf}
 use Rattle.rt_tree.proofs.Edges.{each_at}
-use Rattle.rt_tree.proofs.Numbers.{extends_more, image_more, stand_more, number_stands, map_pushed}
+use Rattle.rt_tree.proofs.Numbers.{extends_more, image_more, stand_more, number_stands}
 use Rattle.rt_tree.proofs.quotient.Numbering.edges.Goals as goal
+use Rattle.rt_base.proofs.Lists.{map-push}
 
 pub loop-label-preserved : goal.loop-label-preserved
 loop-label-preserved c =
@@ -37,5 +38,5 @@ loop-label-preserved c =
           (subst (ArePaired (IsEndOf new class) (ends ++ (edge.0, n) ∷ [])) (sym (take_more edges k d less)) image);
       stand =
           subst (λ (es : List (Label × ℕ)). Stand (length old) (map (λ (e : Label × ℕ). e.1) es) (length new)) (sym c.in_ok-push.ensures.items)
-          (subst (λ ns. Stand (length old) ns (length new)) (sym (map_pushed (λ (e : Label × ℕ). e.1) ends (edge.0, n))) stand);
+          (subst (λ ns. Stand (length old) ns (length new)) (sym (map-push (λ (e : Label × ℕ). e.1) ends (edge.0, n))) stand);
     }

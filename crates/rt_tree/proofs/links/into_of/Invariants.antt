@@ -1,0 +1,5 @@
+use Rattle.rt_tree.specs.Splits.{AreIntoTo}
+use Rattle.rt_tree.proofs.links.into_of.Given as goal
+
+abbrev pub invariant-loop-j : goal.invariant-loop-j
+invariant-loop-j l = AreIntoTo l.count l.links l.j l.into.items
