@@ -1,5 +1,6 @@
 -- Bytes that do not stand in lines of headers: line ends anywhere, spaces in scalars' names; and where numbers end.
-use Rattle.std.proofs.Common.{◌≡◌, ℕ, ◌+◌, ◌<◌, ◌≤◌, ◌%◌, ◌*◌, ◌-◌, List, [], ◌∷◌, ◌++◌, Bool, true, false, ◌&&◌, ◌||◌, nat_lt, if◌then◌else◌, refl, sym, subst, inl, inr, arith, codes, decimal, All, length}
+use Rattle.std.proofs.Common.{take, get_or, add-one, ◌∙◌, ◌≡◌, ℕ, ◌+◌, ◌<◌, ◌≤◌, ◌%◌, ◌*◌, ◌-◌, List, [], ◌∷◌, ◌++◌, Bool, true, false, ◌&&◌, nat_lt, if◌then◌else◌, refl, sym, subst, inl, inr, arith, codes, decimal, All, length}
+use Rattle.std.proofs.Math.Seq.{take-suc}
 use Rattle.std.proofs.lemmas.Bool.{ltb-true, and_parts}
 use Rattle.std.proofs.lemmas.Bool.Decides.{nat_tests}
 use Rattle.std.proofs.lemmas.Fmt.{decimal_by_steps, decimal_injective}
@@ -15,29 +16,10 @@ use Rattle.rt_cdecl.specs.Types.{IsType, IsWidth, IsTypedef}
 use Rattle.rt_cdecl.specs.Rows.{Row, Typedef, Named, Opened, Gap, Member, Closed, Pair, Half, Stated, Returns, Nothing, Value, Both, carrier_text, scalar_text, typedef_text, type_text, loc_text, arg_text, more_args_text, args_text, returns_text, row_text}
 use Rattle.rt_cdecl.specs.GoodDecls.{IsArgument, ArePlaced, place_of}
 use Rattle.rt_cdecl.specs.GoodRows.{IsReturned, IsRow}
-
--- each byte is greater
-abbrev pub AreAbove : ℕ → List ℕ → Type 0
-AreAbove low [] = Unit {0}
-AreAbove low (b ∷ bs) = (low < b) × AreAbove low bs
-
-pub AreAbove-append : (low : ℕ) (a b : List ℕ) → AreAbove low a → AreAbove low b → AreAbove low (a ++ b)
-AreAbove-append low [] b h k = k
-AreAbove-append low (x ∷ a) b (h, hs) k = (h, AreAbove-append low a b hs k)
-
-AreAbove-less : (low less : ℕ) (a : List ℕ) → less ≤ low → AreAbove low a → AreAbove less a
-AreAbove-less low less [] le h = tt
-AreAbove-less low less (x ∷ a) le (h, hs) = (omega arith, AreAbove-less low less a le hs)
-
-pub HasNo-above : (byte low : ℕ) (a : List ℕ) → byte ≤ low → AreAbove low a → HasNo byte a
-HasNo-above byte low [] le h = tt
-HasNo-above byte low (x ∷ a) le (h, hs) = (λ e. absurd (omega arith), HasNo-above byte low a le hs)
+use Rattle.rt_texts.proofs.Clear.{AreAbove, AreAbove-append, AreAbove-less, HasNo-above}
+use Rattle.rt_cdecl.specs.Guesses.{AreDigits, is_other, StopsDigits, AreFirstDigits}
 
 -- digits
-abbrev pub AreDigits : List ℕ → Type 0
-AreDigits [] = Unit {0}
-AreDigits (b ∷ bs) = (47 < b) × (b < 58) × AreDigits bs
-
 AreDigits-append : (a b : List ℕ) → AreDigits a → AreDigits b → AreDigits (a ++ b)
 AreDigits-append [] b h k = k
 AreDigits-append (x ∷ a) b (h, l, hs) k = (h, l, AreDigits-append a b hs k)
@@ -52,15 +34,6 @@ AreDigits-decimal n h =
 AreAbove-digits : (ds : List ℕ) → AreDigits ds → AreAbove 47 ds
 AreAbove-digits [] h = tt
 AreAbove-digits (x ∷ ds) (h, l, hs) = (h, AreAbove-digits ds hs)
-
--- whether a byte is no digit
-abbrev pub is_other : ℕ → Bool
-is_other b = nat_lt b 48 || nat_lt 57 b
-
--- a text does not begin with a digit
-abbrev pub StopsDigits : List ℕ → Type 0
-StopsDigits [] = Unit {0}
-StopsDigits (b ∷ bs) = is_other b ≡ true
 
 no_digit : (b c : ℕ) → is_other b ≡ true → b ≡ c → 47 < c → c < 58 → ⊥
 no_digit b c other same low high = grind (arith, nat_tests)
@@ -82,6 +55,23 @@ pub one_number : (n m : ℕ) (a b : List ℕ) → IsNumber n → IsNumber m → 
 one_number n m a b g h s t same =
     let parts = one_digits (decimal n) (decimal m) a b (AreDigits-decimal n g) (AreDigits-decimal m h) s t same in
     (decimal_injective n m (omega arith) (omega arith) parts.0, parts.1)
+
+-- such a number is that of the first digits
+pub first_number : (n : ℕ) (rest text digits more : List ℕ) → IsNumber n → StopsDigits rest → decimal n ++ rest ≡ text → AreFirstDigits text digits more → (decimal n ≡ digits) × (rest ≡ more)
+first_number n rest text digits more small stops same first = one_digits (decimal n) digits rest more (AreDigits-decimal n small) first.are stops first.stops (same ∙ first.joined)
+
+pub number_is : (n m : ℕ) (rest text digits more : List ℕ) → IsNumber n → StopsDigits rest → decimal n ++ rest ≡ text → AreFirstDigits text digits more → IsNumber m × (decimal m ≡ digits) → (m ≡ n) × (more ≡ rest)
+number_is n m rest text digits more small stops same first (less, is) =
+    let parts = first_number n rest text digits more small stops same first in
+    (decimal_injective m n (omega arith) (omega arith) (is ∙ sym parts.0), sym parts.1)
+
+-- what follows the first digits
+pub after_is : (ds rest text digits more : List ℕ) → AreDigits ds → StopsDigits rest → ds ++ rest ≡ text → AreFirstDigits text digits more → more ≡ rest
+after_is ds rest text digits more are stops same first = sym (one_digits ds digits rest more are first.are stops first.stops (same ∙ first.joined)).1
+
+-- the first digits, and one more
+pub AreDigits-take_more : (text : List ℕ) (k d : ℕ) → k < length text → 48 ≤ get_or text k d → get_or text k d ≤ 57 → AreDigits (take k text) → AreDigits (take (k + 1) text)
+AreDigits-take_more text k d h low high are = rw (add-one k, take-suc text k d h) (AreDigits-append (take k text) (get_or text k d ∷ []) are (omega arith, omega arith, tt))
 
 -- numbers and fixed texts have no line end
 AreAbove-decimal : (n : ℕ) → IsNumber n → AreAbove 47 (decimal n)

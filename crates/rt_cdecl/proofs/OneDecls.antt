@@ -87,7 +87,7 @@ named_rows-good (struct ∷ structs) small =
     (named_rows-good structs (All-tail IsNumber struct.number (struct_numbers structs) small))
 
 -- the lines of a pair of results, of which that in a1 is there
-abbrev two_rows : ℕ → CType → CType → List Row
+abbrev pub two_rows : ℕ → CType → CType → List Row
 two_rows number out0 out1 = Pair number ∷ Half 0 out0 ∷ Half 1 out1 ∷ Closed ∷ []
 
 two_rows-good : (count : ℕ) (f : CFunction) → IsFunction count f → All IsRow (two_rows f.number f.out0 f.out1)
@@ -97,17 +97,17 @@ two_rows-good count f good =
     (All-cons IsRow (Half 1 f.out1) (Closed ∷ []) (omega arith, good.out1) (All-cons IsRow Closed [] tt (All-nil IsRow))))
 
 -- a type is that of nothing, or of something
-nothing_or : (t : CType) → (t ≡ Unused) ⊎ IsPresent t
+pub nothing_or : (t : CType) → (t ≡ Unused) ⊎ IsPresent t
 nothing_or Unused = inl refl
 nothing_or (Scalar name bits) = inr tt
 nothing_or (Pointer n) = inr tt
 
-pair_rows-two : (number : ℕ) (out0 out1 : CType) → IsPresent out1 → pair_rows number out0 out1 ≡ two_rows number out0 out1
+pub pair_rows-two : (number : ℕ) (out0 out1 : CType) → IsPresent out1 → pair_rows number out0 out1 ≡ two_rows number out0 out1
 pair_rows-two number out0 Unused here = absurd here
 pair_rows-two number out0 (Scalar name bits) here = refl
 pair_rows-two number out0 (Pointer n) here = refl
 
-returns_of-both : (out0 out1 : CType) → IsPresent out1 → returns_of out0 out1 ≡ Both
+pub returns_of-both : (out0 out1 : CType) → IsPresent out1 → returns_of out0 out1 ≡ Both
 returns_of-both out0 Unused here = absurd here
 returns_of-both out0 (Scalar name bits) here = refl
 returns_of-both out0 (Pointer n) here = refl
@@ -275,10 +275,10 @@ one_double f h a b same =
 function_rows-cons : (f : CFunction) (rest : List Row) → function_rows f ++ rest ≡ pair_rows f.number f.out0 f.out1 ++ stated_row f ∷ rest
 function_rows-cons f rest = append_assoc (pair_rows f.number f.out0 f.out1) (stated_row f ∷ []) rest
 
-single_rows : (f : CFunction) (rest : List Row) → f.out1 ≡ Unused → function_rows f ++ rest ≡ stated_row f ∷ rest
+pub single_rows : (f : CFunction) (rest : List Row) → f.out1 ≡ Unused → function_rows f ++ rest ≡ stated_row f ∷ rest
 single_rows f rest none = function_rows-cons f rest ∙ ap (λ t. pair_rows f.number f.out0 t ++ stated_row f ∷ rest) none
 
-double_rows : (f : CFunction) (rest : List Row) → IsPresent f.out1 → function_rows f ++ rest ≡ two_rows f.number f.out0 f.out1 ++ stated_row f ∷ rest
+pub double_rows : (f : CFunction) (rest : List Row) → IsPresent f.out1 → function_rows f ++ rest ≡ two_rows f.number f.out0 f.out1 ++ stated_row f ∷ rest
 double_rows f rest some = function_rows-cons f rest ∙ ap (λ r. r ++ stated_row f ∷ rest) (pair_rows-two f.number f.out0 f.out1 some)
 
 one_function : (f h : CFunction) (a b : List Row) → function_rows f ++ a ≡ function_rows h ++ b → (f ≡ h) × (a ≡ b)

@@ -13,7 +13,9 @@ use Rattle.rt_cdecl.specs.Types.{IsType, IsWidth, IsTypedef}
 use Rattle.rt_cdecl.specs.Rows.{Row, Typedef, Named, Opened, Gap, Member, Closed, Pair, Half, Stated, Returns, Nothing, Value, Both, carrier_text, scalar_text, typedef_text, type_text, loc_text, arg_text, more_args_text, args_text, returns_text, row_text}
 use Rattle.rt_cdecl.specs.GoodDecls.{IsArgument, ArePlaced, place_of, AreArgs}
 use Rattle.rt_cdecl.specs.GoodRows.{IsReturned, IsRow}
-use Rattle.rt_cdecl.proofs.Clear.{HasNo-above, AreAbove-fixed, AreAbove-scalar, StopsDigits, one_number}
+use Rattle.rt_cdecl.specs.Guesses.{StopsDigits}
+use Rattle.rt_cdecl.proofs.Clear.{AreAbove-fixed, AreAbove-scalar, one_number}
+use Rattle.rt_texts.proofs.Clear.{HasNo-above}
 
 -- the last byte
 abbrev last_of : List ℕ → ℕ
@@ -26,13 +28,13 @@ last-append [] x xs = refl
 last-append (a ∷ []) x xs = refl
 last-append (a ∷ b ∷ more) x xs = last-append (b ∷ more) x xs
 
-decimal-8 : decimal 8 ≡ codes "8"
+pub decimal-8 : decimal 8 ≡ codes "8"
 decimal-8 = decimal_digit 8 (lit< tt)
 
-decimal-16 : decimal 16 ≡ codes "16"
+pub decimal-16 : decimal 16 ≡ codes "16"
 decimal-16 = decimal_step 16 (lit≤ tt) (lit< tt) ∙ ap (λ ds. ds ++ 54 ∷ []) (decimal_digit 1 (lit< tt))
 
-decimal-32 : decimal 32 ≡ codes "32"
+pub decimal-32 : decimal 32 ≡ codes "32"
 decimal-32 = decimal_step 32 (lit≤ tt) (lit< tt) ∙ ap (λ ds. ds ++ 50 ∷ []) (decimal_digit 3 (lit< tt))
 
 -- the last byte of a scalar's name
@@ -67,7 +69,7 @@ one_width bits width g h same = by (mark_is bits g) (mark_is width h)
     by (inr (inr (e, a))) (inr (inr (f, b))) = e ∙ sym f
 
 -- scalars
-one_tail : (name other : List ℕ) (bits width : ℕ) → IsWidth bits → IsWidth width → name ++ 95 ∷ decimal bits ≡ other ++ 95 ∷ decimal width → (name ≡ other) × (bits ≡ width)
+pub one_tail : (name other : List ℕ) (bits width : ℕ) → IsWidth bits → IsWidth width → name ++ 95 ∷ decimal bits ≡ other ++ 95 ∷ decimal width → (name ≡ other) × (bits ≡ width)
 one_tail name other bits width g h same =
     let marks : mark_of bits ≡ mark_of width = sym (last_scalar name bits g) ∙ (ap last_of same ∙ last_scalar other width h) in
     let wide : bits ≡ width = one_width bits width g h marks in
@@ -92,7 +94,7 @@ no_unused name bits g same =
 clear_unused : HasNo 32 (codes "rt_unused")
 clear_unused = HasNo-above 32 47 (codes "rt_unused") (omega arith) (AreAbove-fixed 47 (codes "rt_unused") refl)
 
-clear_scalar : (name : List ℕ) (bits : ℕ) → IsType (Scalar name bits) → HasNo 32 (scalar_text name bits)
+pub clear_scalar : (name : List ℕ) (bits : ℕ) → IsType (Scalar name bits) → HasNo 32 (scalar_text name bits)
 clear_scalar name bits good = HasNo-above 32 47 (scalar_text name bits) (omega arith) (AreAbove-scalar name bits good.0 good.1)
 
 no_unused_type : (name a b : List ℕ) (bits : ℕ) → IsType (Scalar name bits) → type_text Unused ++ a ≡ type_text (Scalar name bits) ++ b → ⊥
@@ -120,7 +122,7 @@ one_type (Pointer n) (Pointer m) a b g h same =
     ((λ i. Pointer (parts.0 i)), append_cancel_left (codes " *") a b parts.1)
 
 -- arguments at known places
-one_arg : (i : ℕ) (l m : Loc) (t u : CType) (a b : List ℕ) → l ≡ place_of i → m ≡ place_of i → IsType t → IsType u → arg_text (l, t) ++ a ≡ arg_text (m, u) ++ b → (l ≡ m) × (t ≡ u) × (a ≡ b)
+pub one_arg : (i : ℕ) (l m : Loc) (t u : CType) (a b : List ℕ) → l ≡ place_of i → m ≡ place_of i → IsType t → IsType u → arg_text (l, t) ++ a ≡ arg_text (m, u) ++ b → (l ≡ m) × (t ≡ u) × (a ≡ b)
 one_arg i l m t u a b at at' g h same =
     let place : l ≡ m = at ∙ sym at' in
     let parts = one_type t u (loc_text l ++ a) (loc_text m ++ b) g h (sym (append_assoc (type_text t) (loc_text l) a) ∙ (same ∙ append_assoc (type_text u) (loc_text m) b)) in
@@ -137,7 +139,7 @@ one_more i ((l, t) ∷ args) ((m, u) ∷ more) a b p q g h same =
     let rest = one_more (i + 1) args more a b p.1 q.1 (All-tail IsArgument (l, t) args g) (All-tail IsArgument (m, u) more h) first.2 in
     ((λ k. (first.0 k, first.1 k) ∷ rest.0 k), rest.1)
 
-no_void : (l : Loc) (t : CType) (more : List (Loc × CType)) (a b : List ℕ) → codes "void" ++ a ≡ (arg_text (l, t) ++ more_args_text more) ++ b → ⊥
+pub no_void : (l : Loc) (t : CType) (more : List (Loc × CType)) (a b : List ℕ) → codes "void" ++ a ≡ (arg_text (l, t) ++ more_args_text more) ++ b → ⊥
 no_void l Unused more a b same = let e : ◌≡◌ {A = ℕ} 118 114 = ap (λ s. get_or s 0 0) same in absurd (omega arith)
 no_void l (Scalar name bits) more a b same = let e : ◌≡◌ {A = ℕ} 118 114 = ap (λ s. get_or s 0 0) same in absurd (omega arith)
 no_void l (Pointer n) more a b same = let e : ◌≡◌ {A = ℕ} 118 115 = ap (λ s. get_or s 0 0) same in absurd (omega arith)
@@ -177,7 +179,7 @@ one_returns n m Both Both a b small less g h same =
     (refl, append_cancel_left (codes " ") a b parts.1)
 
 -- a function's line after what it gives
-abbrev stated_tail : ℕ → List (Loc × CType) → List ℕ
+abbrev pub stated_tail : ℕ → List (Loc × CType) → List ℕ
 stated_tail n args = codes "f" ++ (decimal n ++ (codes "(" ++ (args_text args ++ codes ");")))
 
 one_stated : (n m : ℕ) (args more : List (Loc × CType)) → IsNumber n → IsNumber m → AreArgs args → AreArgs more → stated_tail n args ≡ stated_tail m more → (n ≡ m) × (args ≡ more)
@@ -212,12 +214,12 @@ no_stated_pair Both n k a small less good begins same =
     absurd (omega arith)
 
 -- lines that begin with spaces
-no_gap : (t : CType) (a b : List ℕ) → codes "  " ++ (type_text t ++ a) ≡ codes "  unsigned char p" ++ b → ⊥
+pub no_gap : (t : CType) (a b : List ℕ) → codes "  " ++ (type_text t ++ a) ≡ codes "  unsigned char p" ++ b → ⊥
 no_gap Unused a b same = let e : ◌≡◌ {A = ℕ} 114 117 = ap (λ s. get_or s 2 0) same in absurd (omega arith)
 no_gap (Scalar name bits) a b same = let e : ◌≡◌ {A = ℕ} 114 117 = ap (λ s. get_or s 2 0) same in absurd (omega arith)
 no_gap (Pointer n) a b same = let e : ◌≡◌ {A = ℕ} 115 117 = ap (λ s. get_or s 2 0) same in absurd (omega arith)
 
-no_half : (t u : CType) (a b : List ℕ) → IsType t → IsType u → codes "  " ++ (type_text t ++ (codes "m" ++ a)) ≡ codes "  " ++ (type_text u ++ (codes "a" ++ b)) → ⊥
+pub no_half : (t u : CType) (a b : List ℕ) → IsType t → IsType u → codes "  " ++ (type_text t ++ (codes "m" ++ a)) ≡ codes "  " ++ (type_text u ++ (codes "a" ++ b)) → ⊥
 no_half t u a b g h same =
     let parts = one_type t u (codes "m" ++ a) (codes "a" ++ b) g h (append_cancel_left (codes "  ") _ _ same) in
     let e : ◌≡◌ {A = ℕ} 109 97 = ap (λ s. get_or s 0 0) parts.1 in
@@ -225,12 +227,12 @@ no_half t u a b g h same =
 
 -- lines of types
 
-clear_carrier : (bits : ℕ) → IsWidth bits → HasNo 32 (carrier_text bits)
+pub clear_carrier : (bits : ℕ) → IsWidth bits → HasNo 32 (carrier_text bits)
 clear_carrier bits (inl e) = rw e (HasNo-above 32 47 (codes "char") (omega arith) (AreAbove-fixed 47 (codes "char") refl))
 clear_carrier bits (inr (inl e)) = rw e (HasNo-above 32 47 (codes "short") (omega arith) (AreAbove-fixed 47 (codes "short") refl))
 clear_carrier bits (inr (inr e)) = rw e (HasNo-above 32 47 (codes "int") (omega arith) (AreAbove-fixed 47 (codes "int") refl))
 
-abbrev typedef_tail : List ℕ → ℕ → List ℕ
+abbrev pub typedef_tail : List ℕ → ℕ → List ℕ
 typedef_tail name bits = scalar_text name bits ++ codes ";"
 
 pub one_typedef : (t u : CType) → IsTypedef t → IsTypedef u → typedef_text t ≡ typedef_text u → t ≡ u
@@ -254,7 +256,7 @@ one_typedef (Scalar name bits) (Scalar other width) g h same =
     λ i. Scalar (one.0 i) (one.1 i)
 
 -- four groups of lines, told apart by their first bytes
-abbrev group_of : Row → ℕ
+abbrev pub group_of : Row → ℕ
 group_of (Typedef t) = 0
 group_of (Named n) = 3
 group_of (Opened n) = 3
@@ -265,10 +267,10 @@ group_of (Pair n) = 3
 group_of (Half r t) = 2
 group_of (Stated returns n args) = 3
 
-abbrev byte_group : ℕ → ℕ
+abbrev pub byte_group : ℕ → ℕ
 byte_group b = if b == 116 then 0 else if b == 125 then 1 else if b == 32 then 2 else 3
 
-row_group : (row : Row) → IsRow row → byte_group (get_or (row_text row) 0 0) ≡ group_of row
+pub row_group : (row : Row) → IsRow row → byte_group (get_or (row_text row) 0 0) ≡ group_of row
 row_group (Typedef Unused) good = refl
 row_group (Typedef (Scalar name bits)) good = refl
 row_group (Typedef (Pointer n)) good = absurd good

@@ -11,6 +11,13 @@ IsReturned Nothing = Unit {0}
 IsReturned (Value t) = IsWide t × IsPresent t
 IsReturned Both = Unit {0}
 
+-- a line that names or begins a struct, or begins a pair of results
+abbrev pub IsStructLine : Row → Type 0
+IsStructLine (Named n) = IsNumber n
+IsStructLine (Opened n) = IsNumber n
+IsStructLine (Pair n) = IsNumber n
+IsStructLine row = ⊥
+
 -- a line of such parts
 abbrev pub IsRow : Row → Type 0
 IsRow (Typedef t) = IsTypedef t

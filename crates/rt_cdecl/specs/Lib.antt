@@ -4,5 +4,8 @@ pub mod Texts
 pub mod GoodDecls
 pub mod GoodRows
 pub mod HeaderWords
+pub mod Guesses
+pub mod Drafts
 pub mod Laws
 pub mod Lines
+pub mod HeaderReadings

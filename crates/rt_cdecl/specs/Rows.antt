@@ -5,25 +5,10 @@ use Rattle.rt_lines.specs.declared.label.Loc.{Loc}
 use Rattle.rt_lines.specs.declared.label.Loc.TheVariants.{Arg, Stack}
 use Rattle.rt_cdecl.specs.declared.declarations.CType.{CType}
 use Rattle.rt_cdecl.specs.declared.declarations.CType.TheVariants.{Unused, Scalar, Pointer}
-use Rattle.rt_cdecl.specs.declared.declarations.CField.{CField}
-
--- what a function gives: nothing, the value in a0, or the pair of a0 and a1
-pub data Returns : Type 0 where
-  Nothing : Returns
-  Value : CType → Returns
-  Both : Returns
-
--- a line of a header
-pub data Row : Type 0 where
-  Typedef : CType → Row
-  Named : ℕ → Row
-  Opened : ℕ → Row
-  Gap : ℕ → ℕ → Row
-  Member : CField → Row
-  Closed : Row
-  Pair : ℕ → Row
-  Half : ℕ → CType → Row
-  Stated : Returns → ℕ → List (Loc × CType) → Row
+pub use Rattle.rt_cdecl.specs.declared.row.Returns.{Returns}
+pub use Rattle.rt_cdecl.specs.declared.row.Returns.TheVariants.{Nothing, Value, Both}
+pub use Rattle.rt_cdecl.specs.declared.row.Row.{Row}
+pub use Rattle.rt_cdecl.specs.declared.row.Row.TheVariants.{Typedef, Named, Opened, Gap, Member, Closed, Pair, Half, Stated}
 
 -- the C type that a scalar of so many bits stands for
 abbrev pub carrier_text : ℕ → List ℕ

@@ -9,13 +9,14 @@ ghost use Rattle.rt_cdecl.specs.Texts.{decls_text, fields_rows, function_rows, g
 ghost use Rattle.rt_cdecl.specs.GoodDecls.{FitFrom, IsGoodDecls, IsStruct};
 
 use crate::declarations::{CField, CFunction, CStruct, CType, Decls};
+use crate::row::{Returns, Row};
 use rt_base::Memory;
 use rt_lines::Loc;
 use rt_texts::print_number;
 use std::alloc::Global;
 
 // The width of a type in bytes.
-fn width(kind: &CType) -> u32
+pub fn width(kind: &CType) -> u32
     ensures { result ≡ bits_of kind.now / 8 }
 {
     match kind {
@@ -89,7 +90,7 @@ fn push_scalar_line(name: &[u8], bits: u8, out: &mut Vec<u8>) -> Result<(), Memo
 }
 
 // Adds the line of a type, without the line's end.
-pub(crate) fn push_typedef_text(kind: &CType, out: &mut Vec<u8>) -> Result<(), Memory>
+pub fn push_typedef_text(kind: &CType, out: &mut Vec<u8>) -> Result<(), Memory>
     ensures { OnOk result (out.new.items ≡ out.old.items ++ typedef_text kind.now) }
 {
     match kind {
@@ -252,14 +253,22 @@ fn push_args(args: &[(Loc, CType)], out: &mut Vec<u8>) -> Result<(), Memory>
     push_more_args(more, out)
 }
 
+// Adds what stands in a function's line after what it gives, with the line's end.
+fn push_after_returns(number: u32, args: &[(Loc, CType)], out: &mut Vec<u8>) -> Result<(), Memory>
+    ensures { OnOk result (out.new.items ≡ out.old.items ++
+        ((codes "f" ++ (decimal number ++ (codes "(" ++ (args_text args.now ++ codes ");")))) ++ 10 ∷ [])) }
+{
+    push_number(b"f", number, b"(", out)?;
+    push_args(args, out)?;
+    out.extend_from_slice(b");\n")
+}
+
 // Adds the line of a function alone.
 fn push_stated(function: &CFunction, out: &mut Vec<u8>) -> Result<(), Memory>
     ensures { OnOk result (out.new.items ≡ out.old.items ++ (row_text (stated_row function.now) ++ 10 ∷ [])) }
 {
     push_returns(function.number, &function.out0, &function.out1, out)?;
-    push_number(b"f", function.number, b"(", out)?;
-    push_args(function.args.items(), out)?;
-    out.extend_from_slice(b");\n")
+    push_after_returns(function.number, function.args.items(), out)
 }
 
 // Adds the lines of a function.
@@ -293,4 +302,53 @@ pub fn print(alloc: Global, decls: &Decls) -> Result<Vec<u8>, Memory>
     push_structs(decls.structs.items(), &mut text)?;
     push_functions(decls.functions.items(), &mut text)?;
     Ok(text)
+}
+
+// Adds what a function of this number gives.
+fn push_given(number: u32, returns: &Returns, out: &mut Vec<u8>) -> Result<(), Memory>
+    ensures { OnOk result (out.new.items ≡ out.old.items ++ returns_text number returns.now) }
+{
+    match returns {
+        Returns::Nothing => out.extend_from_slice(b"void "),
+        Returns::Value(kind) => push_type(kind, out),
+        Returns::Both => push_number(b"struct r", number, b" ", out),
+    }
+}
+
+// Adds the line of a function.
+fn push_function_line(
+    returns: &Returns,
+    number: u32,
+    args: &[(Loc, CType)],
+    out: &mut Vec<u8>,
+) -> Result<(), Memory>
+    ensures { OnOk result (out.new.items ≡ out.old.items ++ (row_text (Stated returns.now number args.now) ++ 10 ∷ [])) }
+{
+    push_given(number, returns, out)?;
+    push_after_returns(number, args, out)
+}
+
+// Adds the line of a gap of so many bytes.
+fn push_gap_line(from: u32, count: u32, out: &mut Vec<u8>) -> Result<(), Memory>
+    ensures { OnOk result (out.new.items ≡ out.old.items ++ (row_text (Gap from count) ++ 10 ∷ [])) }
+{
+    push_number(b"  unsigned char p", from, b"[", out)?;
+    push_number(b"", count, b"];\n", out)
+}
+
+// Adds a line, with its line end.
+pub fn push_row(row: &Row, out: &mut Vec<u8>) -> Result<(), Memory>
+    ensures { OnOk result (out.new.items ≡ out.old.items ++ (row_text row.now ++ 10 ∷ [])) }
+{
+    match row {
+        Row::Typedef(kind) => push_typedef(kind, out),
+        Row::Named(n) => push_number(b"struct s", *n, b";\n", out),
+        Row::Opened(n) => push_number(b"struct s", *n, b" {\n", out),
+        Row::Gap(from, count) => push_gap_line(*from, *count, out),
+        Row::Member(field) => push_field(field, out),
+        Row::Closed => out.extend_from_slice(b"};\n"),
+        Row::Pair(n) => push_number(b"struct r", *n, b" {\n", out),
+        Row::Half(r, kind) => push_half(*r, kind, out),
+        Row::Stated(returns, n, args) => push_function_line(returns, *n, args.items(), out),
+    }
 }

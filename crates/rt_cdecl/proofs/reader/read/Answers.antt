@@ -1,0 +1,49 @@
+use Rattle.std.proofs.Common.{◌≡◌, ◌+◌, inr, subst, sym}
+use Rattle.rt_cdecl.specs.declared.declarations.Decls.{Decls}
+use Rattle.rt_cdecl.specs.Texts.{decls_text}
+use Rattle.rt_cdecl.specs.GoodDecls.{IsGoodDecls}
+use Rattle.rt_cdecl.specs.Drafts.{Parts, with_row, Fits}
+use Rattle.rt_cdecl.proofs.Headers.{IsRead, read_more, unread_line, refused_line, cut_line, unfinished_text, whole_text, no_header, told_bad, told_yes, told_no, some_rest, no_rest}
+use Rattle.rt_cdecl.proofs.reader.read.Goals as goal
+
+pub returns-in-Err-BadText-clause-place : goal.returns-in-Err-BadText-clause-place
+returns-in-Err-BadText-clause-place c =
+    unread_line _ _ _ _ _ _ c.loop-line.invariant c.in-Some.ensures (told_bad c.in-Err-BadText.field-0 _ c.in-Err-BadText.field-0-is c.in-Err-BadText.ensures)
+
+pub returns-in-Err-BadText-clause-refused : goal.returns-in-Err-BadText-clause-refused
+returns-in-Err-BadText-clause-refused c = inr (no_header _ _ (returns-in-Err-BadText-clause-place c))
+
+pub returns-in-Ok-false-clause-place : goal.returns-in-Ok-false-clause-place
+returns-in-Ok-false-clause-place c =
+    refused_line c.args.text.now c.loop-line.draft c.loop-line.rest.now c.loop-line.number c.in-Some.line.now c.in-Some.more.now c.in-Ok.row c.loop-line.invariant c.in-Some.ensures c.in-Ok.ensures.0 c.in-Ok.ensures.1
+    (told_no {P = Fits c.loop-line.draft c.in-Ok.row} c.in-Ok-false.field-0 c.in-Ok-false.field-0-test c.in-Ok-false.ensures)
+
+pub returns-in-Ok-false-clause-refused : goal.returns-in-Ok-false-clause-refused
+returns-in-Ok-false-clause-refused c = inr (no_header _ _ (returns-in-Ok-false-clause-place c))
+
+pub loop-line-preserved : goal.loop-line-preserved
+loop-line-preserved c =
+    let next : c.in-Some-checked_add.next ≡ c.loop-line.number + 1 = (c.in-Some-checked_add.ensures {u = tt}).1 in
+    subst (λ (p : Parts). IsRead c.args.text.now p c.in-Some.more.now c.in-Some-checked_add.next) (sym c.in-Ok-with.ensures)
+    (subst (IsRead c.args.text.now (with_row c.loop-line.draft c.in-Ok.row) c.in-Some.more.now) (sym next)
+    (read_more c.args.text.now c.loop-line.draft c.loop-line.rest.now c.loop-line.number c.in-Ok.row c.in-Some.line.now c.in-Some.more.now c.loop-line.invariant c.in-Some.ensures c.in-Ok.ensures.0 c.in-Ok.ensures.1
+    (told_yes {P = Fits c.loop-line.draft c.in-Ok.row} c.in-Ok-true.field-0 c.in-Ok-true.field-0-test c.in-Ok-true.ensures)))
+
+pub returns-then-not-is_empty-clause-place : goal.returns-then-not-is_empty-clause-place
+returns-then-not-is_empty-clause-place c =
+    cut_line c.args.text.now c.loop-line.draft c.loop-line.rest.now c.loop-line.number c.loop-line.invariant c.in_default.ensures (some_rest c.loop-line.rest.now c.if-not-is_empty.ensures)
+
+pub returns-then-not-is_empty-clause-refused : goal.returns-then-not-is_empty-clause-refused
+returns-then-not-is_empty-clause-refused c = inr (no_header _ _ (returns-then-not-is_empty-clause-place c))
+
+pub returns-in-Some-finish-clause-read : goal.returns-in-Some-finish-clause-read
+returns-in-Some-finish-clause-read c =
+    subst (λ (d : Decls). IsGoodDecls d × (decls_text d ≡ c.args.text.now)) (sym c.in-Some-finish.ensures.1)
+    (whole_text c.args.text.now c.loop-line.draft c.loop-line.rest.now c.loop-line.number c.loop-line.invariant (no_rest c.loop-line.rest.now c.if-not-is_empty.ensures) c.in-Some-finish.ensures.0)
+
+pub returns-in-None-clause-place : goal.returns-in-None-clause-place
+returns-in-None-clause-place c =
+    unfinished_text c.args.text.now c.loop-line.draft c.loop-line.rest.now c.loop-line.number c.loop-line.invariant c.in_default.ensures c.in-None.ensures
+
+pub returns-in-None-clause-refused : goal.returns-in-None-clause-refused
+returns-in-None-clause-refused c = inr (no_header _ _ (returns-in-None-clause-place c))
