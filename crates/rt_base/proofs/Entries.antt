@@ -25,7 +25,7 @@ ends fault at n k list first all going h =
     let e : n - k ≡ 0 = omega arith in
     (rw (going.faults, e) refl, rw (← going.values, e, append-nil) refl)
 
-then_of-none : {F : Type 0} (a b : Option F) → then_of a b ≡ None → (a ≡ None) × (b ≡ None)
+pub then_of-none : {F : Type 0} (a b : Option F) → then_of a b ≡ None → (a ≡ None) × (b ≡ None)
 then_of-none None b e = (refl, e)
 then_of-none (Some f) b e = cc
 

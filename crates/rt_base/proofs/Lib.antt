@@ -1,3 +1,5 @@
 pub mod Entries
 pub mod Lists
 pub mod Booleans
+pub mod Numbers
+pub mod Options

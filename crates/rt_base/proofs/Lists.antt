@@ -1,11 +1,14 @@
 -- Elements of lists, and places in them.
-use Rattle.std.proofs.Common.{◌≡◌, ℕ, ◌<◌, ◌≤◌, Bool, true, false, cond, nat_lt, zero, suc, ◌⊎◌, inl, inr, Some, None, List, [], ◌∷◌, ◌++◌, map, flat_map, length, not, unwrap_or, position, get_or, ◌+◌, All, Contains, refl, sym, ap, subst, ◌∙◌, true≢false, arith}
-use Rattle.std.proofs.lemmas.List.{get_or_default}
-use Rattle.std.specs.List.{list_all, list_any, position_or_len, prefix_len}
+use Rattle.std.proofs.Common.{◌≡◌, ℕ, ◌<◌, ◌≤◌, Bool, true, false, cond, nat_lt, zero, suc, ◌⊎◌, inl, inr, Some, None, List, [], ◌∷◌, ◌++◌, map, flat_map, length, not, unwrap_or, position, get_or, ◌+◌, All, Contains, refl, sym, ap, subst, ◌∙◌, true≢false, arith, filter, Option, length-append, take}
+use Rattle.std.proofs.lemmas.List.{get_or_default, get_or_append_left, get_or_push, take_more}
+use Rattle.std.specs.List.{list_all, list_any, position_or_len, prefix_len, slice_get}
 use Rattle.std.proofs.lemmas.List.Elements.{All-nil, All-cons, All-head, All-tail, Contains-get_or, Contains-append_left, Contains-append_right, Contains-append_cases}
 use Rattle.std.proofs.lemmas.List.Sums.{prefix_len-le-length}
-use Rattle.std.proofs.lemmas.Bool.{and_from, and_parts, or_cases, or_left, or_right, false≢true}
+use Rattle.std.proofs.lemmas.Bool.{and_from, and_parts, or_cases, or_left, or_right, false≢true, cases_Bool}
 use Rattle.std.proofs.lemmas.Bool.Decides.{nat_tests}
+use Rattle.std.proofs.lemmas.Option.{slice_get-get_or, slice_get_within, get_or_from_slice_get}
+use Rattle.std.specs.Prelude.{nat_eq}
+use Rattle.rt_base.proofs.Numbers.{nat_same, nat_itself}
 
 pub Contains-none : {X : Type 0} (x : X) → Contains [] x → ⊥
 Contains-none x h = let lt = h.1 in omega arith
@@ -128,3 +131,100 @@ module _ {X : Type 0} (eq : X → X → Bool) (same : (x y : X) → eq x y ≡ t
   -- two elements with one place are one
   pub position_or_len-one_to_one : (xs : List X) (x y : X) → Contains xs x → Contains xs y → position_or_len (eq x) xs ≡ position_or_len (eq y) xs → x ≡ y
   position_or_len-one_to_one xs x y c d e = sym (get_or-position_or_len xs x x c) ∙ ap (λ i. get_or xs i x) e ∙ get_or-position_or_len xs y x d
+
+pub filter-has : {X : Type 0} (test : X → Bool) (xs : List X) (x : X) → Contains xs x → test x ≡ true → Contains (filter test xs) x
+filter-has test [] x h e = absurd (Contains-none x h)
+filter-has test (y ∷ ys) x h e = elim (Contains-cons_cases y ys x h) [
+  | inl same ↦ let pass : test y ≡ true = ap test same ∙ e in rw pass (subst (Contains (y ∷ filter test ys)) same (Contains-here y (filter test ys)))
+  | inr later ↦ elim (cases_Bool (test y)) [
+    | inl pass ↦ rw pass (Contains-there y (filter test ys) x (filter-has test ys x later e))
+    | inr fail ↦ rw fail (filter-has test ys x later e)
+  ]
+]
+
+pub filter-source : {X : Type 0} (test : X → Bool) (xs : List X) (x : X) → Contains (filter test xs) x → Contains xs x × (test x ≡ true)
+filter-source test [] x h = absurd (Contains-none x h)
+filter-source test (y ∷ ys) x h = elim (cases_Bool (test y)) [
+  | inl pass ↦ elim (Contains-cons_cases y (filter test ys) x (rw pass at h)) [
+    | inl same ↦ (subst (Contains (y ∷ ys)) same (Contains-here y ys), ap test (sym same) ∙ pass)
+    | inr later ↦ let rest = filter-source test ys x later in (Contains-there y ys x rest.0, rest.1)
+  ]
+  | inr fail ↦ let rest = filter-source test ys x (rw fail at h) in (Contains-there y ys x rest.0, rest.1)
+]
+
+pub map-push : {X Y : Type 0} (f : X → Y) (xs : List X) (x : X) → map f (xs ++ x ∷ []) ≡ map f xs ++ f x ∷ []
+map-push f [] x = refl
+map-push f (y ∷ xs) x = ap (λ ys. f y ∷ ys) (map-push f xs x)
+
+pub All-at : {X : Type 0} (P : X → Type 0) (xs : List X) (k : ℕ) (x : X) → All P xs → slice_get xs k ≡ Some x → P x
+All-at P [] k x h e = cc
+All-at {X} P (y ∷ xs) zero x h e = subst P (the e) (All-head P y xs h)
+  where
+    the : ◌≡◌ {A = Option X} (Some y) (Some x) → y ≡ x
+    the e = cc
+All-at P (y ∷ xs) (suc k) x h e = All-at P xs k x (All-tail P y xs h) e
+
+pub Contains-at : (row : List ℕ) (i : ℕ) → i < length row → Contains row (get_or row i 0)
+Contains-at row i h = (i, h, get_or_default row i (get_or row i 0) 0 h)
+
+pub found_from : (keys : List ℕ) (n : ℕ) → list_any (nat_eq n) keys ≡ true → Contains keys n
+found_from keys n e = let there : (x : ℕ) × Contains keys x × (nat_eq n x ≡ true) = list_any-at (nat_eq n) keys e in subst (Contains keys) (sym (nat_same n there.0 there.2)) there.1
+
+pub found_to : (keys : List ℕ) (n : ℕ) → Contains keys n → list_any (nat_eq n) keys ≡ true
+found_to keys n c = list_any-from (nat_eq n) keys n c (nat_itself n)
+
+pub past_end : (xs : List ℕ) (i : ℕ) → slice_get xs i ≡ None → length xs ≤ i
+past_end xs i e = elim (below i (length xs)) [ inl h ↦ absurd (let f : Some (get_or xs i 0) ≡ None = sym (slice_get-get_or xs i 0 h) ∙ e in cc) | inr h ↦ h ]
+  where
+    below : (i n : ℕ) → (i < n) ⊎ (n ≤ i)
+    below i n = grind arith
+
+pub slice_get-front : {X : Type 0} (xs ys : List X) (j : ℕ) (p : X) → slice_get xs j ≡ Some p → slice_get (xs ++ ys) j ≡ Some p
+slice_get-front xs ys j p e =
+    let less = slice_get_within xs j p e in
+    let long : j < length (xs ++ ys) = omega (arith, less, length-append xs ys) in
+    slice_get-get_or (xs ++ ys) j p long ∙ ap Some (get_or_append_left xs ys p j less ∙ get_or_from_slice_get xs j p p e)
+
+pub slice_get-last : {X : Type 0} (xs : List X) (p : X) → slice_get (xs ++ p ∷ []) (length xs) ≡ Some p
+slice_get-last xs p =
+    let long : length xs < length (xs ++ p ∷ []) = omega (arith, length-append xs (p ∷ [])) in
+    slice_get-get_or (xs ++ p ∷ []) (length xs) p long ∙ ap Some (get_or_push xs p p (length xs) refl)
+
+pub take-next : {X : Type 0} (xs : List X) (i : ℕ) (x : X) → i < length xs → x ≡ get_or xs i x → take (i + 1) xs ≡ take i xs ++ x ∷ []
+take-next xs i x h e = take_more xs i x h ∙ ap (λ y. take i xs ++ y ∷ []) (sym e)
+
+pub Contains-middle : {X : Type 0} (before : List X) (x : X) (after : List X) → Contains (before ++ x ∷ after) x
+Contains-middle before x after = Contains-append_right before (x ∷ after) x (Contains-here x after)
+
+pub Contains-wider : {X : Type 0} (before : List X) (x : X) (after : List X) (y : X) → Contains (before ++ after) y → Contains (before ++ x ∷ after) y
+Contains-wider before x after y c = by (Contains-append_cases before after y c)
+  where
+    by : Contains before y ⊎ Contains after y → Contains (before ++ x ∷ after) y
+    by (inl d) = Contains-append_left before (x ∷ after) y d
+    by (inr d) = Contains-append_right before (x ∷ after) y (Contains-there x after y d)
+
+pub Contains-middle_cases : {X : Type 0} (before : List X) (x : X) (after : List X) (y : X) → Contains (before ++ x ∷ after) y → (x ≡ y) ⊎ Contains (before ++ after) y
+Contains-middle_cases before x after y c = by (Contains-append_cases before (x ∷ after) y c)
+  where
+    last : (x ≡ y) ⊎ Contains after y → (x ≡ y) ⊎ Contains (before ++ after) y
+    last (inl e) = inl e
+    last (inr d) = inr (Contains-append_right before after y d)
+
+    by : Contains before y ⊎ Contains (x ∷ after) y → (x ≡ y) ⊎ Contains (before ++ after) y
+    by (inl d) = inr (Contains-append_left before after y d)
+    by (inr d) = last (Contains-cons_cases x after y d)
+
+pub map-map : {A B C : Type 0} (f : A → B) (g : B → C) (xs : List A) → map g (map f xs) ≡ map (λ x. g (f x)) xs
+map-map f g [] = refl
+map-map f g (x ∷ xs) = ap (λ ys. g (f x) ∷ ys) (map-map f g xs)
+
+pub Contains-push_cases : {X : Type 0} (xs : List X) (x y : X) → Contains (xs ++ x ∷ []) y → Contains xs y ⊎ (x ≡ y)
+Contains-push_cases xs x y c = by (Contains-append_cases xs (x ∷ []) y c)
+  where
+    last : (x ≡ y) ⊎ Contains [] y → x ≡ y
+    last (inl e) = e
+    last (inr d) = absurd (Contains-none y d)
+
+    by : Contains xs y ⊎ Contains (x ∷ []) y → Contains xs y ⊎ (x ≡ y)
+    by (inl d) = inl d
+    by (inr d) = inr (last (Contains-cons_cases x [] y d))

@@ -3,30 +3,27 @@ use Rattle.std.proofs.Common.{◌≡◌, ℕ, ◌+◌, ◌<◌, ◌≤◌, ◌�
 use Rattle.std.specs.Prelude.{unwrap_or, position, slice_index}
 use Rattle.std.specs.List.{position_or_len}
 use Rattle.std.specs.Option.{option_or}
-use Rattle.std.proofs.lemmas.Bool.{ltb-false, cases_lt}
+use Rattle.std.proofs.lemmas.Bool.{ltb-false, cases_lt, cases_Bool}
 use Rattle.std.proofs.lemmas.Bool.Decides.{nat_tests}
 use Rattle.std.proofs.lemmas.List.{take_more, get_or-take, length-take-le, get_or_default, get_or_past, get_or_push, get_or_append_left, length-append}
 use Rattle.std.proofs.lemmas.List.Folds.{position_or_len_push}
 use Rattle.std.proofs.lemmas.List.Quantifiers.{position-Some}
 use Rattle.std.proofs.lemmas.List.Sums.{position_or_len_is, fails_before_first, prefix_len-le-length}
-use Rattle.rt_elf.proofs.Booleans.{cases_bool}
 use Rattle.rt_elf.specs.Parts.{Parts as Object}
 use Rattle.rt_elf.specs.declared.symbol.Symbol.{Symbol}
 use Rattle.rt_elf.specs.Symbols.{zero_symbol}
 use Rattle.rt_link.specs.Effects.{is_place}
 use Rattle.rt_link.specs.declared.place.Place.{Place}
 use Rattle.rt_proc.specs.Entries.{has_no_section, place_of}
-use Rattle.rt_proc.proofs.PlaceLaws.{is_place-self}
 use Rattle.rt_body.specs.Symbols.{lowest}
+use Rattle.rt_link.proofs.Naming.{is_place-self}
+use Rattle.rt_proc.proofs.Ended.{eq-self}
 
 is_less : (m n : ℕ) → m < n → nat_lt m n ≡ true
 is_less m n h = grind (arith, nat_tests)
 
 not_less : (m n : ℕ) → n ≤ m → nat_lt m n ≡ false
 not_less m n h = grind (arith, nat_tests)
-
-is_same : (m n : ℕ) → m ≡ n → (m == n) ≡ true
-is_same m n h = grind (arith, nat_tests)
 
 not_same : (m n : ℕ) → m < n → (m == n) ≡ false
 not_same m n h = grind (arith, nat_tests)
@@ -37,12 +34,12 @@ pushed n p pass within = by (cases_lt p n) pass
   where
     by : (p < n) ⊎ (n ≤ p) → (pass : Bool) → cond (nat_lt (cond (p == n) (n + cond pass 0 1) p) (n + 1)) (Some (cond (p == n) (n + cond pass 0 1) p)) None ≡ option_or (cond (nat_lt p n) (Some p) None) (if pass then Some n else None)
     by (inl h) pass = rw (not_same p n h, is_less p n h, is_less p (n + 1) (omega arith)) refl
-    by (inr h) true = rw (is_same p n (omega arith), not_less p n h, is_less (n + 0) (n + 1) (omega arith)) (ap Some (omega arith))
-    by (inr h) false = rw (is_same p n (omega arith), not_less p n h, not_less (n + 1) (n + 1) (omega arith)) refl
+    by (inr h) true = rw (eq-self p n (omega arith), not_less p n h, is_less (n + 0) (n + 1) (omega arith)) (ap Some (omega arith))
+    by (inr h) false = rw (eq-self p n (omega arith), not_less p n h, not_less (n + 1) (n + 1) (omega arith)) refl
 
 module _ {X : Type 0} (test : X → Bool) where
   position-none : (xs : List X) (k : ℕ) (d : X) → position test xs ≡ None → k < length xs → test (get_or xs k d) ≡ false
-  position-none xs k d none less = elim (cases_bool (nat_lt (position_or_len test xs) (length xs))) [
+  position-none xs k d none less = elim (cases_Bool (nat_lt (position_or_len test xs) (length xs))) [
     | inl e ↦ let no : Some (position_or_len test xs) ≡ None = rw e at none in cc
     | inr e ↦ fails_before_first test xs k d (let h = ltb-false _ _ e in omega arith)
   ]

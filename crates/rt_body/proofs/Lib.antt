@@ -1,4 +1,4 @@
-mod Within
+pub mod Within
 mod Firsts
 pub mod Numbering
 mod Ranging

@@ -16,10 +16,11 @@ use Rattle.rt_flow.specs.Bodies.{Body}
 use Rattle.rt_proc.specs.Order.{AreRising, place_cmp}
 use Rattle.rt_proc.specs.Sites.{number_of}
 use Rattle.rt_proc.proofs.Numbered.{found, missed}
-use Rattle.rt_proc.proofs.PlaceLaws.{is_place-laws, is_place-self}
+use Rattle.rt_proc.proofs.PlaceLaws.{is_place-laws}
 use Rattle.rt_body.specs.declared.action.Action.{Action}
 use Rattle.rt_body.specs.Actions.{defined_by}
 use Rattle.rt_body.specs.Readings.{number_at, edges_from, definitions_from, action_at}
+use Rattle.rt_link.proofs.Naming.{is_place-self}
 
 number_is : (places : List Place) (p : Place) → number_of places p ≡ number_at places p
 number_is places p = is_position_or_len (λ (xs : List Place). number_of xs p) (is_place p) refl step places

@@ -3,7 +3,6 @@ use Rattle.std.proofs.Common.{◌≡◌, ℕ, ◌<◌, ◌==◌, inl, inr, List,
 use Rattle.std.specs.Prelude.{All, ℤ}
 use Rattle.std.proofs.lemmas.List.Elements.{All-nil, All-cons, All-append, All-map, All-from_recursion}
 use Rattle.rt_elf.specs.Parts.{Parts as Object}
-use Rattle.rt_elf.proofs.Booleans.{cases_bool}
 use Rattle.rt_insn.specs.declared.insn.Insn.{Insn}
 use Rattle.rt_insn.specs.declared.insn.Insn.TheVariants.{Lui, Auipc, Jal, Jalr, Beq, Bne, Blt, Bge, Bltu, Bgeu, Lb, Lh, Lw, Lbu, Lhu, Sb, Sh, Sw, Addi, Slti, Sltiu, Xori, Ori, Andi, Slli, Srli, Srai, Add, Sub, Sll, Slt, Sltu, Xor, Srl, Sra, Or, And, Mul, Mulh, Mulhsu, Mulhu, Div, Divu, Rem, Remu, Fence, Ecall, Ebreak}
 use Rattle.rt_insn.specs.Range.{HasRange}
@@ -28,6 +27,7 @@ use Rattle.rt_body.specs.Actions.{address_by, add_action, upper_action, insn_act
 use Rattle.rt_body.specs.Readable.{IsKindInRange, IsReadable, IsLawOfProcs, HasOpRegisters}
 use Rattle.rt_body.specs.Registers.{HasAddressRegister, HasRegisters}
 use Rattle.rt_body.specs.Symbols.{lowest}
+use Rattle.std.proofs.lemmas.Bool.{cases_Bool}
 
 kind_in_range : (object : Object) (count : ℕ) (k : Kind) → IsKind object count k → IsKindInRange k
 kind_in_range object count (kind.Plain insn) h = h
@@ -48,7 +48,7 @@ abbrev IsRegister : ℕ → Type 0
 IsRegister register = register < 32
 
 written_within : (to : ℕ) → to < 32 → All IsRegister (written to)
-written_within to h = elim (cases_bool (to == 0)) [ inl e ↦ rw e (All-nil IsRegister) | inr e ↦ rw e (All-cons IsRegister to [] h (All-nil IsRegister)) ]
+written_within to h = elim (cases_Bool (to == 0)) [ inl e ↦ rw e (All-nil IsRegister) | inr e ↦ rw e (All-cons IsRegister to [] h (All-nil IsRegister)) ]
 
 own_named : (o : Op) → o ≡ op.Own → NamesRegisters o
 own_named o is = subst NamesRegisters (sym is) (λ r none. absurd none)

@@ -10,6 +10,7 @@ use Rattle.rt_bridge.specs.Counted.{bit, differ, IsEven, State, st, IsPointer, P
 use Rattle.rt_bridge.proofs.Growing.{e4, q1, q2, q3, q4, q5, s1, s2, s3, s6, both, prefix, same_rest, Turned, below_rest}
 use Rattle.rt_bridge.proofs.Bridges.{pointer_same, bridge_same, differ-times, bridge_even, bits_keep}
 use Rattle.rt_bridge.proofs.Eliminating.{le_or}
+use Rattle.rt_base.proofs.Booleans.{same_truth}
 
 -- numbers by their lowest bit
 pub record Halved (m : ℕ) : Type 0 where
@@ -17,7 +18,7 @@ pub record Halved (m : ℕ) : Type 0 where
   half_of : ℕ
   whole : m ≡ bit low + (half_of + half_of)
 
-next_by : (m h : ℕ) (a : Variance) → m ≡ bit a + (h + h) → Halved (suc m)
+pub next_by : (m h : ℕ) (a : Variance) → m ≡ bit a + (h + h) → Halved (suc m)
 next_by m h Co e = record { low = Contra; half_of = suc h; whole = omega arith }
 next_by m h Contra e = record { low = Co; half_of = h; whole = omega arith }
 
@@ -38,13 +39,13 @@ letter_for Co Contra = Store
 letter_for Contra Co = Store
 letter_for Contra Contra = Load
 
-letter_for-bit : (c s : Variance) → times (label_variance (letter_for c s)) s ≡ c
+pub letter_for-bit : (c s : Variance) → times (label_variance (letter_for c s)) s ≡ c
 letter_for-bit Co Co = refl
 letter_for-bit Co Contra = refl
 letter_for-bit Contra Co = refl
 letter_for-bit Contra Contra = refl
 
-letter_for-pointer : (c s : Variance) → IsPointer (letter_for c s)
+pub letter_for-pointer : (c s : Variance) → IsPointer (letter_for c s)
 letter_for-pointer Co Co = tt
 letter_for-pointer Co Contra = tt
 letter_for-pointer Contra Co = tt
@@ -100,11 +101,6 @@ is_pointer (Field wide off) = false
 is_pointer (In loc) = false
 is_pointer (Out n) = false
 
-pub bool_same : (a b : Bool) → (a ≡ true → b ≡ true) → (b ≡ true → a ≡ true) → a ≡ b
-bool_same true b f g = sym (f refl)
-bool_same false true f g = g refl
-bool_same false false f g = refl
-
 module _ (fl : Var → Bool) where
   abbrev pub place : Var → Label → Bool
   place x l = cond (is_pointer l) (fl x) false
@@ -147,7 +143,7 @@ module _ (fl : Var → Bool) where
 
   module _ (L : Given) (yes : (x : Var) → fl x ≡ true → Flip L x) (no : (x : Var) → Flip L x → fl x ≡ true) where
     pub fl_class : (x y : Var) → Der L (E x y) → fl x ≡ fl y
-    fl_class x y e = bool_same (fl x) (fl y)
+    fl_class x y e = same_truth (fl x) (fl y)
         (λ h. no y (e4 Load e (yes x h).0, e4 Store e (yes x h).1))
         (λ h. no x (e4 Load (q3 e) (yes y h).0, e4 Store (q3 e) (yes y h).1))
 

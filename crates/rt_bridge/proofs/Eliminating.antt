@@ -121,7 +121,7 @@ more L P Q f (down m) = down m
 more L P Q f (join b c) = join (more L P Q f b) (more L P Q f c)
 more L P Q f (push p q v w b s) = push (f _ p) (f _ q) v w (more L P Q f b) s
 
-wider : (M : Var → Type 0) (n m : ℕ) → n ≤ m → (x : Var) → Upto M n x → Upto M m x
+pub wider : (M : Var → Type 0) (n m : ℕ) → n ≤ m → (x : Var) → Upto M n x → Upto M m x
 wider M n m h x (named p) = named p
 wider M n m h x (short p) = short (omega arith)
 
@@ -148,7 +148,7 @@ le_or zero m = inl (omega arith)
 le_or (suc n) zero = inr (omega arith)
 le_or (suc n) (suc m) = elim (le_or n m) [ inl h ↦ inl (omega arith) | inr h ↦ inr (omega arith) ]
 
-upto_by : (M : Var → Type 0) (n : ℕ) (x : Var) → M x ⊎ (M x → ⊥) → (size x ≤ n) ⊎ (suc n ≤ size x) → Upto M n x ⊎ (Upto M n x → ⊥)
+pub upto_by : (M : Var → Type 0) (n : ℕ) (x : Var) → M x ⊎ (M x → ⊥) → (size x ≤ n) ⊎ (suc n ≤ size x) → Upto M n x ⊎ (Upto M n x → ⊥)
 upto_by M n x (inl p) h = inl (named p)
 upto_by M n x (inr f) (inl h) = inl (short h)
 upto_by M n x (inr f) (inr h) = inr (λ u. elim u [ named p ↦ f p | short h' ↦ omega arith ])

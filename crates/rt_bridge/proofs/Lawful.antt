@@ -10,7 +10,7 @@ use Rattle.rt_bridge.proofs.Exact.{exact}
 use Rattle.rt_bridge.proofs.Tables.{covered, way_bridge}
 use Rattle.rt_bridge.proofs.Bounds.{low_of, low_from, up_of, up_from}
 
-decide : (b : Bool) → IsTrue b ⊎ (IsTrue b → ⊥)
+pub decide : (b : Bool) → IsTrue b ⊎ (IsTrue b → ⊥)
 decide true = inl refl
 decide false = inr (λ e. cc)
 

@@ -20,6 +20,8 @@ use Rattle.rt_bridge.proofs.Bridges.{pointer_same}
 use Rattle.rt_bridge.proofs.Chains.{is_pointer}
 use Rattle.rt_bridge.proofs.Trees.{V as Is, E as One, S as Less, Lo, Hi, Fact as Shown, Tree, e1, e2, e3a, e3b, e4, q0, q1, q2, q3, q4, q5, s1, s2, s3, s4, s5, s6, c1l, c1u, c2, c3, tree}
 use Rattle.rt_chain.specs.Numbers.{AreVars}
+use Rattle.rt_lines.proofs.Same.{label_self, base_self}
+use Rattle.std.proofs.lemmas.Bool.{and_parts}
 
 -- a word is in the list
 pub data Has : List (List Label) → List Label → Type 0 where
@@ -61,12 +63,6 @@ alike ws l = cond (is_pointer l && has_both ws) is_pointer (label_eq l)
 abbrev pub follow : List Line → Var → List (List Label)
 follow lines (at b) = words b lines
 follow lines (dot x l) = tails (alike (follow lines x) l) (follow lines x)
-
-label_self : (l : Label) → label_eq l l ≡ true
-label_self l = (label_laws.laws-law).refl l
-
-base_self : (b : Base) → base_eq b b ≡ true
-base_self b = (base_laws.laws-law).refl b
 
 some_word : (ws : List (List Label)) → is_some_word ws ≡ true → (w : List Label) × Has ws w
 some_word [] e = absurd (cc)
@@ -147,10 +143,6 @@ words_to : (lines : List Line) (x : Dtv) → Contains lines (VarLine x) → Has 
 words_to [] x c = absurd (Contains-none (VarLine x) c)
 words_to (l ∷ ls) x c = words_to_by l ls x (λ k. words_to ls x k) (Contains-cons_cases l ls (VarLine x) c)
 
-and_true : (a b : Bool) → (a && b) ≡ true → (a ≡ true) × (b ≡ true)
-and_true true b e = (refl, e)
-and_true false b e = absurd (cc)
-
 pointer_is : (l : Label) → is_pointer l ≡ true → IsPointer l
 pointer_is Load e = tt
 pointer_is Store e = tt
@@ -173,7 +165,7 @@ alike_self : (ws : List (List Label)) (l : Label) → alike ws l l ≡ true
 alike_self ws l = by (is_pointer l && has_both ws) refl
   where
     by : (b : Bool) → (is_pointer l && has_both ws) ≡ b → cond b is_pointer (label_eq l) l ≡ true
-    by true e = (and_true (is_pointer l) (has_both ws) e).0
+    by true e = (and_parts (is_pointer l) (has_both ws) e).0
     by false e = label_self l
 
 -- what follows both begins words with both
@@ -197,7 +189,7 @@ module _ (L : Given) where
   -- a variable whose words begin with both letters can be read and written through
   flip_from : (x : Var) → After x → has_both (follow L.lines x) ≡ true → Flip L x
   flip_from x after e =
-      let h : (is_some_word (tails (label_eq Load) (follow L.lines x)) ≡ true) × (is_some_word (tails (label_eq Store) (follow L.lines x)) ≡ true) = and_true (is_some_word (tails (label_eq Load) (follow L.lines x))) (is_some_word (tails (label_eq Store) (follow L.lines x))) e in
+      let h : (is_some_word (tails (label_eq Load) (follow L.lines x)) ≡ true) × (is_some_word (tails (label_eq Store) (follow L.lines x)) ≡ true) = and_parts (is_some_word (tails (label_eq Load) (follow L.lines x))) (is_some_word (tails (label_eq Store) (follow L.lines x))) e in
       (letter Load h.0, letter Store h.1)
     where
       letter : (l : Label) → is_some_word (tails (label_eq l) (follow L.lines x)) ≡ true → Der L (V (dot x l))
@@ -208,7 +200,7 @@ module _ (L : Given) where
 
   sound_by : (x : Var) (l m : Label) (v : List Label) → After x → Der L (V (rest (dot x m) v)) → (b : Bool) → (is_pointer l && has_both (follow L.lines x)) ≡ b → cond b is_pointer (label_eq l) m ≡ true → Der L (V (rest (dot x l) v))
   sound_by x l m v after d true e f =
-      let g : (is_pointer l ≡ true) × (has_both (follow L.lines x) ≡ true) = and_true (is_pointer l) (has_both (follow L.lines x)) e in
+      let g : (is_pointer l ≡ true) × (has_both (follow L.lines x) ≡ true) = and_parts (is_pointer l) (has_both (follow L.lines x)) e in
       let k : Flip L x = flip_from x after g.1 in
       (both L (same_rest L v (pointer_same L x m l (pointer_is m f) (pointer_is l g.0) k.0 k.1) d)).1
   sound_by x l m v after d false e f = subst (λ n. Der L (V (rest (dot x n) v))) (sym (label_equal l m f)) d

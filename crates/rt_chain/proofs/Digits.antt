@@ -57,7 +57,7 @@ digit_no w f i d h k e = rw (drop-cons w i d h, drop-cons f i false k, e, add-on
 pub sign_here : (w : List Label) (i : ℕ) (d : Label) → i < length w → variance_of_word (drop i w) ≡ times (label_variance (get_or w i d)) (variance_of_word (drop (i + 1) w))
 sign_here w i d h = rw (drop-cons w i d h, add-one i) refl
 
-times-twice : (a b : Variance) → times a (times a b) ≡ b
+pub times-twice : (a b : Variance) → times a (times a b) ≡ b
 times-twice Co b = refl
 times-twice Contra Co = refl
 times-twice Contra Contra = refl

@@ -6,7 +6,7 @@ use Rattle.rt_components.specs.declared.walk.State.{State}
 use Rattle.rt_components.specs.declared.walk.State.TheVariants.{Unseen, OnPath, InClass}
 use Rattle.rt_components.specs.Graphs.{successors}
 use Rattle.rt_components.specs.Walks.{state_of, IsMet, LeadsOn, IsSpent, IsPath, left}
-use Rattle.rt_components.proofs.Numbers.{cases_last}
+use Rattle.rt_base.proofs.Numbers.{cases_last}
 
 pub advanced : (graph : List (List ℕ)) (state : List State) (followed path starts pending : List ℕ) → IsPath graph state followed path starts pending → (node edge to : ℕ) → node < length graph → (state_of state node ≡ Unseen → ⊥) →
     slice_index followed node ≡ edge → slice_index (successors graph node) edge ≡ to → ((g : ℕ) × (state_of state to ≡ InClass g)) ⊎ ((j : ℕ) × (state_of state to ≡ OnPath j) × ((s : ℕ) → Contains starts s → s ≤ j)) →

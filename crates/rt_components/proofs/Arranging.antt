@@ -7,7 +7,8 @@ use Rattle.rt_components.specs.Graphs.{HasEdge}
 use Rattle.rt_components.specs.Groups.{AreTogether, AreGroups, IsAmongFirst, MayCome, group_at}
 use Rattle.rt_components.specs.Classes.{AreClasses, AreMembers, AreSuccessors}
 use Rattle.rt_components.specs.Orders.{least_of, IsBefore, AreLinked, AreAllInOrder}
-use Rattle.rt_components.proofs.Numbers.{place_in, contains_at, none_in}
+use Rattle.rt_components.proofs.Numbers.{place_in, contains_at}
+use Rattle.rt_base.proofs.Lists.{Contains-none}
 
 -- a list that contains something is not empty
 pub not_empty : (xs : List ℕ) (a : ℕ) → Contains xs a → 0 < length xs
@@ -19,7 +20,7 @@ edge_from graph a b edge = by (cases_lt a (length graph))
   where
     by : (a < length graph) ⊎ (length graph ≤ a) → a < length graph
     by (inl less) = less
-    by (inr le) = absurd (none_in b (subst (λ xs. Contains xs b) (get_or_past graph a [] le) edge))
+    by (inr le) = absurd (Contains-none b (subst (λ xs. Contains xs b) (get_or_past graph a [] le) edge))
 
 module _ (graph : List (List ℕ)) (class : List ℕ) (count : ℕ) (members others : List (List ℕ)) (classes : AreClasses graph class count)
     (are : AreMembers class count (length class) members) (leads : AreSuccessors graph class count (length graph) others) where
@@ -56,7 +57,7 @@ module _ (graph : List (List ℕ)) (class : List ℕ) (count : ℕ) (members oth
       where
         by : (i < length order) ⊎ (length order ≤ i) → (i < length order) × (a < length graph) × (slice_index class a ≡ slice_index order i)
         by (inl less) = let o = are.only (slice_index order i) a (subst (λ xs. Contains xs a) (at i less) c) in (less, subst (λ n. a < n) classes.each o.0, o.1)
-        by (inr le) = absurd (none_in a (subst (λ xs. Contains xs a) (get_or_past (map (group_at members) order) i [] (let l = length_groups in omega arith)) c))
+        by (inr le) = absurd (Contains-none a (subst (λ xs. Contains xs a) (get_or_past (map (group_at members) order) i [] (let l = length_groups in omega arith)) c))
 
     -- where a class stands
     there : (i a : ℕ) → i < length order → a < length graph → slice_index order i ≡ slice_index class a → Contains (group_at (map (group_at members) order) i) a

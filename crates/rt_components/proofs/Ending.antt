@@ -1,8 +1,10 @@
 -- The first of the classes that may come next, and the end of a queue.
 use Rattle.std.proofs.Common.{◌≡◌, ℕ, zero, suc, ◌<◌, ◌⊎◌, inl, inr, Bool, List, [], ◌∷◌, length, slice_index, Contains, sym, ap, subst, ◌∙◌, arith}
 use Rattle.rt_components.specs.Orders.{least_of, AreAllInOrder, AreLinked, HasCome, IsToCome, HaveCome, IsWaiting, IsQueueOf}
-use Rattle.rt_components.proofs.Numbers.{none_in, cons_here, cons_there, cons_cases, cases_last}
+use Rattle.rt_components.proofs.Numbers.{cons_here, cons_there, cons_cases}
 use Rattle.rt_components.proofs.Taking.{cases_come, not_both}
+use Rattle.rt_base.proofs.Numbers.{cases_last}
+use Rattle.rt_base.proofs.Lists.{Contains-none}
 
 module _ (class : List ℕ) (members others : List (List ℕ)) (linked : AreLinked class members others) (come : List Bool) (order passed : List ℕ) (waiting : List (List ℕ)) where
   module _ (ready keys : List ℕ) (a : ℕ) (was : IsQueueOf others members come order passed waiting ready []) (popped : ready ≡ a ∷ keys) where
@@ -38,7 +40,7 @@ module _ (class : List ℕ) (members others : List (List ℕ)) (linked : AreLink
       where
         somewhere : (j : ℕ) → j < length others → Contains ready (least_of members j) ⊎ (IsWaiting others come waiting j ⊎ Contains [] j) → Contains keys (least_of members j) ⊎ (IsWaiting others come waiting j ⊎ Contains (slice_index class a ∷ []) j)
         somewhere j low (inr (inl w)) = inr (inl w)
-        somewhere j low (inr (inr c)) = absurd (none_in j c)
+        somewhere j low (inr (inr c)) = absurd (Contains-none j c)
         somewhere j low (inl c) = by (cons_cases a keys (least_of members j) (subst (λ xs. Contains xs (least_of members j)) popped c))
           where
             by : (a ≡ least_of members j) ⊎ Contains keys (least_of members j) → Contains keys (least_of members j) ⊎ (IsWaiting others come waiting j ⊎ Contains (slice_index class a ∷ []) j)
@@ -47,7 +49,7 @@ module _ (class : List ℕ) (members others : List (List ℕ)) (linked : AreLink
 
         todo_only : (j : ℕ) → (slice_index class a ≡ j) ⊎ Contains [] j → (j < length others) × IsToCome come j
         todo_only j (inl e) = subst (λ x. (x < length others) × IsToCome come x) (sym is_class ∙ e) (found.1, found.3)
-        todo_only j (inr d) = absurd (none_in j d)
+        todo_only j (inr d) = absurd (Contains-none j d)
 
   -- where none may come next, all have come
   module _ (was : IsQueueOf others members come order passed waiting [] []) where
@@ -55,9 +57,9 @@ module _ (class : List ℕ) (members others : List (List ℕ)) (linked : AreLink
     come_at n below low = by (cases_come come n)
       where
         at : Contains [] (least_of members n) ⊎ (IsWaiting others come waiting n ⊎ Contains [] n) → HasCome come n
-        at (inl c) = absurd (none_in (least_of members n) c)
+        at (inl c) = absurd (Contains-none (least_of members n) c)
         at (inr (inl (h, c, leads, to))) = let less : h < n = linked.down n h leads in absurd (not_both come h (below h less (omega arith)) to)
-        at (inr (inr c)) = absurd (none_in n c)
+        at (inr (inr c)) = absurd (Contains-none n c)
 
         by : HasCome come n ⊎ IsToCome come n → HasCome come n
         by (inl e) = e

@@ -9,7 +9,8 @@ use Rattle.rt_components.specs.Graphs.{HasEdge}
 use Rattle.rt_components.specs.Groups.{Reaches}
 use Rattle.rt_components.specs.Groups.Reaches.{there}
 use Rattle.rt_components.specs.Walks.{state_of, IsNotBefore, IsMet, LeadsOn, IsSpent, IsPath, AreWhole}
-use Rattle.rt_components.proofs.Numbers.{cases_last, push_old, push_last, Rises-push}
+use Rattle.rt_components.proofs.Numbers.{push_old, push_last, Rises-push}
+use Rattle.rt_base.proofs.Numbers.{cases_last}
 
 pub unseen_place : (i : ℕ) → Unseen ≡ OnPath i → ⊥
 unseen_place i e = cc

@@ -7,7 +7,8 @@ use Rattle.std.specs.declared.cmp.Ordering.TheVariants.{Less, Equal, Greater}
 use Rattle.std.specs.BTreeSet.{insert_key}
 use Rattle.std.proofs.lemmas.Bool.{cases_order}
 use Rattle.std.proofs.lemmas.Map.Lookups.{exact_unsigned}
-use Rattle.rt_components.proofs.Numbers.{cons_here, cons_there, cons_cases, none_in}
+use Rattle.rt_components.proofs.Numbers.{cons_here, cons_there, cons_cases}
+use Rattle.rt_base.proofs.Lists.{Contains-none}
 
 pub inserted_cases : (xs : List ℕ) (k a : ℕ) → Contains (insert_key nat_cmp xs k) a → Contains xs a ⊎ (k ≡ a)
 inserted_cases [] k a c = by (cons_cases k [] a c)
@@ -35,7 +36,7 @@ inserted_cases (x ∷ xs) k a c = by (nat_cmp k x) c (λ d. inserted_cases xs k 
     by Greater d deeper = back (cons_cases x (insert_key nat_cmp xs k) a d) deeper
 
 pub inserted_old : (xs : List ℕ) (k a : ℕ) → Contains xs a → Contains (insert_key nat_cmp xs k) a
-inserted_old [] k a c = absurd (none_in a c)
+inserted_old [] k a c = absurd (Contains-none a c)
 inserted_old (x ∷ xs) k a c = by (nat_cmp k x) (λ d. inserted_old xs k a d)
   where
     back : (x ≡ a) ⊎ Contains xs a → (Contains xs a → Contains (insert_key nat_cmp xs k) a) → Contains (x ∷ insert_key nat_cmp xs k) a
@@ -55,18 +56,3 @@ inserted_new (x ∷ xs) k = by (nat_cmp k x) refl (inserted_new xs k)
     by Less e deeper = cons_here k (x ∷ xs)
     by Equal e deeper = subst (Contains (x ∷ xs)) (sym (exact_unsigned k x e)) (cons_here x xs)
     by Greater e deeper = cons_there x (insert_key nat_cmp xs k) k deeper
-
--- what is less by comparison is less
-pub less_from : (x y : ℕ) → nat_cmp x y ≡ Less → x < y
-less_from x y e = by (cases_order x y)
-  where
-    not_equal : Equal ≡ Less → ⊥
-    not_equal f = cc
-
-    not_greater : Greater ≡ Less → ⊥
-    not_greater f = cc
-
-    by : (x ≡ y) ⊎ ((x < y) ⊎ (y < x)) → x < y
-    by (inl same) = absurd (not_equal (nat_cmp_is x y Equal same ∙ e))
-    by (inr (inl less)) = less
-    by (inr (inr more)) = absurd (not_greater (nat_cmp_is x y Greater more ∙ e))

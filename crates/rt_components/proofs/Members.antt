@@ -7,7 +7,9 @@ use Rattle.std.proofs.lemmas.List.Elements.{Contains-append_left, Contains-push,
 use Rattle.rt_components.specs.Graphs.{HasEdge}
 use Rattle.rt_components.specs.Groups.{group_at}
 use Rattle.rt_components.specs.Classes.{AreMembers, AddsOthers, AreSuccessors}
-use Rattle.rt_components.proofs.Numbers.{none_in, contains_at, push_old, push_last, cases_last}
+use Rattle.rt_components.proofs.Numbers.{contains_at, push_old, push_last}
+use Rattle.rt_base.proofs.Numbers.{cases_last}
+use Rattle.rt_base.proofs.Lists.{Contains-none}
 
 -- no list of so many empty ones contains anything
 pub empty_at : (count k : ℕ) → group_at (replicate count []) k ≡ []
@@ -45,7 +47,7 @@ pub members_none : (class : List ℕ) (count : ℕ) (members : List (List ℕ)) 
 members_none class count members e = record {
   each = ap length e ∙ length-replicate count [];
   found = λ a less. absurd (omega arith);
-  only = λ k a c. absurd (none_in a (subst (λ xs. Contains xs a) (none k) c));
+  only = λ k a c. absurd (Contains-none a (subst (λ xs. Contains xs a) (none k) c));
   rising = λ k. subst IsStrictlyIncreasing (sym (none k)) (λ i less. absurd (omega arith));
 }
   where
@@ -97,7 +99,7 @@ members_more class count node members are k is less ys pushed = record {
 pub adds_none : (class : List ℕ) (k : ℕ) (old : List ℕ) → AddsOthers class k [] old old
 adds_none class k old = record {
   kept = λ h c. c;
-  found = λ b c ne. absurd (none_in b c);
+  found = λ b c ne. absurd (Contains-none b c);
   only = λ h c. inl c;
 }
 
@@ -140,7 +142,7 @@ pub successors_none : (graph : List (List ℕ)) (class : List ℕ) (count : ℕ)
 successors_none graph class count others e = record {
   each = ap length e ∙ length-replicate count [];
   found = λ a b less edge ne. absurd (omega arith);
-  only = λ k h c. absurd (none_in h (subst (λ xs. Contains xs h) (ap (λ xs. group_at xs k) e ∙ empty_at count k) c));
+  only = λ k h c. absurd (Contains-none h (subst (λ xs. Contains xs h) (ap (λ xs. group_at xs k) e ∙ empty_at count k) c));
 }
 
 pub successors_more : (graph : List (List ℕ)) (class : List ℕ) (count node : ℕ) (others : List (List ℕ)) → AreSuccessors graph class count node others → (k : ℕ) → slice_index class node ≡ k → k < count → (ys : List ℕ) → AddsOthers class k (group_at graph node) (group_at others k) ys →

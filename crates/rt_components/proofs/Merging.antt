@@ -5,12 +5,13 @@ use Rattle.rt_components.specs.declared.walk.State.{State}
 use Rattle.rt_components.specs.Graphs.{HasEdge}
 use Rattle.rt_components.specs.Groups.{Reaches}
 use Rattle.rt_components.specs.Walks.{IsNotBefore, IsMet, IsFrontUpTo, IsPath}
-use Rattle.rt_components.proofs.Numbers.{none_in, cons_here, cons_there, cons_cases}
+use Rattle.rt_components.proofs.Numbers.{cons_here, cons_there, cons_cases}
 use Rattle.rt_components.proofs.Reaching.{reaches_on}
+use Rattle.rt_base.proofs.Lists.{Contains-none}
 
 -- either the component of the second place is no earlier one, or some component begins between the two
 not_before : (starts : List ℕ) (i j : ℕ) → IsNotBefore starts i j ⊎ ((s : ℕ) × Contains starts s × (s ≤ i) × (j < s))
-not_before [] i j = inl (λ s c le. absurd (none_in s c))
+not_before [] i j = inl (λ s c le. absurd (Contains-none s c))
 not_before (x ∷ starts) i j = by (not_before starts i j) (cases_lt j x) (cases_lt i x)
   where
     by : IsNotBefore starts i j ⊎ ((s : ℕ) × Contains starts s × (s ≤ i) × (j < s)) → (j < x) ⊎ (x ≤ j) → (i < x) ⊎ (x ≤ i) → IsNotBefore (x ∷ starts) i j ⊎ ((s : ℕ) × Contains (x ∷ starts) s × (s ≤ i) × (j < s))

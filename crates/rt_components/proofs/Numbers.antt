@@ -6,6 +6,8 @@ use Rattle.std.proofs.lemmas.Option.{slice_get_within, slice_get-get_or, get_or_
 use Rattle.std.proofs.lemmas.List.{take_all, take_more, get_or_default, get_or_append_left, get_or_push, length_push}
 use Rattle.std.proofs.lemmas.List.Elements.{Contains-get_or, Contains-append_left, Contains-append_right, Contains-append_cases, Contains-push, Contains-push_cases}
 use Rattle.rt_components.specs.Walks.{Rises, IsLast}
+use Rattle.rt_base.proofs.Numbers.{cases_last}
+use Rattle.rt_base.proofs.Lists.{Contains-none}
 
 -- the place of what a list contains
 pub place_in : (xs : List ℕ) (x : ℕ) → Contains xs x → (i : ℕ) × (i < length xs) × (slice_index xs i ≡ x)
@@ -13,9 +15,6 @@ place_in xs x (i, less, e) = (i, less, get_or_default xs i 0 x less ∙ e)
 
 pub contains_at : (xs : List ℕ) (i : ℕ) → i < length xs → Contains xs (slice_index xs i)
 contains_at xs i less = Contains-get_or xs i 0 less
-
-pub none_in : {X : Type 0} (x : X) → Contains [] x → ⊥
-none_in x (k, less, e) = omega arith
 
 -- what a list with one more in front contains
 pub cons_here : (x : ℕ) (xs : List ℕ) → Contains (x ∷ xs) x
@@ -28,20 +27,12 @@ pub cons_cases : (x : ℕ) (xs : List ℕ) (y : ℕ) → Contains (x ∷ xs) y �
 cons_cases x xs y c = by (Contains-append_cases (x ∷ []) xs y c)
   where
     one : Contains [] y ⊎ (x ≡ y) → (x ≡ y) ⊎ Contains xs y
-    one (inl d) = absurd (none_in y d)
+    one (inl d) = absurd (Contains-none y d)
     one (inr e) = inl e
 
     by : Contains (x ∷ []) y ⊎ Contains xs y → (x ≡ y) ⊎ Contains xs y
     by (inl d) = one (Contains-push_cases [] x y d)
     by (inr d) = inr d
-
--- the last place of a longer list, or one of the list
-pub cases_last : (i n : ℕ) → i < n + 1 → (i < n) ⊎ (i ≡ n)
-cases_last i n less = by (cases_lt i n)
-  where
-    by : (i < n) ⊎ (n ≤ i) → (i < n) ⊎ (i ≡ n)
-    by (inl h) = inl h
-    by (inr h) = inr (omega arith)
 
 pub push_old : (xs : List ℕ) (y i : ℕ) → i < length xs → slice_index (xs ++ y ∷ []) i ≡ slice_index xs i
 push_old xs y i less = get_or_append_left xs (y ∷ []) 0 i less

@@ -6,8 +6,10 @@ use Rattle.std.proofs.lemmas.List.Elements.{Contains-append_left, Contains-push,
 use Rattle.std.proofs.lemmas.List.Sums.{sum_by-set}
 use Rattle.rt_components.specs.Groups.{group_at}
 use Rattle.rt_components.specs.Orders.{least_of, IsBefore, IsFree, AreInOrder, HasCome, IsToCome, HaveCome, IsWaiting, IsQueueOf, left_to_come}
-use Rattle.rt_components.proofs.Numbers.{place_in, contains_at, none_in, cons_here, cons_cases, cases_last, push_old, push_last}
+use Rattle.rt_components.proofs.Numbers.{place_in, contains_at, cons_here, cons_cases, push_old, push_last}
 use Rattle.rt_components.proofs.Members.{set_cases}
+use Rattle.rt_base.proofs.Numbers.{cases_last}
+use Rattle.rt_base.proofs.Lists.{Contains-none}
 
 -- whether a class has come
 pub cases_come : (come : List Bool) (k : ℕ) → HasCome come k ⊎ IsToCome come k
@@ -116,7 +118,7 @@ module _ (others members : List (List ℕ)) (come : List Bool) (order passed : L
             where
               one : (k ≡ j) ⊎ Contains [] j → least_of members k ≤ least_of members j
               one (inl e) = let same : least_of members k ≡ least_of members j = ap (least_of members) e in omega arith
-              one (inr d) = absurd (none_in j d)
+              one (inr d) = absurd (Contains-none j d)
 
           by : HasCome come j ⊎ IsToCome come j → least_of members k ≤ least_of members j
           by (inl e) = absurd (not_before (in_order_at j e))
@@ -164,7 +166,7 @@ module _ (others members : List (List ℕ)) (come : List Bool) (order passed : L
         where
           one : (k ≡ j) ⊎ Contains [] j → ⊥
           one (inl e) = ne (sym e)
-          one (inr d) = none_in j d
+          one (inr d) = Contains-none j d
       somewhere j ne (inr (inl (h, c, d, e))) = by (at h)
         where
           by : ((h ≡ k) × (group_at (set waiting k none) h ≡ none)) ⊎ ((h ≡ k → ⊥) × (group_at (set waiting k none) h ≡ group_at waiting h)) →
@@ -179,7 +181,7 @@ module _ (others members : List (List ℕ)) (come : List Bool) (order passed : L
           other e = let less = first a c in let same : least_of members k ≡ a = ap (least_of members) (sym e) ∙ is in omega arith
 
       waiting_only : (h j : ℕ) → Contains (group_at (set waiting k none) h) j → ((h ≡ k) × (group_at (set waiting k none) h ≡ none)) ⊎ ((h ≡ k → ⊥) × (group_at (set waiting k none) h ≡ group_at waiting h)) → (j < length others) × Contains (group_at others j) h
-      waiting_only h j c (inl (same, f)) = absurd (none_in j (subst (λ xs. Contains xs j) (f ∙ empty) c))
+      waiting_only h j c (inl (same, f)) = absurd (Contains-none j (subst (λ xs. Contains xs j) (f ∙ empty) c))
       waiting_only h j c (inr (other, f)) = was.waiting_only h j (subst (λ xs. Contains xs j) f c)
 
       to_come : (j : ℕ) → Contains (group_at others j) k → HasCome (set come k true) j ⊎ IsToCome (set come k true) j → IsToCome (set come k true) j

@@ -7,7 +7,9 @@ use Rattle.std.proofs.lemmas.Map.Keys.{sorted_from_strictly_increasing, below_fr
 use Rattle.rt_components.specs.Groups.{AreTogether, AreGroups, IsAmongFirst, MayCome, group_at}
 use Rattle.rt_components.specs.Groups.Reaches.{there}
 use Rattle.rt_components.specs.Walks.{Rises}
-use Rattle.rt_components.proofs.Numbers.{place_in, contains_at, none_in, cons_here, cons_there, cons_cases, cases_last}
+use Rattle.rt_components.proofs.Numbers.{place_in, contains_at, cons_here, cons_there, cons_cases}
+use Rattle.rt_base.proofs.Numbers.{cases_last}
+use Rattle.rt_base.proofs.Lists.{Contains-none}
 
 rises : (xs : List ℕ) → IsStrictlyIncreasing xs → Rises xs
 rises xs up i j less within = below_from_sorted xs i j 0 (sorted_from_strictly_increasing xs up) less within
@@ -26,8 +28,8 @@ tail_rises x xs up i j less within = up (suc i) (suc j) (omega arith) (omega ari
 -- lists that rise are one if they contain the same
 same_rising : (xs ys : List ℕ) → Rises xs → Rises ys → ((a : ℕ) → Contains xs a → Contains ys a) → ((a : ℕ) → Contains ys a → Contains xs a) → xs ≡ ys
 same_rising [] [] up up' on back = refl
-same_rising [] (y ∷ ys) up up' on back = absurd (none_in y (back y (cons_here y ys)))
-same_rising (x ∷ xs) [] up up' on back = absurd (none_in x (on x (cons_here x xs)))
+same_rising [] (y ∷ ys) up up' on back = absurd (Contains-none y (back y (cons_here y ys)))
+same_rising (x ∷ xs) [] up up' on back = absurd (Contains-none x (on x (cons_here x xs)))
 same_rising (x ∷ xs) (y ∷ ys) up up' on back = by head (λ e. same_rising xs ys (tail_rises x xs up) (tail_rises y ys up') (λ a c. on_tail e a c) (λ a c. back_tail e a c))
   where
     first : (x ≡ y) ⊎ Contains xs y → (y ≡ x) ⊎ Contains ys x → x ≡ y
@@ -64,7 +66,7 @@ module _ (count : ℕ) (Edge : ℕ → ℕ → Type 0) where
     where
       by : (i < length xs) ⊎ (length xs ≤ i) → i < length xs
       by (inl less) = less
-      by (inr le) = absurd (none_in a (subst (λ ys. Contains ys a) (get_or_past xs i [] le) c))
+      by (inr le) = absurd (Contains-none a (subst (λ ys. Contains ys a) (get_or_past xs i [] le) c))
 
   -- groups of a node in two lists of groups have the same members
   in_same : (xs ys : List (List ℕ)) → AreGroups count Edge xs → AreGroups count Edge ys → (i j a : ℕ) → Contains (group_at xs i) a → Contains (group_at ys j) a → (b : ℕ) → Contains (group_at xs i) b → Contains (group_at ys j) b

@@ -5,7 +5,6 @@ use Rattle.std.proofs.lemmas.List.Elements.{All-nil, All-cons}
 use Rattle.std.specs.Ordering.{int_eq}
 use Rattle.rt_elf.specs.Parts.{Parts as Object}
 use Rattle.rt_elf.specs.Symbols.{zero_symbol}
-use Rattle.rt_elf.proofs.Booleans.{cases_bool}
 use Rattle.rt_insn.specs.declared.insn.Insn.{Insn}
 use Rattle.rt_insn.specs.declared.insn.Insn.TheVariants.{Jal, Jalr, Ebreak}
 use Rattle.rt_link.specs.declared.link.Link.{Link}
@@ -25,22 +24,23 @@ use Rattle.rt_control.specs.Places.{is_good, good_place, after, code_target, sym
 use Rattle.rt_control.specs.Sites.{form_of, register_of, IsAt}
 use Rattle.rt_control.specs.Tables.{code_of, entry_target, entry_targets, outcome_to, outcome_of}
 use Rattle.rt_control.proofs.Once.{with_places-all}
+use Rattle.std.proofs.lemmas.Bool.{cases_Bool}
 
 -- What leads to places.
 
 good_place-good : (object : Object) (place : Place) → IsGoodAfter object (good_place object place)
-good_place-good object place = elim (cases_bool (is_good object place)) [ inl e ↦ rw e e | inr e ↦ rw e tt ]
+good_place-good object place = elim (cases_Bool (is_good object place)) [ inl e ↦ rw e e | inr e ↦ rw e tt ]
 
 code_target-good : (object : Object) (place : Place) → IfSome (code_target object place) (IsGoodTarget object)
-code_target-good object place = elim (cases_bool (is_good object place)) [ inl e ↦ rw e e | inr e ↦ rw e tt ]
+code_target-good object place = elim (cases_Bool (is_good object place)) [ inl e ↦ rw e e | inr e ↦ rw e tt ]
 
 -- the target of a symbol that is defined in a section
 symbol_target-good : (object : Object) (index : ℕ) (addend : ℤ) → IfSome (symbol_target object index addend) (IsGoodTarget object)
 unfolding symbol_target
 symbol_target-good object index addend = let symbol = get_or object.symbols index zero_symbol in
-    elim (cases_bool (symbol.section == 0)) [
+    elim (cases_Bool (symbol.section == 0)) [
       | inl e ↦ rw e tt
-      | inr e ↦ elim (cases_bool (symbol.section == 0xFFF1 || symbol.section == 0xFFF2)) [
+      | inr e ↦ elim (cases_Bool (symbol.section == 0xFFF1 || symbol.section == 0xFFF2)) [
         | inl f ↦ rw (e, f) tt
         | inr f ↦ rw (e, f) (code_target-good object (moved symbol.section symbol.value addend))
       ]
@@ -87,14 +87,14 @@ outcome-good object (entry ∷ entries) = outcome_to-good object (entry_targets 
 
 pair-good : (object : Object) (place : Place) (link : ℕ) (leads : Option Target) → IfSome leads (IsGoodTarget object) → IfOk (pair_form object place link leads) (IsGoodForm object)
 pair-good object place link None h = tt
-pair-good object place link (Some (target.Code p)) h = elim (cases_bool (link == 0)) [ inl e ↦ rw e h | inr e ↦ rw e (h, good_place-good object (after place 8)) ]
-pair-good object place link (Some (target.Outside s)) h = elim (cases_bool (link == 0)) [ inl e ↦ rw e h | inr e ↦ rw e (h, good_place-good object (after place 8)) ]
+pair-good object place link (Some (target.Code p)) h = elim (cases_Bool (link == 0)) [ inl e ↦ rw e h | inr e ↦ rw e (h, good_place-good object (after place 8)) ]
+pair-good object place link (Some (target.Outside s)) h = elim (cases_Bool (link == 0)) [ inl e ↦ rw e h | inr e ↦ rw e (h, good_place-good object (after place 8)) ]
 
 jal-good : (object : Object) (place : Place) (insn : Insn) (link : ℕ) (leads : Option Target) → IfSome leads (IsGoodTarget object)
     → IfOk (jal_form object place insn link leads) (IsGoodForm object)
 jal-good object place insn link None h = tt
-jal-good object place insn link (Some (target.Code p)) h = elim (cases_bool (link == 0)) [ inl e ↦ rw e h | inr e ↦ rw e (h, good_place-good object (after place 4)) ]
-jal-good object place insn link (Some (target.Outside s)) h = elim (cases_bool (link == 0)) [ inl e ↦ rw e h | inr e ↦ rw e (h, good_place-good object (after place 4)) ]
+jal-good object place insn link (Some (target.Code p)) h = elim (cases_Bool (link == 0)) [ inl e ↦ rw e h | inr e ↦ rw e (h, good_place-good object (after place 4)) ]
+jal-good object place insn link (Some (target.Outside s)) h = elim (cases_Bool (link == 0)) [ inl e ↦ rw e h | inr e ↦ rw e (h, good_place-good object (after place 4)) ]
 
 table-good : (object : Object) (insn : Insn) (outcome : Outcome) → IsGoodOutcome object outcome → IfOk (table_form insn outcome) (IsGoodForm object)
 table-good object insn NoTable h = tt
@@ -103,9 +103,9 @@ table-good object insn (Targets places) h = h
 
 jalr-good : (object : Object) (place : Place) (insn : Insn) (link base : ℕ) (distance : ℤ) (outcome : Outcome) → IsGoodOutcome object outcome
     → IfOk (jalr_form object place insn link base distance outcome) (IsGoodForm object)
-jalr-good object place insn link base distance outcome h = elim (cases_bool (link == 0)) [
+jalr-good object place insn link base distance outcome h = elim (cases_Bool (link == 0)) [
   | inr e ↦ rw e (tt, good_place-good object (after place 4))
-  | inl e ↦ elim (cases_bool (base == 1 && int_eq distance (pos 0))) [ inl f ↦ rw (e, f) tt | inr f ↦ rw (e, f) (table-good object insn outcome h) ]
+  | inl e ↦ elim (cases_Bool (base == 1 && int_eq distance (pos 0))) [ inl f ↦ rw (e, f) tt | inr f ↦ rw (e, f) (table-good object insn outcome h) ]
 ]
 
 step-good : (object : Object) (insn : Insn) (continuation : Option Place) → IsGoodAfter object continuation → IfOk (step_form insn continuation) (IsGoodForm object)

@@ -4,7 +4,7 @@ use Rattle.std.specs.Ordering.{int_eq}
 use Rattle.rt_elf.specs.Parts.{Parts as Object}
 use Rattle.rt_elf.specs.Object.{IsLinkable}
 use Rattle.rt_elf.specs.Symbols.{zero_symbol}
-use Rattle.rt_elf.proofs.Booleans.{cases_bool, eqb-is}
+use Rattle.rt_elf.proofs.Booleans.{eqb-is}
 use Rattle.rt_insn.specs.declared.insn.Insn.{Insn}
 use Rattle.rt_insn.specs.declared.insn.Insn.TheVariants.{Jal, Jalr, Ebreak}
 use Rattle.rt_insn.specs.Range.{HasRange}
@@ -26,18 +26,19 @@ use Rattle.rt_control.specs.Laws.{IsKnownTarget, IsKnownForm}
 use Rattle.rt_control.specs.Places.{is_good, good_place, after, code_target, symbol_target, jump_target, word_of}
 use Rattle.rt_control.specs.Sites.{form_of, register_of, IsInsnOf, IsAt}
 use Rattle.rt_control.specs.Tables.{outcome_of}
+use Rattle.std.proofs.lemmas.Bool.{cases_Bool}
 
 -- What targets name.
 
 code_target-known : (object : Object) (place : Place) → IfSome (code_target object place) (IsKnownTarget object)
-code_target-known object place = elim (cases_bool (is_good object place)) [ inl e ↦ rw e tt | inr e ↦ rw e tt ]
+code_target-known object place = elim (cases_Bool (is_good object place)) [ inl e ↦ rw e tt | inr e ↦ rw e tt ]
 
 symbol_target-known : (object : Object) (index : ℕ) (addend : ℤ) → index < length object.symbols → IfSome (symbol_target object index addend) (IsKnownTarget object)
 unfolding symbol_target
 symbol_target-known object index addend h = let symbol = get_or object.symbols index zero_symbol in
-    elim (cases_bool (symbol.section == 0)) [
+    elim (cases_Bool (symbol.section == 0)) [
       | inl e ↦ rw e (record { is_symbol = h; is_undefined = eqb-is _ _ e })
-      | inr e ↦ elim (cases_bool (symbol.section == 0xFFF1 || symbol.section == 0xFFF2)) [
+      | inr e ↦ elim (cases_Bool (symbol.section == 0xFFF1 || symbol.section == 0xFFF2)) [
         | inl f ↦ rw (e, f) tt
         | inr f ↦ rw (e, f) (code_target-known object (moved symbol.section symbol.value addend))
       ]
@@ -51,14 +52,14 @@ jump_target-known object place other distance h = code_target-known object (move
 
 pair-known : (object : Object) (place : Place) (link : ℕ) (leads : Option Target) → link < 32 → IfSome leads (IsKnownTarget object) → IfOk (pair_form object place link leads) (IsKnownForm object)
 pair-known object place link None r h = tt
-pair-known object place link (Some (target.Code p)) r h = elim (cases_bool (link == 0)) [ inl e ↦ rw e tt | inr e ↦ rw e (tt, r) ]
-pair-known object place link (Some (target.Outside s)) r h = elim (cases_bool (link == 0)) [ inl e ↦ rw e h | inr e ↦ rw e (h, r) ]
+pair-known object place link (Some (target.Code p)) r h = elim (cases_Bool (link == 0)) [ inl e ↦ rw e tt | inr e ↦ rw e (tt, r) ]
+pair-known object place link (Some (target.Outside s)) r h = elim (cases_Bool (link == 0)) [ inl e ↦ rw e h | inr e ↦ rw e (h, r) ]
 
 jal-known : (object : Object) (place : Place) (insn : Insn) (link : ℕ) (leads : Option Target) → HasRange insn → link < 32 → IfSome leads (IsKnownTarget object)
     → IfOk (jal_form object place insn link leads) (IsKnownForm object)
 jal-known object place insn link None range r h = tt
-jal-known object place insn link (Some (target.Code p)) range r h = elim (cases_bool (link == 0)) [ inl e ↦ rw e (range, tt) | inr e ↦ rw e (tt, r) ]
-jal-known object place insn link (Some (target.Outside s)) range r h = elim (cases_bool (link == 0)) [ inl e ↦ rw e (range, h) | inr e ↦ rw e (h, r) ]
+jal-known object place insn link (Some (target.Code p)) range r h = elim (cases_Bool (link == 0)) [ inl e ↦ rw e (range, tt) | inr e ↦ rw e (tt, r) ]
+jal-known object place insn link (Some (target.Outside s)) range r h = elim (cases_Bool (link == 0)) [ inl e ↦ rw e (range, h) | inr e ↦ rw e (h, r) ]
 
 table-known : (object : Object) (insn : Insn) (outcome : Outcome) → HasRange insn → IfOk (table_form insn outcome) (IsKnownForm object)
 table-known object insn NoTable range = tt
@@ -67,9 +68,9 @@ table-known object insn (Targets places) range = (range, tt)
 
 jalr-known : (object : Object) (place : Place) (insn : Insn) (link base : ℕ) (distance : ℤ) (outcome : Outcome) → HasRange insn → link < 32 → base < 32
     → IfOk (jalr_form object place insn link base distance outcome) (IsKnownForm object)
-jalr-known object place insn link base distance outcome range r b = elim (cases_bool (link == 0)) [
+jalr-known object place insn link base distance outcome range r b = elim (cases_Bool (link == 0)) [
   | inr e ↦ rw e (b, r)
-  | inl e ↦ elim (cases_bool (base == 1 && int_eq distance (pos 0))) [ inl f ↦ rw (e, f) tt | inr f ↦ rw (e, f) (table-known object insn outcome range) ]
+  | inl e ↦ elim (cases_Bool (base == 1 && int_eq distance (pos 0))) [ inl f ↦ rw (e, f) tt | inr f ↦ rw (e, f) (table-known object insn outcome range) ]
 ]
 
 step-known : (object : Object) (insn : Insn) (continuation : Option Place) → HasRange insn → IfOk (step_form insn continuation) (IsKnownForm object)

@@ -10,11 +10,12 @@ use Rattle.std.proofs.lemmas.Bool.Decides.{nat_tests}
 use Rattle.std.proofs.Math.Seq.{drop-cons}
 use Rattle.std.proofs.lemmas.List.Elements.{All-push, All-head, All-tail}
 use Rattle.std.proofs.lemmas.List.Folds.{list_any-append}
-use Rattle.rt_elf.proofs.Booleans.{cases_bool}
 use Rattle.rt_link.specs.declared.place.Place.{Place}
 use Rattle.rt_link.specs.Effects.{is_place}
 use Rattle.rt_link.specs.Links.{place_cmp}
 use Rattle.rt_control.specs.Tables.{with_place, with_places}
+use Rattle.std.proofs.lemmas.Bool.{cases_Bool}
+use Rattle.rt_link.proofs.Naming.{cond-or}
 
 -- a set has what a list has
 abbrev pub HasSame : BTreeSet Place → List Place → Type 0
@@ -37,19 +38,13 @@ same_test p q =
     then_equal (nat_cmp p.section q.section) (nat_cmp p.offset q.offset)
     ∙ both_same _ _ _ _ (nat_equal p.section q.section) (nat_equal p.offset q.offset)
 
-either : (a b : Bool) → cond a true b ≡ (b || (a || false))
-either true true = refl
-either true false = refl
-either false true = refl
-either false false = refl
-
 cond_same : (a b x y : Bool) → a ≡ b → x ≡ y → cond a true x ≡ cond b true y
 cond_same a b x y e f = rw (e, f) refl
 
 -- a place that joins the set joins the list at its end
 pub HasSame-added : (seen next : BTreeSet Place) (once : List Place) (place : Place) → HasSame seen once → Updates place_cmp seen next place true → HasSame next (once ++ place ∷ [])
 HasSame-added seen next once place same updates q =
-    updates.0 q ∙ cond_same _ _ _ _ (same_test place q) (same q) ∙ either (is_place q place) (list_any (is_place q) once)
+    updates.0 q ∙ cond_same _ _ _ _ (same_test place q) (same q) ∙ cond-or (is_place q place) (list_any (is_place q) once)
     ∙ sym (list_any-append (is_place q) once (place ∷ []))
 
 -- one that is there leaves both as they are
@@ -76,7 +71,7 @@ pub rest_next : (once more places all : List Place) (i : ℕ) (d : Place) → i 
 rest_next once more places all i d lt e f = ap (λ (kept : List Place). with_places kept (drop (i + 1) places)) e ∙ sym (with_places-next once places i d lt) ∙ f
 
 with_place-all : (P : Place → Type 0) (kept : List Place) (place : Place) → All P kept → P place → All P (with_place kept place)
-with_place-all P kept place h p = elim (cases_bool (list_any (is_place place) kept)) [ inl e ↦ rw e h | inr e ↦ rw e (All-push P kept place h p) ]
+with_place-all P kept place h p = elim (cases_Bool (list_any (is_place place) kept)) [ inl e ↦ rw e h | inr e ↦ rw e (All-push P kept place h p) ]
 
 -- what holds of all places holds of them once
 pub with_places-all : (P : Place → Type 0) (kept places : List Place) → All P kept → All P places → All P (with_places kept places)

@@ -1,12 +1,12 @@
 -- Runs, step by step.
 use Rattle.std.proofs.Common.{◌≡◌, ℕ, suc, ◌+◌, ◌-◌, ◌%◌, ◌<◌, ◌≤◌, ◌==◌, ◌&&◌, nat_le, IsTrue, true, false, Option, Some, List, [], ◌∷◌, ◌++◌, drop, length, get_or, sym, ap, subst, ◌∙◌, arith, add-one, append_assoc, eq-eqb, length-append}
 use Rattle.std.proofs.Math.Seq.{drop-cons}
-use Rattle.std.proofs.lemmas.Bool.{le-leb, leb-true}
+use Rattle.std.proofs.lemmas.Bool.{le-leb, leb-true, and_parts}
 use Rattle.std.proofs.lemmas.List.{append-nil}
 use Rattle.rt_elf.specs.Parts.{Parts as Object}
 use Rattle.rt_elf.specs.Object.{section_of}
 use Rattle.rt_elf.specs.Sections.{is_code_section}
-use Rattle.rt_elf.proofs.Booleans.{and-true, eqb-is}
+use Rattle.rt_elf.proofs.Booleans.{eqb-is}
 use Rattle.rt_insn.specs.declared.insn.Insn.{Insn}
 use Rattle.rt_link.specs.declared.link.Link.{Link}
 use Rattle.rt_link.specs.declared.place.Place.{Place}
@@ -58,8 +58,8 @@ pub record IsRunTo (object : Object) (jump place : Place) (steps : List Step) : 
 pub earlier_good : (object : Object) (section offset : ℕ) → IsTrue (is_good object (at section offset)) → 4 ≤ offset → IsTrue (is_good object (at section (offset - 4)))
 earlier_good object section offset good le =
     let here = section_of object section in
-    let outer = and-true (is_code_section here && (offset % 4 == 0)) (nat_le (offset + 4) here.size) good in
-    let inner = and-true (is_code_section here) (offset % 4 == 0) outer.0 in
+    let outer = and_parts (is_code_section here && (offset % 4 == 0)) (nat_le (offset + 4) here.size) good in
+    let inner = and_parts (is_code_section here) (offset % 4 == 0) outer.0 in
     let is_aligned : offset % 4 ≡ 0 = eqb-is (offset % 4) 0 inner.1 in
     let aligned : (offset - 4) % 4 ≡ 0 = omega arith in
     let is_within : offset + 4 ≤ here.size = leb-true (offset + 4) here.size outer.1 in

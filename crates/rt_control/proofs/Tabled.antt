@@ -15,11 +15,9 @@ use Rattle.rt_link.proofs.Naming.{pointer_about}
 use Rattle.rt_control.specs.declared.table.Reading.{Reading}
 use Rattle.rt_control.specs.Runs.{at}
 use Rattle.rt_control.specs.Tables.{pointer_of_place, entry_place, reading_in, IsEntry, IsEnd, IsTable, AreEntriesOf, MayJumpTo, entry_target, entry_targets}
+use Rattle.rt_link.proofs.Held.{place-same}
 
 -- Tables.
-
-place_same : (s t o u : ℕ) → s ≡ t → o ≡ u → let p : Place = record { section = s; offset = o } in let q : Place = record { section = t; offset = u } in p ≡ q
-place_same s t o u e f = rw (e, f) refl
 
 -- some first entries of a table, up to a place
 pub record IsTableTo (object : Object) (start place : Place) (entries : List Pointer) : Type 0 where
@@ -30,7 +28,7 @@ pub record IsTableTo (object : Object) (start place : Place) (entries : List Poi
   pub within : (i : ℕ) → i < length entries → (entry_place start i).offset < 2 ^ 32
 
 place_is : (object : Object) (start place : Place) (entries : List Pointer) → IsTableTo object start place entries → place ≡ entry_place start (length entries)
-place_is object start place entries to = place_same place.section start.section place.offset (start.offset + 4 * length entries) to.section to.offset
+place_is object start place entries to = place-same place.section start.section place.offset (start.offset + 4 * length entries) to.section to.offset
 
 pub none_yet : (object : Object) (start : Place) → start.offset < 2 ^ 32 → IsTableTo object start start []
 none_yet object start fits = record {

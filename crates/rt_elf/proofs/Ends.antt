@@ -3,18 +3,18 @@ use Rattle.std.proofs.Common.{◌≡◌, ℕ, ◌-◌, ◌≤◌, inl, inr, ◌=
 use Rattle.std.specs.List.{slice_range}
 use Rattle.std.proofs.lemmas.List.{length-drop}
 use Rattle.rt_elf.specs.Names.{name_at, up_to_zero, AreEnds}
-use Rattle.rt_elf.proofs.Booleans.{cases_bool}
+use Rattle.std.proofs.lemmas.Bool.{cases_Bool}
 
 up_to_zero-le : (xs : List ℕ) → length (up_to_zero xs) ≤ length xs
 up_to_zero-le [] = omega arith
-up_to_zero-le (x ∷ xs) = elim (cases_bool (x == 0)) [
+up_to_zero-le (x ∷ xs) = elim (cases_Bool (x == 0)) [
   | inl e ↦ rw e (omega arith)
   | inr e ↦ rw e (let rest = up_to_zero-le xs in omega (arith, rest))
 ]
 
 take-up_to_zero : (xs : List ℕ) → take (length (up_to_zero xs)) xs ≡ up_to_zero xs
 take-up_to_zero [] = refl
-take-up_to_zero (x ∷ xs) = elim (cases_bool (x == 0)) [
+take-up_to_zero (x ∷ xs) = elim (cases_Bool (x == 0)) [
   | inl e ↦ rw e refl
   | inr e ↦ rw e (ap (λ (ys : List ℕ). x ∷ ys) (take-up_to_zero xs))
 ]

@@ -1,6 +1,6 @@
 -- What is known of an object where no check fails.
 use Rattle.std.proofs.Common.{◌≡◌, ℕ, zero, suc, ◌+◌, ◌*◌, ◌/◌, ◌<◌, ◌≤◌, inl, inr, Bool, true, false, ◌&&◌, ◌==◌, not, IsTrue, Option, Some, None, List, [], ◌∷◌, All, length, get_or, if◌then◌else◌, refl, sym, ap, ◌∙◌, subst, arith}
-use Rattle.std.proofs.lemmas.Bool.{ltb-true, ltb-false, false≢true}
+use Rattle.std.proofs.lemmas.Bool.{ltb-true, ltb-false, false≢true, and_parts, or_left, not-false}
 use Rattle.std.proofs.lemmas.List.{get_or_past}
 use Rattle.std.proofs.lemmas.List.Quantifiers.{position-Some}
 use Rattle.std.proofs.lemmas.List.Elements.{All-nil}
@@ -14,8 +14,9 @@ use Rattle.rt_elf.specs.Sections.{section_at, section_by, has_bytes, is_code_sec
 use Rattle.rt_elf.specs.Symbols.{symbol_table, is_symbol_table, symbol_list}
 use Rattle.rt_elf.specs.declared.reloc.Reloc.{Reloc}
 use Rattle.rt_elf.specs.declared.section.Section.{Section}
-use Rattle.rt_elf.proofs.Booleans.{split, eqb-is, and-true, and-rest_false, not-false, fault_if-none, then_of-none, none_at, or-first}
+use Rattle.rt_elf.proofs.Booleans.{split, eqb-is, and-rest_false, fault_if-none, none_at}
 use Rattle.rt_elf.proofs.Lists.{get_or-entries, length-entries, All-entries, All-joined}
+use Rattle.rt_base.proofs.Entries.{then_of-none}
 
 section-within : (bytes : List ℕ) (h : ℕ) → section_fault bytes h ≡ None → IsTrue (has_bytes (section_at bytes h))
     → (section_at bytes h).offset + (section_at bytes h).size ≤ length bytes
@@ -33,14 +34,14 @@ sections-within bytes none k there has =
 pub kind-within : (bytes : List ℕ) (kind index : ℕ) → AreWithin bytes → IsTrue (is_kind_at bytes kind index) → (not (kind == 0) && not (kind == 8)) ≡ true
     → (index < section_count bytes) × ((section_by bytes index).offset + (section_by bytes index).size ≤ length bytes)
 kind-within bytes kind index within is_kind other =
-    let both = and-true _ _ is_kind in
+    let both = and_parts _ _ is_kind in
     let there : index < section_count bytes = ltb-true _ _ both.0 in
     let same : (section_by bytes index).kind ≡ kind = eqb-is _ _ both.1 in
     (there, within index there (rw same other))
 
 code-has_bytes : (section : Section) → IsTrue (is_code_section section) → IsTrue (has_bytes section)
 code-has_bytes section code =
-    let same : section.kind ≡ 1 = eqb-is _ _ (and-true _ _ code).0 in
+    let same : section.kind ≡ 1 = eqb-is _ _ (and_parts _ _ code).0 in
     rw same refl
 
 -- the section of an index of an object that was read
@@ -75,7 +76,7 @@ part-all P a false early middle later list implied none h = All-nil P
 
 -- relocations that are read are relocations
 read-is_reloc : (bytes : List ℕ) (section : Section) → is_read bytes section ≡ true → is_reloc_section section ≡ true
-read-is_reloc bytes section read = or-first (section.kind == 4) (section.kind == 9) (and-true (section.kind == 4) _ read).0
+read-is_reloc bytes section read = or_left (section.kind == 4) (section.kind == 9) (and_parts (section.kind == 4) _ read).0
 
 reloc_part-all : (bytes : List ℕ) (table : Option ℕ) (n k : ℕ) (object : Object) → IsObject bytes object → n ≡ length object.symbols
     → reloc_part_fault bytes table n k ≡ None → All (IsOfObject object) (reloc_part bytes k)
@@ -92,7 +93,7 @@ reloc_part-all bytes table n k object is count none =
     let fault : reloc_fault bytes n (section.offset + 12 * j) ≡ None =
     none_at (λ (j : ℕ). reloc_fault bytes n (section.offset + 12 * j)) (section.size / 12) j relocs (omega arith) in
     let symbol : word_at bytes (section.offset + 12 * j + 4) / 256 < n = ltb-true _ _ (not-false _ (fault_if-none _ _ fault)) in
-    (rw same (and-true _ _ read).1, rw (← count) symbol)))
+    (rw same (and_parts _ _ read).1, rw (← count) symbol)))
 
 -- the relocations are of the object's code and data, and about its symbols
 relocs-of_object : (bytes : List ℕ) (table : Option ℕ) (n : ℕ) (object : Object) → IsObject bytes object → n ≡ length object.symbols

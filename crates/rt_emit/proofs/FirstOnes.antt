@@ -20,17 +20,8 @@ use Rattle.rt_reduction.specs.Emits.{IsKept, IsOfKept}
 use Rattle.rt_emit.specs.Letters.{letters_at, AreLettersOf}
 use Rattle.rt_emit.specs.Bases.{IsFirstOf, AreKeptBases, AreFirst}
 use Rattle.rt_emit.specs.Writing.{IsNext}
-
-some_is : (o : Option ℕ) (m : ℕ) → o ≡ Some m → IsSome o
-some_is None m e = absurd (none_some e)
-  where
-    none_some : None ≡ Some m → ⊥
-    none_some f = cc
-some_is (Some k) m e = refl
-
-some_of : (o : Option ℕ) → IsSome o → (n : ℕ) × (o ≡ Some n)
-some_of None h = absurd cc
-some_of (Some n) h = (n, refl)
+use Rattle.rt_base.proofs.Options.{some_of, is_some_of}
+use Rattle.rt_reduction.proofs.Worded.{level_none}
 
 -- a letter alone
 one_letter : (n : ℕ) (w : List Label) → level (Proc n) w ≡ 0 → w ≢ [] → (l : Label) × (w ≡ l ∷ [])
@@ -54,12 +45,6 @@ plain_level (Proc n) w h e = absurd h
 plain_level (Global n) w h e = no_letter w e
 plain_level (Exist n) w h e = no_letter w e
 plain_level (Outer n) w h e = no_letter w e
-
-level_none : (b : Base) → level b [] ≡ 0
-level_none (Proc n) = refl
-level_none (Global n) = refl
-level_none (Exist n) = refl
-level_none (Outer n) = refl
 
 plain_no_procedure : (b : Base) → IsPlain b → (n : ℕ) → b ≡ Proc n → ⊥
 plain_no_procedure (Proc m) h n e = absurd h
@@ -118,7 +103,7 @@ module _ (graph : Graph) where
           let there : node_of graph (longer (bare (Proc p)) s.0) ≡ Some f.has.0 =
           subst (λ z. node_of graph z ≡ Some f.has.0) same f.has.1 in
           let step : step_of graph n s.0 ≡ Some f.has.0 = sym (node_of-longer graph (bare (Proc p)) s.0 n e) ∙ there in
-          (s.0, (are s.0).1 (some_is (step_of graph n s.0) f.has.0 step), same)
+          (s.0, (are s.0).1 (is_some_of (step_of graph n s.0) f.has.0 step), same)
 
   -- the queue has the first variables of bases
   abbrev pub HaveFirst : List Base → List Dtv → Type 0
@@ -133,7 +118,7 @@ module _ (graph : Graph) where
           let f = (have x).0 c in (
             record {
               kept = subst (IsKept order lines) (sym f.2.of_base) ((kept order f.0).0 f.1);
-              there = (is_shape.there order x).0 (some_is (node_of graph x) f.2.has.0 f.2.has.1);
+              there = (is_shape.there order x).0 (is_some_of (node_of graph x) f.2.has.0 f.2.has.1);
               no_procedure = f.2.no_procedure;
             },
             f.2.no_letter,

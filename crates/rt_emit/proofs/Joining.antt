@@ -25,14 +25,11 @@ use Rattle.rt_reduction.specs.Emits.{first_side, IsFixed, IsAnchored, Keeps}
 use Rattle.rt_reduction.specs.Emits.Keeps.{ends, stays, goes}
 use Rattle.rt_reduction.proofs.Anchoring.{first_is_side}
 use Rattle.rt_emit.specs.Joins.{ground, ground_links, links_of, links, HasNoOuter, IsGrounded, IsKeptOrLeft}
+use Rattle.rt_base.proofs.Options.{some_of}
 
 not_empty : (w : List Label) (l : Label) → w ++ l ∷ [] ≡ [] → ⊥
 not_empty [] l e = cc
 not_empty (m ∷ w) l e = cc
-
-some_of : (o : Option ℕ) → IsSome o → (n : ℕ) × (o ≡ Some n)
-some_of None h = absurd cc
-some_of (Some n) h = (n, refl)
 
 -- no order of constants is needed
 abbrev none_below : Below

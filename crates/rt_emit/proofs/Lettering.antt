@@ -7,7 +7,7 @@ use Rattle.std.specs.Map.{lookup}
 use Rattle.std.specs.BTreeMap.{BTreeMap}
 use Rattle.std.proofs.lemmas.List.Elements.{Contains-append_cases, Contains-append_left, Contains-append_right}
 use Rattle.std.proofs.lemmas.Bool.{eqb-true, eq-eqb}
-use Rattle.rt_base.proofs.Lists.{Contains-none, Contains-here, Contains-cons_cases}
+use Rattle.rt_base.proofs.Lists.{Contains-none, Contains-here, Contains-cons_cases, Contains-push_cases}
 use Rattle.rt_lines.specs.declared.label.Label.{Label}
 use Rattle.rt_lines.specs.declared.label.Label.TheVariants.{Load, Store}
 use Rattle.rt_lines.specs.declared.variable.Dtv.{Dtv}
@@ -24,6 +24,7 @@ use Rattle.rt_shape.specs.Shapes.{IsShapeOf, Equates}
 use Rattle.rt_shape.proofs.Models.{HaveOne, IsModel, holds}
 use Rattle.rt_shape.proofs.Walks.{node_of-longer, node_of-back, one_node}
 use Rattle.rt_emit.specs.Letters.{letters_at, with_edges, AddsLetter, AreAfter, AreEdges, AreKept, AreLettersOf, Enters, IsReached}
+use Rattle.rt_base.proofs.Options.{some_of, is_some_of}
 
 abbrev Edges : Type 0
 Edges = List ((ℕ × Label) × ℕ)
@@ -42,28 +43,6 @@ letter_equal n k l j e = by (nat_eq n k) refl (label_eq l j) refl e
     by true f true g h = (eqb-true n k f, label_equal l j g)
     by true f false g h = absurd cc
     by false f t g h = absurd cc
-
-end_cases : {X : Type 0} (xs : List X) (x y : X) → Contains (xs ++ x ∷ []) y → Contains xs y ⊎ (x ≡ y)
-end_cases xs x y c = by (Contains-append_cases xs (x ∷ []) y c)
-  where
-    last : (x ≡ y) ⊎ Contains [] y → x ≡ y
-    last (inl e) = e
-    last (inr d) = absurd (Contains-none y d)
-
-    by : Contains xs y ⊎ Contains (x ∷ []) y → Contains xs y ⊎ (x ≡ y)
-    by (inl d) = inl d
-    by (inr d) = inr (last (Contains-cons_cases x [] y d))
-
-some_is : (o : Option ℕ) (m : ℕ) → o ≡ Some m → IsSome o
-some_is None m e = absurd (none_some e)
-  where
-    none_some : None ≡ Some m → ⊥
-    none_some f = cc
-some_is (Some k) m e = refl
-
-some_of : (o : Option ℕ) → IsSome o → (n : ℕ) × (o ≡ Some n)
-some_of None h = absurd cc
-some_of (Some n) h = (n, refl)
 
 none_is : (o : Option ℕ) → not (is_some o) ≡ true → IsSome o → ⊥
 none_is None e h = cc
@@ -85,7 +64,7 @@ module _ (n : ℕ) (l : Label) (m : ℕ) (old new : Edges) (enters : Enters n l 
       out : (t : Bool) → nat_eq n k ≡ t → letter_eq (n, l) (k, j) ≡ false →
           Contains (cond t (letters_at letters k ++ l ∷ []) (letters_at letters k)) j → Contains (letters_at letters k) j
       out false e f c = c
-      out true e f c = cases (end_cases (letters_at letters k) l j c)
+      out true e f c = cases (Contains-push_cases (letters_at letters k) l j c)
         where
           cases : Contains (letters_at letters k) j ⊎ (l ≡ j) → Contains (letters_at letters k) j
           cases (inl d) = d
@@ -106,7 +85,7 @@ module _ (n : ℕ) (l : Label) (m : ℕ) (old new : Edges) (enters : Enters n l 
       by true e =
           let f : (n ≡ k) × (l ≡ j) = letter_equal n k l j e in
           let g : lookup (letter_eq (k, j)) new ≡ Some m = enters (k, j) ∙ ap (λ t. cond t (Some m) (lookup (letter_eq (k, j)) old)) e in
-          (λ c. some_is (lookup (letter_eq (k, j)) new) m g, λ h. last f.0 f.1)
+          (λ c. is_some_of (lookup (letter_eq (k, j)) new) m g, λ h. last f.0 f.1)
       by false e =
           let g : lookup (letter_eq (k, j)) new ≡ lookup (letter_eq (k, j)) old = enters (k, j) ∙
           ap (λ t. cond t (Some m) (lookup (letter_eq (k, j)) old)) e in (
@@ -128,7 +107,7 @@ module _ (n : ℕ) (l : Label) (m : ℕ) (old new : Edges) (enters : Enters n l 
             n,
             l,
           )) old) there) in
-          (λ c. some_is (lookup (letter_eq (k, j)) new) m g, λ h. (are k j).1 was)
+          (λ c. is_some_of (lookup (letter_eq (k, j)) new) m g, λ h. (are k j).1 was)
       by false e =
           let g : lookup (letter_eq (k, j)) new ≡ lookup (letter_eq (k, j)) old = enters (k, j) ∙
           ap (λ t. cond t (Some m) (lookup (letter_eq (k, j)) old)) e in
@@ -198,7 +177,7 @@ module _ (lines : List Line) (graph : Graph) (is_shape : IsShapeOf lines graph) 
   in_whole = in_graph graph edges are
 
   there : (x : Dtv) (n : ℕ) → node_of graph x ≡ Some n → Derivable none_below lines (Var x)
-  there x n e = (is_shape.there none_below x).0 (some_is (node_of graph x) n e)
+  there x n e = (is_shape.there none_below x).0 (is_some_of (node_of graph x) n e)
 
   equated_same : (l : Line) (x y : Dtv) → Contains lines l → Equates l x y →
       Derivable none_below lines (Same x y) × HasSide l x × HasSide l y
@@ -251,8 +230,8 @@ module _ (lines : List Line) (graph : Graph) (is_shape : IsShapeOf lines graph) 
 
   pub are_letters : (letters : BTreeMap ℕ (List Label)) → AreAfter edges letters → AreLettersOf graph letters
   are_letters letters after n l x = (
-    λ c. let s = some_of (lookup (letter_eq (n, l)) edges) ((after n l).0 c) in some_is (step_of graph n l) s.0 (are n l s.0 s.1).0,
-    λ h. let s = some_of (step_of graph n l) h in (after n l).1 (some_is (lookup (letter_eq (n, l)) edges) s.0 (all_edges n l s.0 x s.1)),
+    λ c. let s = some_of (lookup (letter_eq (n, l)) edges) ((after n l).0 c) in is_some_of (step_of graph n l) s.0 (are n l s.0 s.1).0,
+    λ h. let s = some_of (step_of graph n l) h in (after n l).1 (is_some_of (lookup (letter_eq (n, l)) edges) s.0 (all_edges n l s.0 x s.1)),
   )
 
 -- the sides of a line that has one, and of a line that has two

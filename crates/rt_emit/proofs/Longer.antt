@@ -15,6 +15,9 @@ use Rattle.rt_lines.specs.declared.variable.Dtv.{Dtv}
 use Rattle.rt_rules.specs.Rules.{longer}
 use Rattle.rt_texts.specs.Texts.{label_text}
 use Rattle.rt_reduction.specs.Before.{base_key, label_numbers, level, variable_key, comes_before}
+use Rattle.rt_base.proofs.Numbers.{nat_cmp-equal}
+use Rattle.rt_base.proofs.Lists.{map-push}
+use Rattle.rt_reduction.proofs.Before.{one_base_key}
 
 -- the variable is no procedure itself
 abbrev pub IsLettered : Dtv → Type 0
@@ -30,9 +33,6 @@ nat_both m n = by (nat_cmp m n) (ranked m n (nat_cmp m n) refl)
     by Less h = sym (nat_cmp_is (m + 1) (n + 1) Less (omega (arith, h)))
     by Equal h = sym (nat_cmp_is (m + 1) (n + 1) Equal (omega (arith, h)))
     by Greater h = sym (nat_cmp_is (m + 1) (n + 1) Greater (omega (arith, h)))
-
-nat_exact : (m n : ℕ) → nat_cmp m n ≡ Equal → m ≡ n
-nat_exact m n e = ranked m n Equal (sym e)
 
 length-end : {X : Type 0} (xs : List X) (x : X) → length (xs ++ x ∷ []) ≡ length xs + 1
 length-end xs x = length-append xs (x ∷ [])
@@ -75,10 +75,6 @@ module _ {X : Type 0} (R : X → X → Ordering) where
   slice_cmp-end a c x e f = slice_cmp-append a (x ∷ []) c (x ∷ []) e ∙
       ap (λ o. ordering_then (slice_cmp R a c) (ordering_then o Equal)) f ∙ then_equal (slice_cmp R a c)
 
-map-end : {X Y : Type 0} (f : X → Y) (xs : List X) (x : X) → map f (xs ++ x ∷ []) ≡ map f xs ++ f x ∷ []
-map-end f [] x = refl
-map-end f (y ∷ xs) x = ap (λ ys. f y ∷ ys) (map-end f xs x)
-
 abbrev cmp : List (List ℕ) → List (List ℕ) → Ordering
 cmp = slice_cmp (slice_cmp nat_cmp)
 
@@ -96,12 +92,12 @@ module _ (u w : List Label) (e : length u ≡ length w) where
   word_end : (l : Label) → words_cmp (u ++ l ∷ []) (w ++ l ∷ []) ≡ words_cmp u w
   word_end l =
       let texts : cmp (map label_text (u ++ l ∷ [])) (map label_text (w ++ l ∷ [])) ≡ cmp (map label_text u) (map label_text w) =
-      (λ i. cmp (map-end label_text u l i) (map-end label_text w l i)) ∙
+      (λ i. cmp (map-push label_text u l i) (map-push label_text w l i)) ∙
       slice_cmp-end (slice_cmp nat_cmp) (map label_text u) (map label_text w) (label_text l) (same_length label_text) (self (label_text
       l)) in
       let numbers : cmp (map label_numbers (u ++ l ∷ [])) (map label_numbers (w ++ l ∷ [])) ≡ cmp (map label_numbers u) (map
       label_numbers w) =
-      (λ i. cmp (map-end label_numbers u l i) (map-end label_numbers w l i)) ∙
+      (λ i. cmp (map-push label_numbers u l i) (map-push label_numbers w l i)) ∙
       slice_cmp-end (slice_cmp nat_cmp) (map label_numbers u) (map label_numbers w) (label_numbers l) (same_length label_numbers) (self
       (label_numbers l)) in
       let longer_length : length (map label_text (u ++ l ∷ [])) ≡ length (map label_text (w ++ l ∷ [])) =
@@ -121,24 +117,6 @@ level_length (Proc n) (l ∷ u) (m ∷ w) h k e = omega (arith, e)
 level_length (Global n) u w h k e = e
 level_length (Exist n) u w h k e = e
 level_length (Outer n) u w h k e = e
-
-one_key_base : (a b : Base) → base_key a ≡ base_key b → a ≡ b
-one_key_base (Exist m) (Exist n) e = let f : m ≡ n = cc in ap Exist f
-one_key_base (Global m) (Global n) e = let f : m ≡ n = cc in ap Global f
-one_key_base (Proc m) (Proc n) e = let f : m ≡ n = cc in ap Proc f
-one_key_base (Outer m) (Outer n) e = let f : m ≡ n = cc in ap Outer f
-one_key_base (Exist m) (Global n) e = absurd (cc)
-one_key_base (Exist m) (Proc n) e = absurd (cc)
-one_key_base (Exist m) (Outer n) e = absurd (cc)
-one_key_base (Global m) (Exist n) e = absurd (cc)
-one_key_base (Global m) (Proc n) e = absurd (cc)
-one_key_base (Global m) (Outer n) e = absurd (cc)
-one_key_base (Proc m) (Exist n) e = absurd (cc)
-one_key_base (Proc m) (Global n) e = absurd (cc)
-one_key_base (Proc m) (Outer n) e = absurd (cc)
-one_key_base (Outer m) (Exist n) e = absurd (cc)
-one_key_base (Outer m) (Global n) e = absurd (cc)
-one_key_base (Outer m) (Proc n) e = absurd (cc)
 
 -- how two keys compare, part by part
 abbrev parts_cmp : ℕ → List ℕ → List Label → ℕ → List ℕ → List Label → Ordering
@@ -165,7 +143,7 @@ module _ (x y : Dtv) (l : Label) (h : IsLettered x) (k : IsLettered y) where
   by_base Less e f = refl
   by_base Greater e f = refl
   by_base Equal e f =
-      let g : x.base ≡ y.base = one_key_base x.base y.base (exact_bytes (base_key x.base) (base_key y.base) e) in
+      let g : x.base ≡ y.base = one_base_key x.base y.base (exact_bytes (base_key x.base) (base_key y.base) e) in
       let lettered : (j : ℕ) → x.base ≡ Proc j → y.word ≢ [] = λ j p. k j (sym g ∙ p) in
       let same : length x.word ≡ length y.word =
       level_length x.base x.word y.word h lettered (f ∙ ap (λ b. level b y.word) (sym g)) in
@@ -175,7 +153,7 @@ module _ (x y : Dtv) (l : Label) (h : IsLettered x) (k : IsLettered y) where
       ordering_then (ordering_then o Equal) (ordering_then bases (words_cmp x.word y.word))
   by_level Less e = refl
   by_level Greater e = refl
-  by_level Equal e = by_base bases refl (nat_exact m n e)
+  by_level Equal e = by_base bases refl (nat_cmp-equal m n e)
 
   as_parts : cmp (variable_key (longer x l)) (variable_key (longer y l)) ≡
       ordering_then (ordering_then (nat_cmp (m + 1) (n + 1)) Equal) (ordering_then bases ends)

@@ -11,7 +11,7 @@ use Rattle.std.proofs.lemmas.Map.Lookups.{exact_bytes}
 use Rattle.rt_base.proofs.Lists.{Contains-none, Contains-here, Contains-there, Contains-cons_cases, Contains-map, Contains-map_source}
 use Rattle.rt_lines.specs.declared.variable.Dtv.{Dtv}
 use Rattle.rt_reduction.specs.Before.{variable_key, comes_before}
-use Rattle.rt_reduction.proofs.Before.{one_first, not_before_self}
+use Rattle.rt_reduction.proofs.Before.{one_first, not_before_self, one_variable_key}
 use Rattle.rt_emit.specs.Keys.{numbers}
 use Rattle.rt_emit.specs.Queues.{AreKeyed, IsPopped}
 
@@ -45,17 +45,6 @@ exact_list (x ∷ xs) (y ∷ ys) e = by (slice_cmp nat_cmp x y) refl e (exact_li
 
 one_number : (a b : Key) → key_cmp a b ≡ Equal → numbers a ≡ numbers b
 one_number a b e = exact_list (numbers a) (numbers b) (sym (agrees a.items b.items) ∙ e)
-
-one_variable : (x y : Dtv) → variable_key x ≡ variable_key y → x ≡ y
-one_variable x y e = one_first x y (ap (λ k. is_lt (cmp (variable_key x) k)) (sym e) ∙
-    not_self x) (ap (λ k. is_lt (cmp k (variable_key x))) (sym e) ∙ not_self x)
-  where
-    false_of : (t : Bool) → (t ≡ true → ⊥) → t ≡ false
-    false_of true h = absurd (h refl)
-    false_of false h = refl
-
-    not_self : (z : Dtv) → comes_before z z ≡ false
-    not_self z = false_of (comes_before z z) (not_before_self z)
 
 abbrev Entries : Type 0
 Entries = List (Key × Dtv)
@@ -131,7 +120,7 @@ module _ (k : Key) (x : Dtv) (is_key : numbers k ≡ variable_key x) where
     where
       instead : key_cmp k e.0 ≡ Equal → (e.1 ≡ y) ⊎ Has es y → Has ((e.0, x) ∷ es) y
       instead f (inl g) =
-          let same : x ≡ e.1 = one_variable x e.1 (sym is_key ∙ one_number k e.0 f ∙ h e (Contains-here e es)) in
+          let same : x ≡ e.1 = one_variable_key x e.1 (sym is_key ∙ one_number k e.0 f ∙ h e (Contains-here e es)) in
           subst (Contains (x ∷ values_of es)) (same ∙ g) (Contains-here x (values_of es))
       instead f (inr d) = Contains-there x (values_of es) y d
 

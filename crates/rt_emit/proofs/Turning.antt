@@ -6,7 +6,7 @@ use Rattle.std.specs.BTreeMap.{BTreeMap, get, is_at}
 use Rattle.std.specs.Map.{lookup}
 use Rattle.std.proofs.lemmas.List.Elements.{Contains-append_cases, Contains-append_left, Contains-append_right}
 use Rattle.std.proofs.lemmas.Bool.{eqb-true, eq-eqb}
-use Rattle.rt_base.proofs.Lists.{Contains-none, Contains-here, Contains-there, Contains-cons_cases}
+use Rattle.rt_base.proofs.Lists.{Contains-none, Contains-here, Contains-there, Contains-cons_cases, Contains-push_cases}
 use Rattle.rt_lines.specs.declared.label.Label.{Label}
 use Rattle.rt_lines.specs.declared.variable.Dtv.{Dtv}
 use Rattle.rt_lines.specs.declared.line.Line.{Line}
@@ -29,24 +29,14 @@ use Rattle.rt_emit.specs.Writing.IsTurn.{repeats, begins}
 use Rattle.rt_emit.proofs.Rising.{Rises, rises_behind}
 use Rattle.rt_emit.proofs.Longer.{longer_after}
 use Rattle.rt_emit.proofs.Wordings.{IsBefore, Said, IsWriting, first_line_by, first_word, of_written, node_there, there_of, one_shape}
-use Rattle.rt_emit.proofs.Wordings.{some_of, is_some_of, are_shape_lines, begun}
+use Rattle.rt_emit.proofs.Wordings.{is_some_of, are_shape_lines, begun}
+use Rattle.rt_base.proofs.Options.{some_of}
 
 itself : (x : Dtv) → line_by x x ≡ Var x
 itself x = ap (λ t. cond t (Var x) (Same x x)) ((variable_laws.laws-law).refl x)
 
 at_end : {X : Type 0} (xs : List X) (x : X) → Contains (xs ++ x ∷ []) x
 at_end xs x = Contains-append_right xs (x ∷ []) x (Contains-here x [])
-
-end_cases : {X : Type 0} (xs : List X) (x y : X) → Contains (xs ++ x ∷ []) y → Contains xs y ⊎ (x ≡ y)
-end_cases xs x y c = by (Contains-append_cases xs (x ∷ []) y c)
-  where
-    last : (x ≡ y) ⊎ Contains [] y → x ≡ y
-    last (inl e) = e
-    last (inr d) = absurd (Contains-none y d)
-
-    by : Contains xs y ⊎ Contains (x ∷ []) y → Contains xs y ⊎ (x ≡ y)
-    by (inl d) = inl d
-    by (inr d) = inr (last (Contains-cons_cases x [] y d))
 
 module _ (order : Below) (lines : List Line) (graph : Graph) (is_shape : IsShapeOf lines graph)
     (letters : ℕ → List Label) (words : ℕ → Option Dtv) (x : Dtv) (queue : List Dtv) (shape : List Line)
@@ -94,14 +84,14 @@ module _ (order : Below) (lines : List Line) (graph : Graph) (is_shape : IsShape
 
   behind_on : (l k : Line) (y : Dtv) → first_side l ≡ x → comes_before x y ≡ true → Contains (shape ++ l ∷ []) k →
       comes_before (first_side k) y ≡ true
-  behind_on l k y e less c = by (end_cases shape l k c)
+  behind_on l k y e less c = by (Contains-push_cases shape l k c)
     where
       by : Contains shape k ⊎ (l ≡ k) → comes_before (first_side k) y ≡ true
       by (inl d) = before_chain (first_side k) x y (behind_first k d) less
       by (inr f) = subst (λ m. comes_before (first_side m) y ≡ true) f (subst (λ z. comes_before z y ≡ true) (sym e) less)
 
   each_on : (l k : Line) → IsShapeLine order lines l → Contains (shape ++ l ∷ []) k → IsShapeLine order lines k
-  each_on l k h c = by (end_cases shape l k c)
+  each_on l k h c = by (Contains-push_cases shape l k c)
     where
       by : Contains shape k ⊎ (l ≡ k) → IsShapeLine order lines k
       by (inl d) = is.each k d

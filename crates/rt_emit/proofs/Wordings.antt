@@ -27,10 +27,9 @@ use Rattle.rt_emit.specs.Writing.{line_by}
 use Rattle.rt_emit.proofs.Rising.{Rises, less_next}
 use Rattle.rt_emit.proofs.Rising.Rises.{none}
 use Rattle.rt_emit.proofs.Longer.{IsLettered, longer_after, before-longer}
-
-pub some_of : (o : Option ℕ) → IsSome o → (n : ℕ) × (o ≡ Some n)
-some_of None h = absurd cc
-some_of (Some n) h = (n, refl)
+use Rattle.rt_base.proofs.Options.{some_of}
+use Rattle.rt_reduction.proofs.Worded.{not_empty, level_none}
+use Rattle.std.proofs.lemmas.Bool.{false_from_ne_true}
 
 pub is_some_of : {X : Type 0} (o : Option X) (x : X) → o ≡ Some x → IsSome o
 is_some_of None x e = absurd (none_some x e)
@@ -38,14 +37,6 @@ is_some_of None x e = absurd (none_some x e)
     none_some : {X : Type 0} (x : X) → None ≡ Some x → ⊥
     none_some x f = cc
 is_some_of (Some y) x e = refl
-
-not_empty : (w : List Label) (l : Label) → w ++ l ∷ [] ≢ []
-not_empty [] l e = cc
-not_empty (m ∷ w) l e = cc
-
-false_of : (t : Bool) → (t ≡ true → ⊥) → t ≡ false
-false_of true h = absurd (h refl)
-false_of false h = refl
 
 true_false : (t : Bool) → t ≡ true → t ≡ false → ⊥
 true_false t e f = cc
@@ -57,12 +48,6 @@ lettered_cases (Proc n) (l ∷ w) = inr (λ m e f. absurd cc)
 lettered_cases (Global n) w = inr (λ m e f. absurd cc)
 lettered_cases (Exist n) w = inr (λ m e f. absurd cc)
 lettered_cases (Outer n) w = inr (λ m e f. absurd cc)
-
-level-none : (b : Base) → level b [] ≡ 0
-level-none (Proc n) = refl
-level-none (Global n) = refl
-level-none (Exist n) = refl
-level-none (Outer n) = refl
 
 level-proc : (n : ℕ) (l : Label) → level (Proc n) (l ∷ []) ≡ 0
 level-proc n l = refl
@@ -79,7 +64,7 @@ IsBefore a b = comes_before (first_side a) (first_side b) ≡ true
 
 -- what stands in the order of x stands so before what comes after x
 not_before_chain : (x y z : Dtv) → comes_before y x ≡ true → comes_before y z ≡ false → comes_before x z ≡ false
-not_before_chain x y z e f = false_of (comes_before x z) (λ g. true_false (comes_before y z) (before_chain y x z e g) f)
+not_before_chain x y z e f = false_from_ne_true (comes_before x z) (λ g. true_false (comes_before y z) (before_chain y x z e g) f)
 
 module _ (order : Below) (lines : List Line) (graph : Graph) (is_shape : IsShapeOf lines graph) where
   abbrev L : Line → Type 0
@@ -142,7 +127,7 @@ module _ (order : Below) (lines : List Line) (graph : Graph) (is_shape : IsShape
     Waits x = IsReached x ⊎ ((z : Dtv) × Contains queue z × (comes_before x z ≡ false))
 
     not_self : (x : Dtv) → comes_before x x ≡ false
-    not_self x = false_of (comes_before x x) (not_before_self x)
+    not_self x = false_from_ne_true (comes_before x x) (not_before_self x)
 
     reached : (x : Dtv) (node : ℕ) (word : Dtv) → IsOfKept order lines x → node_of graph x ≡ Some node → words node ≡ Some word →
         IsReached x
@@ -195,7 +180,7 @@ module _ (order : Below) (lines : List Line) (graph : Graph) (is_shape : IsShape
     kept_before x l lettered is_of = record { kept = is_of.kept; there = prefix l is_of.there; no_procedure = lettered }
 
     walk_waits : (x : Dtv) (n : ℕ) → Walks graph x n → IsOfKept order lines x → Waits x
-    walk_waits _ n (at_base b e) is_of = base_waits (bare b) is_of (level-none b)
+    walk_waits _ n (at_base b e) is_of = base_waits (bare b) is_of (level_none b)
     walk_waits _ n (at_letter {x = x} l w e) is_of = by (lettered_cases x.base x.word) (λ before. walk_waits x _ w before)
       where
         by : ((k : ℕ) × (x.base ≡ Proc k) × (x.word ≡ [])) ⊎ IsLettered x → (IsOfKept order lines x → Waits x) → Waits (longer x l)
@@ -218,7 +203,7 @@ module _ (order : Below) (lines : List Line) (graph : Graph) (is_shape : IsShape
 
         after : (y z : Dtv) → comes_before y z ≡ false → (x ≡ z) ⊎ (comes_before x z ≡ true) → comes_before y x ≡ false
         after y z e (inl f) = subst (λ u. comes_before y u ≡ false) (sym f) e
-        after y z e (inr f) = false_of (comes_before y x) (λ g. true_false (comes_before y z) (before_chain y x z g f) e)
+        after y z e (inr f) = false_from_ne_true (comes_before y x) (λ g. true_false (comes_before y z) (before_chain y x z g f) e)
 
         by : (y : Dtv) → L (Same x y) → Waits y → comes_before y x ≡ false
         by y d (inl r) =

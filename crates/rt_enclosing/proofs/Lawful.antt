@@ -18,10 +18,7 @@ use Rattle.rt_enclosing.specs.Laws.{Holds, HasLines, LowerLaw, UpperLaw, FewerLa
 use Rattle.rt_enclosing.proofs.Lower.{lower_means}
 use Rattle.rt_enclosing.proofs.Upper.{steps_to, is_above}
 use Rattle.rt_enclosing.proofs.Implicit.{Wide, Joint, wide_upper, wide_lines, bared}
-
-decide : (b : Bool) → IsTrue b ⊎ (IsTrue b → ⊥)
-decide true = inl refl
-decide false = inr (λ e. cc)
+use Rattle.rt_bridge.proofs.Lawful.{decide}
 
 by_letter : (l : Label) (s : Variance) → label_variance l ≡ s → variance_of_word (l ∷ []) ≡ s
 by_letter l Co e = rw e refl

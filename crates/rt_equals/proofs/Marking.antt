@@ -4,13 +4,7 @@ use Rattle.std.specs.Prelude.{IsSome}
 use Rattle.std.proofs.lemmas.Bool.{cases_eq}
 use Rattle.rt_lines.specs.declared.variable.Dtv.{Dtv}
 use Rattle.rt_equals.specs.Comparing.{Agree, AreAsMarked, AreMarked, IsExistential}
-
-some_of : (o : Option ℕ) (x : ℕ) → o ≡ Some x → IsSome o
-some_of None x e = absurd (none_some e)
-  where
-    none_some : None ≡ Some x → ⊥
-    none_some f = cc
-some_of (Some y) x e = refl
+use Rattle.rt_base.proofs.Options.{is_some_of, some_of}
 
 last_or_before : (k i : ℕ) → k < i + 1 → (k ≡ i) ⊎ (k < i)
 last_or_before k i h = grind arith
@@ -27,7 +21,7 @@ marked_set named outer i x old new e room are k h existential = by (cases_eq (ge
 
     by : (get_or outer k 0 ≡ get_or outer i 0) ⊎ (get_or outer k 0 ≡ get_or outer i 0 → ⊥) → (k ≡ i) ⊎ (k < i) →
         IsSome (get_or new (get_or outer k 0) None)
-    by (inl f) r = some_of (get_or new (get_or outer k 0) None) x (here (get_or outer k 0) f)
+    by (inl f) r = is_some_of (get_or new (get_or outer k 0) None) x (here (get_or outer k 0) f)
     by (inr n) (inl f) = absurd (n (ap (λ j. get_or outer j 0) f))
     by (inr n) (inr l) =
         subst IsSome (sym (read (get_or outer k 0) ∙ get_or-set_other old (get_or outer i 0) (get_or outer k 0) (Some x) None n))
@@ -51,14 +45,10 @@ as_next outer inner j marks own are k m h e = by (last_or_before k j h)
     by (inl f) = ap (λ i. get_or inner i 0) f ∙ own m (sym (ap (λ i. get_or marks (get_or outer i 0) None) f) ∙ e)
     by (inr l) = are k m l e
 
-mark_of : (o : Option ℕ) → IsSome o → (m : ℕ) × (o ≡ Some m)
-mark_of None s = absurd cc
-mark_of (Some m) s = (m, refl)
-
 -- where all are as marked the numbers agree
 pub agreed : (named : List Dtv) (outer inner : List ℕ) (marks : List (Option ℕ)) → length outer ≡ length named →
     AreMarked named outer (length named) marks → AreAsMarked outer inner (length outer) marks → Agree named outer inner
 agreed named outer inner marks size marked same i j h k existential e =
-    let r : (m : ℕ) × (get_or marks (get_or outer i 0) None ≡ Some m) = mark_of (get_or marks (get_or outer i 0) None) (marked i h existential) in
+    let r : (m : ℕ) × (get_or marks (get_or outer i 0) None ≡ Some m) = some_of (get_or marks (get_or outer i 0) None) (marked i h existential) in
     same i r.0 (subst (λ n. i < n) (sym size) h) r.1
     ∙ sym (same j r.0 (subst (λ n. j < n) (sym size) k) (ap (λ n. get_or marks n None) (sym e) ∙ r.1))

@@ -7,16 +7,15 @@ use Rattle.rt_lines.specs.declared.label.Label.TheVariants.{In, Out, Load, Store
 use Rattle.rt_lines.specs.Equality.{label_eq}
 use Rattle.rt_tree.specs.Trees.{Nodes, step_of, node_at, joined}
 use Rattle.rt_lines.proofs.Equal.{label_equal}
-use Rattle.rt_tree.proofs.Edges.{label_itself}
 use Rattle.rt_erase.specs.declared.row.Row.{Row}
 use Rattle.rt_erase.specs.declared.extremes.Extremes.{Extremes}
 use Rattle.rt_erase.specs.Rows.{fields_of, label_of, row_at}
 use Rattle.rt_erase.specs.Erasures.{erased_step, rows_step, target_of}
 use Rattle.rt_erase.specs.Erasing.{IsErasing, KeepsBelow}
-use Rattle.rt_erase.proofs.Edging.{same_step, joined_length, joined_at, joined_marks, joined_same, joined_other}
-
-less_or_same : (i n : ℕ) → i < n + 1 → (i < n) ⊎ (i ≡ n)
-less_or_same i n less = search (arith)
+use Rattle.rt_erase.proofs.Edging.{same_step, joined_at, joined_marks, joined_other}
+use Rattle.rt_base.proofs.Numbers.{cases_last}
+use Rattle.rt_lines.proofs.Same.{label_self}
+use Rattle.rt_tree.proofs.Reaching.{joined_length, new_step}
 
 -- growth from a node on
 pub keeps_itself : (start : ℕ) (graph : Nodes) → KeepsBelow start graph graph
@@ -97,7 +96,7 @@ label_cases k l = by (label_eq k l) refl
   where
     by : (b : Bool) → label_eq k l ≡ b → (k ≡ l) ⊎ (k ≡ l → ⊥)
     by true e = inl (label_equal k l e)
-    by false e = inr (λ same. let clash : true ≡ false = sym (label_itself k) ∙ (ap (label_eq k) same ∙ e) in cc)
+    by false e = inr (λ same. let clash : true ≡ false = sym (label_self k) ∙ (ap (label_eq k) same ∙ e) in cc)
 
 pub erasing_field : (extremes : Extremes) (start : ℕ) (tree : Nodes) (n : ℕ) (rows : List Row) (graph : Nodes) (row : Row) →
     n < length tree → start + length tree ≤ length graph → row_at rows row.bits row.offset ≡ None → IsErasing extremes start tree n rows graph →
@@ -128,7 +127,7 @@ erasing_field extremes start tree n rows graph row less within none is = record 
         step_of (joined graph (start + n) (label_of row) (target_of extremes start tree row)) (start + n) m ≡ rows_step extremes start tree (rows ++ row ∷ []) m
     here m (inl same) =
         subst (λ k. step_of (joined graph (start + n) (label_of row) (target_of extremes start tree row)) (start + n) k ≡ rows_step extremes start tree (rows ++ row ∷ []) k) (sym same)
-        (joined_same graph (start + n) (label_of row) (target_of extremes start tree row) (omega arith) (free_field extremes start tree n rows graph row less none is)
+        (new_step graph (start + n) (label_of row) (target_of extremes start tree row) (omega arith) (free_field extremes start tree n rows graph row less none is)
         ∙ sym (step_there extremes start tree rows row none))
     here m (inr other) =
         joined_other graph (start + n) (label_of row) (target_of extremes start tree row) m (omega arith) other
@@ -139,7 +138,7 @@ pub erasing_next : (extremes : Extremes) (start : ℕ) (tree : Nodes) (n : ℕ) 
     IsErasing extremes start tree n (fields_of (node_at tree n)) graph → IsErasing extremes start tree (n + 1) [] graph
 erasing_next extremes start tree n graph less is = record {
   marks = is.marks;
-  before = λ k smaller l. before k l (less_or_same k n smaller);
+  before = λ k smaller l. before k l (cases_last k n smaller);
   here = λ inside l. is.after (n + 1) (omega arith) inside l ∙ sym (no_rows extremes start tree l);
   after = λ k greater inside l. is.after k (omega arith) inside l;
 }

@@ -10,6 +10,7 @@ use Rattle.rt_lines.specs.declared.label.Label.TheVariants.{Field}
 use Rattle.rt_erase.specs.declared.row.Row.{Row}
 use Rattle.rt_erase.specs.Rows.{comes_before, label_of, with_row}
 use Rattle.rt_erase.specs.Sorting.{Entry, row_in, rows_in, AreOthers}
+use Rattle.rt_base.proofs.Numbers.{nat_cmp-equal, then-equal}
 
 -- how two keys compare
 abbrev pub key_cmp : ℕ × Reverse ℕ → ℕ × Reverse ℕ → Ordering
@@ -25,20 +26,12 @@ before_is false true false true = refl
 before_is false true false false = refl
 before_is false false shorter equal = refl
 
-then_equal : (o p : Ordering) → ordering_then o p ≡ Equal → (o ≡ Equal) × (p ≡ Equal)
-then_equal Less p e = cc
-then_equal Equal p e = (refl, e)
-then_equal Greater p e = cc
-
-one_number : (m n : ℕ) → nat_cmp m n ≡ Equal → m ≡ n
-one_number m n e = ranked m n Equal (sym e)
-
 -- fields with one key have one label
 one_label : (row : Row) (entry : Entry) → key_cmp (key_of row) entry.0 ≡ Equal → label_of (row_in entry) ≡ label_of row
 one_label row entry e =
-    let parts = then_equal (nat_cmp row.offset entry.0.0) (nat_cmp entry.0.1.0 row.bits) e in
-    let offset : row.offset ≡ entry.0.0 = one_number row.offset entry.0.0 parts.0 in
-    let bits : entry.0.1.0 ≡ row.bits = one_number entry.0.1.0 row.bits parts.1 in
+    let parts = then-equal (nat_cmp row.offset entry.0.0) (nat_cmp entry.0.1.0 row.bits) e in
+    let offset : row.offset ≡ entry.0.0 = nat_cmp-equal row.offset entry.0.0 parts.0 in
+    let bits : entry.0.1.0 ≡ row.bits = nat_cmp-equal entry.0.1.0 row.bits parts.1 in
     let place : entry.0.0 ≡ row.offset = sym offset in
     λ i. Field (bits i) (pos (place i))
 

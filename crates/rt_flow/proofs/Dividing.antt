@@ -5,6 +5,7 @@ use Rattle.std.proofs.lemmas.Bool.{cases_eq, cases_lt}
 use Rattle.std.proofs.lemmas.List.{get_or_append_left, get_or_push, get_or_past, length_push}
 use Rattle.rt_flow.specs.Bodies.{Body}
 use Rattle.rt_flow.specs.Blocks.{IsJoined, AreBlocks}
+use Rattle.rt_base.proofs.Numbers.{before_or}
 
 -- the blocks of the first sites, so many
 pub record IsDividing (body : Body) (i count : ℕ) (block firsts : List ℕ) : Type 0 where
@@ -25,13 +26,6 @@ at_before xs y k less = get_or_append_left xs (y ∷ []) 0 k less
 
 pub at_end : (xs : List ℕ) (y k : ℕ) → length xs ≡ k → slice_index (xs ++ y ∷ []) k ≡ y
 at_end xs y k e = get_or_push xs y 0 k e
-
-before_or : (n k : ℕ) → k < n + 1 → (k < n) ⊎ (k ≡ n)
-before_or n k less = by (cases_eq k n)
-  where
-    by : (k ≡ n) ⊎ (k ≡ n → ⊥) → (k < n) ⊎ (k ≡ n)
-    by (inl e) = inr e
-    by (inr other) = inl (omega arith)
 
 module _ (body : Body) where
   pub starts : IsDividing body 0 0 [] []

@@ -6,10 +6,7 @@ use Rattle.std.specs.Cmp.Lexicographic.{pointwise}
 use Rattle.std.proofs.lemmas.List.{get_or_append_left, length_push, map-append}
 use Rattle.std.proofs.lemmas.List.Elements.{All-push}
 use Rattle.indexmap.specs.IndexSet.{insert_key}
-
-both : (a b : Bool) → (a && b) ≡ true → (a ≡ true) × (b ≡ true)
-both true b e = (refl, e)
-both false b e = cc
+use Rattle.std.proofs.lemmas.Bool.{and_parts}
 
 -- lists whose items are equal
 pub pointwise_equal : {T : Type 0} (eq : T → T → Bool) → ((a b : T) → eq a b ≡ true → a ≡ b) → (xs ys : List T) → pointwise eq xs ys ≡ true → xs ≡ ys
@@ -17,7 +14,7 @@ pointwise_equal eq exact [] [] e = refl
 pointwise_equal eq exact [] (y ∷ ys) e = cc
 pointwise_equal eq exact (x ∷ xs) [] e = cc
 pointwise_equal eq exact (x ∷ xs) (y ∷ ys) e =
-    let parts = both (eq x y) (pointwise eq xs ys) e in
+    let parts = and_parts (eq x y) (pointwise eq xs ys) e in
     let first = exact x y parts.0 in
     let rest = pointwise_equal eq exact xs ys parts.1 in
     λ i. first i ∷ rest i

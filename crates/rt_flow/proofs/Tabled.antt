@@ -10,6 +10,7 @@ use Rattle.rt_flow.specs.Blocks.{AreBlocks, AreTargets, AreLasts, IsLastOf, IsLa
 use Rattle.rt_flow.specs.Spreading.{AreRising, AreRows, AreWithin}
 use Rattle.rt_flow.specs.Tables.{Grows, AreNumbers, IsTable}
 use Rattle.rt_flow.proofs.Numbered.{kept, longer}
+use Rattle.rt_base.proofs.Numbers.{before_or}
 
 module _ {X : Type 0} where
   pub grows_none : (lists : List (List X)) → Grows lists lists
@@ -26,13 +27,6 @@ module _ {X : Type 0} where
     longer = omega (arith, first.longer, second.longer);
     kept = λ n less. second.kept n (omega (arith, first.longer)) ∙ first.kept n less;
   }
-
-before_or : (n k : ℕ) → k < n + 1 → (k < n) ⊎ (k ≡ n)
-before_or n k less = by (cases_eq k n)
-  where
-    by : (k ≡ n) ⊎ (k ≡ n → ⊥) → (k < n) ⊎ (k ≡ n)
-    by (inl e) = inr e
-    by (inr other) = inl (omega arith)
 
 pub numbers_none : (sets : List (List Def)) (numbers : List ℕ) → numbers ≡ [] → AreNumbers [] sets numbers
 numbers_none sets numbers e = record { each = ap length e; within = λ b less. absurd (omega arith); list = λ b less. absurd (omega arith) }

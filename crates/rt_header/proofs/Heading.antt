@@ -31,7 +31,8 @@ use Rattle.rt_header.specs.Built.{Forest, Structs, IsForest, IsFunctionBuilt, Ar
 use Rattle.rt_header.proofs.Telling as telling
 use Rattle.rt_header.proofs.Telling.{none_found, found}
 use Rattle.rt_header.proofs.Apart as separate
-use Rattle.rt_header.proofs.Reached.{met_reached, apart}
+use Rattle.rt_header.proofs.Reached.{met_reached}
+use Rattle.rt_base.proofs.Numbers.{apart}
 
 -- a function of a number that rises is found
 find_rising : (d : CFunction) (functions : List CFunction) (i : ℕ) → i < length functions

@@ -13,13 +13,6 @@ class_at forest structs s = class_of forest (get_or structs s (0, 0)).0 (get_or 
 clash : (o : Option ℕ) (s : ℕ) → o ≡ None → o ≡ Some s → ⊥
 clash o s p q = cc
 
--- no class has a number yet
-pub none_pushed : (xs : List (Option ℕ)) → ((c : ℕ) → get_or xs c None ≡ None) → (c : ℕ) → get_or (xs ++ None ∷ []) c None ≡ None
-none_pushed [] h zero = refl
-none_pushed [] h (suc c) = refl
-none_pushed (x ∷ xs) h zero = h 0
-none_pushed (x ∷ xs) h (suc c) = none_pushed xs (λ i. h (suc i)) c
-
 pub none_made : (forest : Forest) (numbers : List (Option ℕ)) → length numbers ≡ length forest.erased.graph → ((c : ℕ) → get_or numbers c None ≡ None) → IsMaking forest [] numbers
 none_made forest numbers each none = record {
   are = record {

@@ -16,9 +16,8 @@ use Rattle.rt_lines.proofs.Equal.{label_equal}
 use Rattle.rt_cdecl.specs.GoodDecls.{place_of}
 use Rattle.rt_header.specs.Ports.{AreArguments, IsNoted, argument_in, index_of}
 use Rattle.rt_header.proofs.Heading.{place_one}
-
-label_same : (l : Label) → label_eq l l ≡ true
-label_same l = (label_laws.laws-law).refl l
+use Rattle.rt_base.proofs.Options.{option_or-none}
+use Rattle.rt_lines.proofs.Same.{label_self}
 
 -- an argument has the place of its index
 pub place_index : (loc : Loc) → IsLoc loc → place_of (index_of loc) ≡ loc
@@ -45,10 +44,6 @@ lookup_push test (entry ∷ entries) key x = by (test entry.0) (lookup_push test
 argument_push : (edges : List (Label × ℕ)) (label : Label) (node j : ℕ)
     → argument_in (edges ++ (label, node) ∷ []) j ≡ option_or (argument_in edges j) (cond (label_eq (In (place_of j)) label) (Some node) None)
 argument_push edges label node j = lookup_push (label_eq (In (place_of j))) edges label node
-
-or_none : {X : Type 0} (o : Option X) → option_or o None ≡ o
-or_none None = refl
-or_none (Some x) = refl
 
 or_some : {X : Type 0} (o : Option X) (x : X) → IsSome (option_or o (Some x))
 or_some None x = refl
@@ -84,8 +79,8 @@ arguments_next edges node loc old new is_loc within are noted = record {
         let is : j ≡ index_of loc = place_one j (index_of loc) (same ∙ sym (place_index loc is_loc)) in
         ap (λ i. get_or new i None) is ∙ (noted.here ∙ (ap (λ i. option_or (get_or old i None) (Some node)) (sym is) ∙ ap (λ o. option_or o (Some node)) (are.each j)))
     each j false e =
-        noted.others j (λ is. false≢true (e ∙ (ap (λ l. label_eq (In l) (In loc)) (ap place_of is ∙ place_index loc is_loc) ∙ label_same (In loc)))) ∙
-        (are.each j ∙ sym (or_none (argument_in edges j)))
+        noted.others j (λ is. false≢true (e ∙ (ap (λ l. label_eq (In l) (In loc)) (ap place_of is ∙ place_index loc is_loc) ∙ label_self (In loc)))) ∙
+        (are.each j ∙ sym (option_or-none (argument_in edges j)))
 
     here : IsSome (get_or new (index_of loc) None)
     here = subst IsSome (sym noted.here) (or_some (get_or old (index_of loc) None) node)
@@ -107,7 +102,7 @@ pub arguments_other : (edges : List (Label × ℕ)) (node : ℕ) (label : Label)
     → ((loc : Loc) → label ≡ In loc → ⊥) → AreArguments edges nodes → AreArguments (edges ++ (label, node) ∷ []) nodes
 arguments_other edges node label nodes other are = record {
   few = are.few;
-  each = λ j. are.each j ∙ (sym (or_none (argument_in edges j)) ∙
+  each = λ j. are.each j ∙ (sym (option_or-none (argument_in edges j)) ∙
       (ap (λ b. option_or (argument_in edges j) (cond b (Some node) None)) (differs j (label_eq (In (place_of j)) label) refl) ∙
       sym (argument_push edges label node j)));
   last = are.last;

@@ -24,13 +24,7 @@ use Rattle.rt_cdecl.specs.HeaderWords.{Letter, Pointee, At, Spot, OfType, OfStru
 use Rattle.rt_header.proofs.Telling.{int_eq_pos}
 use Rattle.rt_header.specs.Met.{AreMet, AreSearched, struct_in, structs_of_fields, structs_of_function}
 use Rattle.rt_header.specs.Headers.{IsPointedTo}
-
-pub apart : (a b : ℕ) → (a ≡ b → ⊥) → (a == b) ≡ false
-apart a b never = by (a == b) refl
-  where
-    by : (t : Bool) → t ≡ (a == b) → t ≡ false
-    by true e = absurd (never (eqb-true a b (sym e)))
-    by false e = refl
+use Rattle.rt_base.proofs.Numbers.{apart}
 
 only_one : (m n : ℕ) → Contains (m ∷ []) n → m ≡ n
 only_one m n c = elim (Contains-cons_cases m [] n c) [

@@ -7,7 +7,7 @@ use Rattle.std.specs.Option.{option_map, option_and_then}
 use Rattle.std.specs.Prelude.{All, not}
 use Rattle.std.proofs.lemmas.Bool.{and_parts, eq-eqb, eqb-true, false≢true}
 use Rattle.std.proofs.lemmas.Bool.Decides.{Decides-int_eq, same_from_decides}
-use Rattle.std.proofs.lemmas.Option.{slice_get-get_or}
+use Rattle.std.proofs.lemmas.Option.{slice_get-get_or, same_Some, none-some}
 use Rattle.std.proofs.lemmas.List.Elements.{All-head, All-tail}
 use Rattle.rt_lines.specs.declared.label.Loc.{Loc}
 use Rattle.rt_lines.specs.declared.label.Label.{Label}
@@ -18,7 +18,7 @@ use Rattle.rt_lines.proofs.Equal.{loc_equal}
 use Rattle.rt_lines.specs.contracts.label.LocEq.TheImpl.Laws as loc_laws
 use Rattle.rt_tree.specs.Trees.{AreLike, IsEdge, IsNode, IsTree, Node, Nodes, edge_of, leaf, marks_from, marks_of, node_at, step_of, walk}
 use Rattle.rt_tree.specs.Partitions.{IsGraph}
-use Rattle.rt_tree.proofs.Words.{All-at, leads, marked, node_of, step_in, then_some}
+use Rattle.rt_tree.proofs.Words.{leads, marked, node_of, step_in, then_some}
 use Rattle.rt_tree.proofs.Alike.{like_marks}
 use Rattle.rt_tree.proofs.Edges.{found_has}
 use Rattle.rt_erase.specs.declared.row.Row.{Row}
@@ -37,6 +37,9 @@ use Rattle.rt_cdecl.specs.HeaderWords.{Letter, Pointee, At, HeaderWord, OfType, 
 use Rattle.rt_cdecl.specs.HeaderWords.{Spot as Told, after as told_after, after_all as told_all}
 use Rattle.rt_header.specs.Erased.{Spot, OfValue, OfPointee, after, after_all, port_spot, value_of, scalar_of as erased_scalar, word_in as erased_word}
 use Rattle.rt_header.specs.Built.{Forest, Structs, IsForest, IsNodeOf, IsStructOf, IsTypeOf, AreFieldsOf, IsPortOf, IsFunctionBuilt, AreBuilt, class_of, tree_of, pointer, scalar, used, unused}
+use Rattle.rt_base.proofs.Lists.{All-at}
+use Rattle.rt_base.proofs.Numbers.{apart}
+use Rattle.rt_header.proofs.Fields.{type_bits}
 
 -- Options that agree: none both, or of values that do.
 
@@ -123,21 +126,15 @@ node_there graph x less = slice_get-get_or graph x (leaf 0 0) less
 
 -- What a graph has of the nodes of trees.
 
-some_is : {X : Type 0} (a b : X) → Some a ≡ Some b → a ≡ b
-some_is a b e = ap (λ o. unwrap_or o a) e
-
-none_is : {X : Type 0} (a : X) → None ≡ Some a → ⊥
-none_is a e = cc
-
 -- a field that is found is one, of that width
 row_found : (count : ℕ) (rows : List Row) → All (IsRow count) rows → (bits k : ℕ) (row : Row) → row_at rows bits k ≡ Some row → IsRow count row × (row.bits ≡ bits)
-row_found count [] each bits k row e = absurd (none_is row e)
+row_found count [] each bits k row e = absurd (none-some row e)
 row_found count (first ∷ rows) each bits k row e = by ((first.offset == k) && (first.bits == bits)) refl e (row_found count rows (All-tail (IsRow count) first rows each) bits k row)
   where
     by : (t : Bool) → t ≡ ((first.offset == k) && (first.bits == bits)) → cond t (Some first) (row_at rows bits k) ≡ Some row
         → (row_at rows bits k ≡ Some row → IsRow count row × (row.bits ≡ bits)) → IsRow count row × (row.bits ≡ bits)
     by true t e rest =
-        let same = some_is first row e in
+        let same = same_Some first row e in
         (subst (IsRow count) same (All-head (IsRow count) first rows each), ap (λ (r : Row). r.bits) (sym same) ∙ eqb-true first.bits bits (and_parts (first.offset == k) (first.bits == bits) (sym t)).1)
     by false t e rest = rest e
 
@@ -363,18 +360,6 @@ module _ (forest : Forest) (is : IsForest forest) where
 loc_same : (l : Loc) → loc_eq l l ≡ true
 loc_same l = (loc_laws.laws-law).refl l
 
--- the width of a type
-type_bits : (forest : Forest) (structs : Structs) (i bits n : ℕ) (t : CType) → IsTypeOf forest structs i bits n t → bits_of t ≡ bits
-type_bits forest structs i bits n _ (pointer m s b e so) = sym b
-type_bits forest structs i bits n _ (scalar e) = refl
-
-apart : (a b : ℕ) → (a ≡ b → ⊥) → (a == b) ≡ false
-apart a b never = by (a == b) refl
-  where
-    by : (t : Bool) → t ≡ (a == b) → t ≡ false
-    by true e = absurd (never (eqb-true a b (sym e)))
-    by false e = refl
-
 pub int_eq_pos : (a b : ℕ) → int_eq (pos a) (pos b) ≡ (a == b)
 int_eq_pos a b = same_from_decides (int_eq (pos a) (pos b)) (a == b) (Decides-int_eq (pos a) (pos b)) ((λ e. ap pos (eqb-true a b e)), (λ e. eq-eqb a b (ap natural e)))
   where
@@ -420,7 +405,7 @@ module _ (forest : Forest) (is : IsForest forest) (structs : Structs) (decls : D
   type_as bits i n j m _ (pointers p q b e f same) (pointer q' s b' f' so) =
       pointer p s b e (record {
         within = so.within;
-        class = so.class ∙ (ap (class_of forest j) (some_is q' q (sym f' ∙ f)) ∙ sym same);
+        class = so.class ∙ (ap (class_of forest j) (same_Some q' q (sym f' ∙ f)) ∙ sym same);
       })
   type_as bits i n j m _ (pointers p q b e f same) (scalar never) = absurd (false≢true (sym never ∙ pointer_true forest is j bits m q b f))
   type_as bits i n j m _ (scalars never never' same) (pointer q s b f so) = absurd (false≢true (sym never' ∙ pointer_true forest is j bits m q b f))

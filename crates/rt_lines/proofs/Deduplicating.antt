@@ -1,13 +1,13 @@
 -- The lines, each once.
-use Rattle.std.proofs.Common.{◌≡◌, ◌≢◌, ◌⊎◌, inl, inr, true, List, [], AllPairs, All, Contains, arith}
+use Rattle.std.proofs.Common.{◌≢◌, ◌⊎◌, inl, inr, List, [], AllPairs, All, Contains, arith}
 use Rattle.std.proofs.lemmas.List.Elements.{All-contains}
 use Rattle.rt_base.proofs.Lists.{Contains-none, All-from_contains}
 use Rattle.rt_lines.specs.declared.line.Line.{Line}
-use Rattle.rt_lines.specs.contracts.line.LineEq.TheImpl.Laws as line_laws
 use Rattle.rt_lines.specs.Equality.{line_eq}
 use Rattle.rt_lines.proofs.Equal.{line_equal}
 use Rattle.rt_lines.specs.Numbering.{deduplicated}
 use Rattle.rt_lines.proofs.Distinct.{inserted-has, inserted-source, inserted-distinct}
+use Rattle.rt_lines.proofs.Same.{line_self}
 
 -- each line stands there
 pub deduplicated-has : (lines : List Line) (l : Line) → Contains lines l → Contains (deduplicated lines) l
@@ -20,9 +20,6 @@ deduplicated-source lines l h = by (inserted-source line_eq lines [] l h)
     by : Contains [] l ⊎ Contains lines l → Contains lines l
     by (inl c) = absurd (Contains-none l c)
     by (inr c) = c
-
-line_self : (l : Line) → line_eq l l ≡ true
-line_self l = (line_laws.laws-law).refl l
 
 -- once
 pub deduplicated-distinct : (lines : List Line) → AllPairs (λ a b. a ≢ b) (deduplicated lines)

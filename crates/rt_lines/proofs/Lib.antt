@@ -5,3 +5,4 @@ pub mod OrderCells
 pub mod Distinct
 pub mod Deduplicating
 pub mod LineSides
+pub mod Same

@@ -15,12 +15,10 @@ use Rattle.rt_link.specs.Checks.{place_fault, partner_fault, reloc_by, no_reloc,
 use Rattle.rt_link.specs.Effects.{place_of, is_place, is_head, head_at, is_high, high_at, low_of, link_of, meaning, symbol_place}
 use Rattle.rt_link.specs.Kinds.{kind_of, has_effect, is_pcrel_high, is_pcrel_low}
 use Rattle.rt_link.specs.Links.{head_of, head_in, low_in, low_of_head, meaning_in, link_held, AreHeads, high_of, HoldAll}
-use Rattle.rt_elf.proofs.Booleans.{cases_bool, not-false, and-true, and-rest_false, eqb-is, fault_if-none, then_of-none, none_at}
-
--- a relocation after others, where a place has none of those before, or isn't its own
-pub option_or-none : {X : Type 0} (o : Option X) → option_or o None ≡ o
-option_or-none None = refl
-option_or-none (Some x) = refl
+use Rattle.rt_elf.proofs.Booleans.{and-rest_false, eqb-is, fault_if-none, none_at}
+use Rattle.rt_base.proofs.Options.{option_or-none}
+use Rattle.rt_base.proofs.Entries.{then_of-none}
+use Rattle.std.proofs.lemmas.Bool.{cases_Bool, and_parts, not-false}
 
 is_some-false : {X : Type 0} (o : Option X) → is_some o ≡ false → o ≡ None
 is_some-false None e = refl
@@ -31,7 +29,7 @@ place-same s t o u e f = rw (e, f) refl
 
 pub is_place-same : (p q : Place) → is_place p q ≡ true → p ≡ q
 is_place-same p q e =
-    let both = and-true _ _ e in
+    let both = and_parts _ _ e in
     place-same p.section q.section p.offset q.offset (eqb-is _ _ both.0) (eqb-is _ _ both.1)
 
 -- the one more element of a search
@@ -51,7 +49,7 @@ pub AreHeads-more : (object : Object) (earlier : List Reloc) (reloc : Reloc) (he
     → place_fault object earlier reloc ≡ None → has_effect (kind_of reloc.kind) ≡ true
     → ((q : Place) → head_in heads' q ≡ (if is_place (place_of reloc) q then Some (head_of object.symbols reloc) else head_in heads q))
     → AreHeads object.symbols (earlier ++ reloc ∷ []) heads'
-AreHeads-more object earlier reloc heads heads' are none effect puts q = elim (cases_bool (is_place (place_of reloc) q)) [
+AreHeads-more object earlier reloc heads heads' are none effect puts q = elim (cases_Bool (is_place (place_of reloc) q)) [
   | inl same ↦
       let free : head_at earlier q ≡ None = subst (λ (p : Place). head_at earlier p ≡ None) (is_place-same (place_of reloc) q same) (no_head object earlier reloc none effect) in
       rw (puts q, find-more (is_head q) earlier reloc, free, effect, same) refl
@@ -80,7 +78,7 @@ no_effect-no_high (Some PcrelLow) e = cc
 -- each PCREL_HI20 is the head at its place: one more relocation
 highs-more : (object : Object) (earlier : List Reloc) (reloc : Reloc) (q : Place) → high_at earlier q ≡ high_of (head_at earlier q)
     → place_fault object earlier reloc ≡ None → high_at (earlier ++ reloc ∷ []) q ≡ high_of (head_at (earlier ++ reloc ∷ []) q)
-highs-more object earlier reloc q are none = elim (cases_bool (is_place (place_of reloc) q)) [
+highs-more object earlier reloc q are none = elim (cases_Bool (is_place (place_of reloc) q)) [
   | inr other ↦
       rw (
         find-more (is_high q) earlier reloc,
@@ -91,7 +89,7 @@ highs-more object earlier reloc q are none = elim (cases_bool (is_place (place_o
         option_or-none (high_at earlier q),
         option_or-none (head_at earlier q),
       ) are
-  | inl same ↦ elim (cases_bool (has_effect (kind_of reloc.kind))) [
+  | inl same ↦ elim (cases_Bool (has_effect (kind_of reloc.kind))) [
     | inr effect ↦
         rw (
           find-more (is_high q) earlier reloc,
@@ -137,7 +135,7 @@ some-mapped f (Some x) = refl
 
 low-mapped : (symbols : List Symbol) (o : Option Reloc) → option_and_then low_of_head (option_map (head_of symbols) o) ≡ option_map low_of (high_of o)
 low-mapped symbols None = refl
-low-mapped symbols (Some reloc) = elim (cases_bool (is_pcrel_high (kind_of reloc.kind))) [ inl e ↦ rw e refl | inr e ↦ rw e refl ]
+low-mapped symbols (Some reloc) = elim (cases_Bool (is_pcrel_high (kind_of reloc.kind))) [ inl e ↦ rw e refl | inr e ↦ rw e refl ]
 
 -- what the low bits are at a place
 pub low-held : (symbols : List Symbol) (relocs : List Reloc) (heads : Heads) (place : Place) → HoldAll symbols relocs heads
@@ -182,7 +180,7 @@ link-held symbols relocs heads place all =
 -- the element that a search finds stands in the list
 pub find-found : {X : Type 0} (test : X → Bool) (xs : List X) (x d : X) → find test xs ≡ Some x → (i : ℕ) × (i < length xs) × (get_or xs i d ≡ x) × (test x ≡ true)
 find-found test [] x d e = cc
-find-found test (y ∷ ys) x d e = elim (cases_bool (test y)) [
+find-found test (y ∷ ys) x d e = elim (cases_Bool (test y)) [
   | inl pass ↦
       let found : Some y ≡ Some x = rw pass at e in
       let same : y ≡ x = cc in
@@ -219,7 +217,7 @@ link-some object relocs place (Some reloc) e none =
     let fault : partner_fault object relocs (reloc_by relocs found.0) ≡ None =
     none_at (λ (i : ℕ). partner_fault object relocs (reloc_by relocs i)) (length relocs) found.0 none found.1 in
     let fault' : partner_fault object relocs reloc ≡ None = rw found.2 at fault in
-    meaning-some object.symbols relocs reloc (kind_of reloc.kind) (and-true _ _ found.3).0 (partner object relocs reloc fault')
+    meaning-some object.symbols relocs reloc (kind_of reloc.kind) (and_parts _ _ found.3).0 (partner object relocs reloc fault')
 
 -- a link is there exactly where a relocation with an effect is
 pub link-some_at : (object : Object) (relocs : List Reloc) (place : Place) → partners_fault object relocs ≡ None

@@ -1,13 +1,13 @@
 -- What links say of the object that they are of.
 use Rattle.std.proofs.Common.{◌≡◌, ℕ, ℤ, ◌<◌, Bool, true, Option, Some, None, IfSome, List, All, length, find, take, refl, subst}
 use Rattle.std.specs.Option.{option_map, option_and_then}
-use Rattle.std.proofs.lemmas.Bool.{leb-true}
+use Rattle.std.proofs.lemmas.Bool.{leb-true, and_parts, not-false}
 use Rattle.std.proofs.lemmas.List.Elements.{All-filter, filter_passes}
 use Rattle.rt_elf.specs.declared.object.Object.{Object}
 use Rattle.rt_elf.specs.declared.reloc.Reloc.{Reloc}
 use Rattle.rt_elf.specs.declared.symbol.Symbol.{Symbol}
 use Rattle.rt_elf.specs.Object.{HasWord, IsLinkable, IsOfObject}
-use Rattle.rt_elf.proofs.Booleans.{and-true, and-rest_false, not-false, eqb-is, fault_if-none, then_of-none, none_at}
+use Rattle.rt_elf.proofs.Booleans.{and-rest_false, eqb-is, fault_if-none, none_at}
 use Rattle.rt_link.specs.declared.kind.Kind.{Kind}
 use Rattle.rt_link.specs.declared.kind.Kind.TheVariants.{Passed, Jump, Call, PcrelHigh, High, Low, PcrelLow}
 use Rattle.rt_link.specs.declared.link.Link.TheVariants as link
@@ -18,6 +18,7 @@ use Rattle.rt_link.specs.Kinds.{kind_of, has_effect, is_call}
 use Rattle.rt_link.specs.Laws.{IsFarCall, IsAboutSymbol}
 use Rattle.rt_link.specs.Links.{IsOfCode}
 use Rattle.rt_link.proofs.Held.{find-found, is_place-same}
+use Rattle.rt_base.proofs.Entries.{then_of-none}
 
 -- a fact that rests on no value holds of each
 if_some-always : {X : Type 0} {P : Type 0} (o : Option X) → P → IfSome o (λ x. P)
@@ -77,7 +78,7 @@ room-there object earlier reloc none effect =
 
 reloc_word : (object : Object) (reloc : Reloc) → IsOfCode object reloc → has_room object reloc 4 ≡ true → HasWord object reloc.section reloc.offset
 reloc_word object reloc known room =
-    let parts = and-true _ _ room in
+    let parts = and_parts _ _ room in
     record { is_code = known.0; is_aligned = eqb-is _ _ parts.0; is_within = leb-true _ _ parts.1 }
 
 head_word : (object : Object) (relocs : List Reloc) (place : Place) (head : Option Reloc) → head_at relocs place ≡ head → All (IsOfCode object) relocs → places_fault object relocs ≡ None
@@ -88,7 +89,7 @@ head_word object relocs place (Some reloc) e known none =
     let fault : place_fault object (take found.0 relocs) (reloc_by relocs found.0) ≡ None =
     none_at (λ (i : ℕ). place_fault object (take i relocs) (reloc_by relocs i)) (length relocs) found.0 none found.1 in
     let free : place_fault object (take found.0 relocs) reloc ≡ None = subst (λ (r : Reloc). place_fault object (take found.0 relocs) r ≡ None) found.2 fault in
-    let both = and-true _ _ found.3 in
+    let both = and_parts _ _ found.3 in
     let same : place_of reloc ≡ place = is_place-same (place_of reloc) place both.1 in
     let word : HasWord object place.section place.offset =
     subst (λ (p : Place). HasWord object p.section p.offset) same
@@ -127,8 +128,8 @@ call-has_pair object relocs reloc none call = not-false _ (and-rest_false _ _ (f
 -- a relocation at two words of a far call
 reloc_far_call : (object : Object) (reloc : Reloc) → IsOfCode object reloc → has_pair object reloc ≡ true → IsFarCall object (place_of reloc)
 reloc_far_call object reloc known pair =
-    let parts = and-true _ _ pair in
-    let room = and-true _ _ parts.0 in
+    let parts = and_parts _ _ pair in
+    let room = and_parts _ _ parts.0 in
     record {
       is_code = known.0;
       is_aligned = eqb-is _ _ room.0;
@@ -144,7 +145,7 @@ head_far_call object relocs place (Some reloc) symbol addend e known none pair =
     let fault : partner_fault object relocs (reloc_by relocs found.0) ≡ None = none_at (λ (i : ℕ). partner_fault object relocs (reloc_by relocs i)) (length relocs) found.0 none found.1 in
     let free : partner_fault object relocs reloc ≡ None = subst (λ (r : Reloc). partner_fault object relocs r ≡ None) found.2 fault in
     let call = pair-is_call object.symbols relocs reloc (kind_of reloc.kind) symbol addend pair in
-    let same : place_of reloc ≡ place = is_place-same (place_of reloc) place (and-true _ _ found.3).1 in
+    let same : place_of reloc ≡ place = is_place-same (place_of reloc) place (and_parts _ _ found.3).1 in
     subst (λ (p : Place). IsFarCall object p) same (reloc_far_call object reloc (found_of_code object relocs (is_head place) reloc e known) (call-has_pair object relocs reloc free call))
 
 -- a link of a far call stands at one

@@ -11,7 +11,6 @@ use Rattle.rt_elf.specs.declared.object.Object.{Object}
 use Rattle.rt_elf.specs.declared.reloc.Reloc.{Reloc}
 use Rattle.rt_elf.specs.declared.symbol.Symbol.{Symbol}
 use Rattle.rt_elf.specs.Object.{IsLinkable, IsOfObject}
-use Rattle.rt_elf.proofs.Booleans.{cases_bool, and-true}
 use Rattle.rt_link.specs.declared.heads.Heads.{Heads}
 use Rattle.rt_link.specs.declared.link.Link.{Link}
 use Rattle.rt_link.specs.declared.link.Link.TheVariants as link
@@ -24,7 +23,9 @@ use Rattle.rt_link.specs.Effects.{code_relocs, place_of, is_place, is_head, head
 use Rattle.rt_link.specs.Kinds.{kind_of}
 use Rattle.rt_link.specs.Links.{HoldAll, link_held, place_cmp, named_by, is_at, names, pointer_of, pointer_held, AreLinksOf}
 use Rattle.rt_link.specs.Pointers.{is_address, is_pointer, pointer_at, IsNamed}
-use Rattle.rt_link.proofs.Held.{find-found, find-more, is_place-same, link-held, link-some_at, option_or-none}
+use Rattle.rt_link.proofs.Held.{find-found, find-more, is_place-same, link-held, link-some_at}
+use Rattle.rt_base.proofs.Options.{option_or-none}
+use Rattle.std.proofs.lemmas.Bool.{cases_Bool, and_parts, or_right}
 
 -- Pointers.
 
@@ -42,7 +43,7 @@ mapped-or f (Some x) p = refl
 pub pointer-more : (object : Object) (earlier : List Reloc) (reloc : Reloc) (place : Place) → is_address object reloc ≡ true
     → option_map pointer_of (find (is_pointer object place) (earlier ++ reloc ∷ []))
     ≡ option_or (option_map pointer_of (find (is_pointer object place) earlier)) (if is_place (place_of reloc) place then Some (pointer_of reloc) else None)
-pointer-more object earlier reloc place e = elim (cases_bool (is_place (place_of reloc) place)) [
+pointer-more object earlier reloc place e = elim (cases_Bool (is_place (place_of reloc) place)) [
   | inl same ↦ rw (find-more (is_pointer object place) earlier reloc, mapped-or pointer_of (find (is_pointer object place) earlier) _, e, same) refl
   | inr other ↦ rw (find-more (is_pointer object place) earlier reloc, mapped-or pointer_of (find (is_pointer object place) earlier) _, e, other) refl
 ]
@@ -79,7 +80,7 @@ pointer_about object place linkable = found_about object place (pointer_at objec
 pub is_place-self : (p : Place) → is_place p p ≡ true
 is_place-self p = grind (arith, nat_tests)
 
-cond-or : (a b : Bool) → cond a true b ≡ (b || (a || false))
+pub cond-or : (a b : Bool) → cond a true b ≡ (b || (a || false))
 cond-or true true = refl
 cond-or true false = refl
 cond-or false true = refl
@@ -111,19 +112,15 @@ named-kept symbols heads relocs n named there is before q =
     rw (before q, take_more relocs n no_reloc there, list_any-append (names symbols heads q) (take n relocs) (get_or relocs n no_reloc ∷ []), is)
     (or-none (list_any (names symbols heads q) (take n relocs)))
 
-or-second : (a b : Bool) → b ≡ true → (a || b) ≡ true
-or-second true b e = refl
-or-second false b e = e
-
 -- an element of a list that passes a test, and the other way round
 any-at : {X : Type 0} (test : X → Bool) (xs : List X) (i : ℕ) (d : X) → i < length xs → test (get_or xs i d) ≡ true → list_any test xs ≡ true
 any-at test [] i d h e = absurd (omega arith)
 any-at test (x ∷ xs) zero d h e = rw e refl
-any-at test (x ∷ xs) (suc i) d h e = or-second (test x) (list_any test xs) (any-at test xs i d (omega arith) e)
+any-at test (x ∷ xs) (suc i) d h e = or_right (test x) (list_any test xs) (any-at test xs i d (omega arith) e)
 
 any-found : {X : Type 0} (test : X → Bool) (xs : List X) → list_any test xs ≡ true → (x : X) × (test x ≡ true)
 any-found test [] e = cc
-any-found test (x ∷ xs) e = elim (cases_bool (test x)) [
+any-found test (x ∷ xs) e = elim (cases_Bool (test x)) [
   | inl pass ↦ (x, pass)
   | inr fail ↦ any-found test xs (rw fail at e)
 ]
@@ -143,7 +140,7 @@ head-there : (symbols : List Symbol) (relocs : List Reloc) (place : Place) (l : 
 head-there symbols relocs place l None e is = cc
 head-there symbols relocs place l (Some reloc) e is =
     let found = find-found (is_head place) relocs reloc no_reloc e in
-    (found.0, found.1, rw found.2 (is_place-same _ _ (and-true _ _ found.3).1))
+    (found.0, found.1, rw found.2 (is_place-same _ _ (and_parts _ _ found.3).1))
 
 -- what is held for the places of relocations names those that are named
 pub names-are_named : (object : Object) (heads : Heads) (place : Place) → HoldAll object.symbols (code_relocs object) heads

@@ -8,9 +8,7 @@ use Rattle.std.proofs.lemmas.Option.{slice_get-get_or, slice_get_within, get_or_
 use Rattle.indexmap.specs.IndexSet.{insert_key}
 use Rattle.indexmap.proofs.CallerLemmas.{Contains-insert_key}
 use Rattle.rt_liveness.specs.Additions.{Adds}
-
-pub none_in : {X : Type 0} (x : X) → Contains [] x → ⊥
-none_in x h = let lt = h.1 in omega arith
+use Rattle.rt_base.proofs.Lists.{Contains-none}
 
 cases_bool : (b : Bool) → (b ≡ true) ⊎ (b ≡ Bool.false)
 cases_bool true = inl refl
@@ -117,7 +115,7 @@ module _ {X : Type 0} where
   -- what was added to nothing
   pub from_none : (old new : List X) (P : X → Type 0) → old ≡ [] → Adds old new P → (x : X) → Contains new x ↔ P x
   from_none old new P none adds x = (
-    (λ h. elim (adds.only x h) [ inl o ↦ absurd (none_in x (subst (λ (xs : List X). Contains xs x) none o)) | inr p ↦ p ]),
+    (λ h. elim (adds.only x h) [ inl o ↦ absurd (Contains-none x (subst (λ (xs : List X). Contains xs x) none o)) | inr p ↦ p ]),
     adds.added x,
   )
 

@@ -1,6 +1,6 @@
 -- What was found of calls is true of them.
 use Rattle.std.proofs.Common.{◌≡◌, ℕ, zero, suc, ◌+◌, ◌-◌, ◌<◌, ◌≤◌, ◌↔◌, Bool, true, false, IsTrue, Some, List, [], ◌∷◌, Contains, All, AllPairs, length, map, get_or, slice_get, refl, sym, ap, subst, ◌∙◌, arith}
-use Rattle.std.proofs.lemmas.Bool.{true≢false}
+use Rattle.std.proofs.lemmas.Bool.{true≢false, and_parts, and_from}
 use Rattle.std.proofs.lemmas.List.{length-map}
 use Rattle.std.proofs.Math.ListN.{get_or-map}
 use Rattle.std.proofs.lemmas.Option.{slice_get-get_or, slice_get_within, get_or_from_slice_get}
@@ -34,7 +34,7 @@ use Rattle.rt_liveness.specs.Takes.{Taker, Takes, is_argument}
 use Rattle.rt_liveness.specs.Told.{program_of}
 use Rattle.rt_liveness.proofs.Adding.{found_at}
 use Rattle.rt_liveness.proofs.Giving.{KnownCallees, known_site, found_given, given_found}
-use Rattle.rt_liveness.proofs.Meeting.{met, cases_and, both_true}
+use Rattle.rt_liveness.proofs.Meeting.{met}
 use Rattle.rt_liveness.proofs.Taking.{callee_known, argument_number, takes_argument, found_taken, taken_found}
 
 module _ (object : Object) (procs : List Proc) (bodies : List Body) (signatures : List Signature) (right : IsProgram (program_of object procs bodies signatures)) where
@@ -78,7 +78,7 @@ module _ (object : Object) (procs : List Proc) (bodies : List Body) (signatures 
       module _ (one : Callee) (known : IsCallee object (length procs) one) (plain : Bool) (call : Call) (found : IsCallFound interface proc.sites (reading_of body).reaching s plain one call) where
         takes_to : (register : ℕ) → takes_register call register ≡ true → Takes here (Taker.CalleeAt q s one) register
         takes_to register e =
-            let both = cases_and (is_argument register) (get_or call.takes (register - 10) false) e in
+            let both = and_parts (is_argument register) (get_or call.takes (register - 10) false) e in
             let number = argument_number register both.0 in
             let low : taken (defs_at (10 + (register - 10))) one (10 + (register - 10)) ≡ true = sym (found.takes (register - 10) number.1) ∙ both.1 in
             let high : taken (defs_at register) one register ≡ true = subst (λ (x : ℕ). taken (defs_at x) one x ≡ true) number.0 low in
@@ -94,7 +94,7 @@ module _ (object : Object) (procs : List Proc) (bodies : List Body) (signatures 
             in
             let high : taken (defs_at register) one register ≡ true = (met interface.taken.keys (when_taken interface.named.items proc.sites (defs_at register) one register)).1 holds in
             let low : taken (defs_at (10 + (register - 10))) one (10 + (register - 10)) ≡ true = subst (λ (x : ℕ). taken (defs_at x) one x ≡ true) (sym number.0) high in
-            both_true (is_argument register) (get_or call.takes (register - 10) false) argument (found.takes (register - 10) number.1 ∙ low)
+            and_from (is_argument register) (get_or call.takes (register - 10) false) argument (found.takes (register - 10) number.1 ∙ low)
 
         given_to : (r : ℕ) → r < 2 → is_met interface.given.keys (when_given interface.named.items one r) ≡ true → Gives here one r
         given_to r few e =

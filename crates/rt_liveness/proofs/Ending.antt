@@ -9,12 +9,12 @@ use lib.Pointwise.{pointwise}
 use Rattle.rt_elf.specs.Parts.{Parts as Object}
 use Rattle.rt_elf.specs.declared.symbol.Symbol.{Symbol}
 use Rattle.rt_elf.specs.Symbols.{zero_symbol}
-use Rattle.rt_elf.proofs.Booleans.{cases_bool}
 use Rattle.rt_body.specs.Symbols.{symbol_of}
 use Rattle.rt_sigs.specs.Signatures.{Signature, signature_of, args_of}
 use Rattle.rt_liveness.specs.declared.named.Named.{Named}
 use Rattle.rt_liveness.specs.Ends.{is_end, ends_of}
 use Rattle.rt_liveness.specs.Signed.{IsNamedBy}
+use Rattle.std.proofs.lemmas.Bool.{cases_Bool}
 
 module _ (object : Object) (signatures : List Signature) where
   -- whether the symbol of a number ends paths
@@ -70,7 +70,7 @@ module _ (object : Object) (signatures : List Signature) where
 -- a name without a signature has no count
 args-none : (signatures : List Signature) (name : List ℕ) → signature_of signatures name ≡ None → args_of signatures name ≡ None
 args-none [] name e = refl
-args-none ((other, prototype) ∷ signatures) name e = elim (cases_bool (pointwise nat_eq other name)) [
+args-none ((other, prototype) ∷ signatures) name e = elim (cases_Bool (pointwise nat_eq other name)) [
   | inl same ↦ let bad : Some prototype.scheme ≡ None = rw same at e in cc
   | inr apart ↦ rw apart (args-none signatures name (rw apart at e))
 ]

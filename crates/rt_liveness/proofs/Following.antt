@@ -1,6 +1,6 @@
 -- What follows from rules, step by step.
 use Rattle.std.proofs.Common.{◌≡◌, ℕ, ◌+◌, ◌<◌, ◌≤◌, ◌⊎◌, ◌↔◌, inl, inr, Bool, true, ◌==◌, ◌&&◌, List, [], ◌∷◌, ◌++◌, Contains, length, get_or, set, slice_get, Some, take, refl, sym, ap, subst, ◌∙◌, arith}
-use Rattle.std.proofs.lemmas.Bool.{cases_eq, cases_lt}
+use Rattle.std.proofs.lemmas.Bool.{cases_eq, cases_lt, and_parts}
 use Rattle.std.proofs.lemmas.Bool.Decides.{Decides-eqb}
 use Rattle.std.proofs.lemmas.List.{get_or_append_left, get_or_past, get_or-set_same, get_or-set_other, take_more, take_all, take-append-le, length_push}
 use Rattle.std.proofs.lemmas.List.Elements.{Contains-push_cases}
@@ -13,18 +13,15 @@ use Rattle.rt_liveness.specs.declared.rule.When.{When}
 use Rattle.rt_liveness.specs.declared.rule.When.TheVariants.{Never, Always, If}
 use Rattle.rt_liveness.specs.Additions.{Adds}
 use Rattle.rt_liveness.specs.Closures.{port_eq, Says, IsSaid, IsPremise, Follows, rules_at}
-use Rattle.rt_liveness.proofs.Adding.{none_in, found_at, kept, nothing, alike, pushed, inserted, from_none}
-
-and_true : (a b : Bool) → (a && b) ≡ true → (a ≡ true) × (b ≡ true)
-and_true true b e = (refl, e)
-and_true Bool.false b e = cc
+use Rattle.rt_liveness.proofs.Adding.{found_at, kept, nothing, alike, pushed, inserted, from_none}
+use Rattle.rt_base.proofs.Lists.{Contains-none}
 
 port_of : (p q r s : ℕ) → p ≡ q → r ≡ s → let a : Port = record { procedure = p; register = r } in let b : Port = record { procedure = q; register = s } in a ≡ b
 port_of p q r s e f = rw (e, f) refl
 
 pub one_port : (a b : Port) → port_eq a b ≡ true → a ≡ b
 one_port a b e =
-    let both = and_true (a.procedure == b.procedure) (a.register == b.register) e in
+    let both = and_parts (a.procedure == b.procedure) (a.register == b.register) e in
     port_of a.procedure b.procedure a.register b.register ((Decides-eqb _ _).0 both.0) ((Decides-eqb _ _).0 both.1)
 
 abbrev pub when_eq : When → When → Bool
@@ -139,7 +136,7 @@ module _ (rules : List Rule) where
   begins found same = record {
     follows = λ port h. Follows.fact ((same port).0 h);
     facts = λ port h. (same port).1 h;
-    closed = λ premise port h is. absurd (none_in premise h);
+    closed = λ premise port h is. absurd (Contains-none premise h);
   }
 
   pub goes_on : (found new : List Port) (i : ℕ) (premise : Port) → slice_get found i ≡ Some premise → Adds found new (IsSaid rules (If premise)) → IsFollowing rules found i → IsFollowing rules new (i + 1)

@@ -43,24 +43,6 @@ among registers register = (
   λ h. some_any (λ (r : ℕ). r == register) registers register h ((Decides-eqb register register).1 refl),
 )
 
-pub cases_or : (b c : Bool) → (b || c) ≡ true → (b ≡ true) ⊎ (c ≡ true)
-cases_or true c e = inl refl
-cases_or false c e = inr e
-
-pub cases_and : (b c : Bool) → (b && c) ≡ true → (b ≡ true) × (c ≡ true)
-cases_and true c e = (refl, e)
-cases_and false c e = absurd (true≢false (sym e))
-
-pub both_true : (b c : Bool) → b ≡ true → c ≡ true → (b && c) ≡ true
-both_true b c e f = ap (λ (x : Bool). x && c) e ∙ f
-
-pub first_true : (b c : Bool) → b ≡ true → (b || c) ≡ true
-first_true b c e = ap (λ (x : Bool). x || c) e
-
-pub second_true : (b c : Bool) → c ≡ true → (b || c) ≡ true
-second_true true c e = refl
-second_true false c e = e
-
 -- a condition holds, by what holds of ports
 abbrev pub Holds : (Port → Type 0) → When → Type 0
 Holds P Never = ⊥

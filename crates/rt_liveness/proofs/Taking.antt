@@ -1,7 +1,7 @@
 -- What follows from the rules of what procedures take is what they take.
 use Rattle.std.proofs.Common.{◌≡◌, ℕ, zero, suc, ◌+◌, ◌-◌, ◌<◌, ◌≤◌, ◌⊎◌, inl, inr, Bool, true, false, ◌&&◌, ◌||◌, not, nat_le, Option, Some, None, List, [], ◌∷◌, Contains, AllPairs, length, get_or, slice_get, refl, sym, ap, subst, ◌∙◌, arith}
 use Rattle.std.specs.List.{list_any}
-use Rattle.std.proofs.lemmas.Bool.{true≢false, lt-ltb, ltb-true}
+use Rattle.std.proofs.lemmas.Bool.{true≢false, lt-ltb, ltb-true, and_parts, or_left, or_right, and_from, or_cases}
 use Rattle.std.proofs.lemmas.Bool.Decides.{leb_tells}
 use Rattle.std.proofs.lemmas.List.Elements.{All-contains, Contains-append_cases}
 use Rattle.std.proofs.lemmas.Option.{slice_get-get_or, slice_get_within}
@@ -39,7 +39,7 @@ use Rattle.rt_liveness.specs.Takes.{Taker, Takes, ReachesSite, IsPassed, is_argu
 use Rattle.rt_liveness.specs.TakesRules.{IsReadRule, AreTakenRules, AreRegisterRules, AreAllRules}
 use Rattle.rt_liveness.specs.Told.{program_of}
 use Rattle.rt_liveness.proofs.Giving.{KnownCallees, HasBody, site_of, body_of, same_proc, known_site, known_callee, written_own, found_given, given_found}
-use Rattle.rt_liveness.proofs.Meeting.{Holds, holds_of, met, holds_true, true_holds, any_some, some_any, among, cases_or, cases_and, both_true, first_true, second_true, return_kind}
+use Rattle.rt_liveness.proofs.Meeting.{Holds, holds_of, met, holds_true, true_holds, any_some, some_any, among, return_kind}
 
 -- Entry stands first where it is among definitions in their order
 entry_first : (defs : List Def) → AllPairs Precedes defs → Contains defs Entry → begins_with_entry defs ≡ true
@@ -62,13 +62,13 @@ of_le m n le = elim (leb_tells m n) [ inl h ↦ h.0 | inr h ↦ let more = h.1 i
 -- the number of an argument register
 pub argument_number : (register : ℕ) → is_argument register ≡ true → (10 + (register - 10) ≡ register) × (register - 10 < 8)
 argument_number register e =
-    let both = cases_and (nat_le 10 register) (nat_le register 17) e in
+    let both = and_parts (nat_le 10 register) (nat_le register 17) e in
     let low = le_of 10 register both.0 in
     let high = le_of register 17 both.1 in
     (omega arith, omega arith)
 
 pub number_argument : (n : ℕ) → n < 8 → is_argument (10 + n) ≡ true
-number_argument n less = both_true (nat_le 10 (10 + n)) (nat_le (10 + n) 17) (of_le 10 (10 + n) (omega arith)) (of_le (10 + n) 17 (omega arith))
+number_argument n less = and_from (nat_le 10 (10 + n)) (nat_le (10 + n) 17) (of_le 10 (10 + n) (omega arith)) (of_le (10 + n) 17 (omega arith))
 
 own_site : (o : Option Site) → is_own_at o ≡ true → (writer : Site) × (o ≡ Some writer) × (is_call writer.kind ≡ false)
 own_site None e = absurd (true≢false (sym e))
@@ -133,7 +133,7 @@ module _ (object : Object) (procs : List Proc) (bodies : List Body) (signatures 
   counts_sound q s symbol n (Some count) few is e = Takes.by_count (omega arith) (count, is, ltb-true n count e)
 
   signed_sound : (q s symbol n : ℕ) → n < 8 → is_said symbol n ≡ true → Takes here (Taker.CalleeAt q s (callee.Extern symbol)) (10 + n)
-  signed_sound q s symbol n few e = elim (cases_or (names_argument (signature_at here symbol) n) (counts_argument (args_at here symbol) n) e) [
+  signed_sound q s symbol n few e = elim (or_cases (names_argument (signature_at here symbol) n) (counts_argument (args_at here symbol) n) e) [
     | inl names ↦ names_sound q s symbol n (signature_at here symbol) few refl names
     | inr counts ↦ counts_sound q s symbol n (args_at here symbol) few refl counts
   ]
@@ -222,8 +222,8 @@ module _ (object : Object) (procs : List Proc) (bodies : List Body) (signatures 
       reads (inl e) = Takes.by_instruction (reach_of q s n proc body site is at few begins) ((among (reads_of site.kind) (10 + n)).0 e)
       reads (inr e) =
           let defs = (reading_of body).reaching s (10 + n) in
-          let first = cases_and (is_return site.kind) (nat_le (10 + n) 11 && list_any (is_real given named proc.sites (10 + n - 10)) defs) e in
-          let second = cases_and (nat_le (10 + n) 11) (list_any (is_real given named proc.sites (10 + n - 10)) defs) first.1 in
+          let first = and_parts (is_return site.kind) (nat_le (10 + n) 11 && list_any (is_real given named proc.sites (10 + n - 10)) defs) e in
+          let second = and_parts (nat_le (10 + n) 11) (list_any (is_real given named proc.sites (10 + n - 10)) defs) first.1 in
           let low = le_of (10 + n) 11 second.0 in
           let number : 10 + n - 10 ≡ n = omega arith in
           let result : n ≤ 1 = omega arith in
@@ -235,7 +235,7 @@ module _ (object : Object) (procs : List Proc) (bodies : List Body) (signatures 
           let one = is_among (reads_of site.kind) (10 + n) in
           let other = returns_real given named proc.sites site.kind (10 + n) ((reading_of body).reaching s (10 + n)) in
           port_is (ap (λ (x : Rule). x.port) is_rule)
-          (reads (cases_or one other (holds_true Taken (one || other) (subst (Holds Taken) (ap (λ (x : Rule). x.when) is_rule) h))))
+          (reads (or_cases one other (holds_true Taken (one || other) (subst (Holds Taken) (ap (λ (x : Rule). x.when) is_rule) h))))
       by (inr (one, there, is_rule)) =
           port_is (ap (λ (x : Rule). x.port) is_rule)
           (Takes.by_callee (reach_of q s n proc body site is at few begins) there
@@ -329,9 +329,9 @@ module _ (object : Object) (procs : List Proc) (bodies : List Body) (signatures 
         let moved : list_any (is_real given named at.proc.sites (10 + r - 10)) defs ≡ true = subst (λ (n : ℕ). list_any (is_real given named at.proc.sites n) defs ≡ true) number any in
         let is_returned : is_return site.kind ≡ true = ap is_return returns in
         read_met q s (10 + r) site reach
-        (second_true (is_among (reads_of site.kind) (10 + r)) (returns_real given named at.proc.sites site.kind (10 + r) defs)
-        (both_true (is_return site.kind) (nat_le (10 + r) 11 && list_any (is_real given named at.proc.sites (10 + r - 10)) defs) is_returned
-        (both_true (nat_le (10 + r) 11) (list_any (is_real given named at.proc.sites (10 + r - 10)) defs) low moved)))
+        (or_right (is_among (reads_of site.kind) (10 + r)) (returns_real given named at.proc.sites site.kind (10 + r) defs)
+        (and_from (is_return site.kind) (nat_le (10 + r) 11 && list_any (is_real given named at.proc.sites (10 + r - 10)) defs) is_returned
+        (and_from (nat_le (10 + r) 11) (list_any (is_real given named at.proc.sites (10 + r - 10)) defs) low moved)))
 
     -- what a taker takes was found
     abbrev IsFound : Taker → ℕ → Type 0
@@ -343,7 +343,7 @@ module _ (object : Object) (procs : List Proc) (bodies : List Body) (signatures 
     taken_found (Taker.Procedure q) register (Takes.by_instruction {s = s} {site = site} reach reads) =
         let here_at = found_body q s register site reach in
         read_met q s register site reach
-        (first_true (is_among (reads_of site.kind) register) (returns_real given named here_at.proc.sites site.kind register ((reading_of here_at.body).reaching s register)) ((among (reads_of site.kind) register).1 reads))
+        (or_left (is_among (reads_of site.kind) register) (returns_real given named here_at.proc.sites site.kind register ((reading_of here_at.body).reaching s register)) ((among (reads_of site.kind) register).1 reads))
     taken_found (Taker.Procedure q) register (Takes.by_callee {s = s} {site = site} {callee = one} reach there t) =
         let here_at = found_body q s register site reach in
         let known = callee_known object (length procs) site one (known_site object procs bodies signatures named laws q s here_at.proc site here_at.is_procedure.is_proc here_at.is_site) there in
@@ -354,11 +354,11 @@ module _ (object : Object) (procs : List Proc) (bodies : List Body) (signatures 
     taken_found (Taker.CalleeAt q s one) register (Takes.by_signature {symbol = symbol} {n = n} few (scheme, is_signed, names)) = λ proc body is known.
         true_holds (Contains taken) (takes_named named symbol (10 + n - 10))
         (said_taken symbol n known.is_symbol (omega arith)
-        (first_true (names_argument (signature_at here symbol) n) (counts_argument (args_at here symbol) n) (ap (λ (o : Option Scheme). names_argument o n) is_signed ∙ names)))
+        (or_left (names_argument (signature_at here symbol) n) (counts_argument (args_at here symbol) n) (ap (λ (o : Option Scheme). names_argument o n) is_signed ∙ names)))
     taken_found (Taker.CalleeAt q s one) register (Takes.by_count {symbol = symbol} {n = n} few (count, is_counted, less)) = λ proc body is known.
         true_holds (Contains taken) (takes_named named symbol (10 + n - 10))
         (said_taken symbol n known.is_symbol (omega arith)
-        (second_true (names_argument (signature_at here symbol) n) (counts_argument (args_at here symbol) n) (ap (λ (o : Option ℕ). counts_argument o n) is_counted ∙ lt-ltb n count less)))
+        (or_right (names_argument (signature_at here symbol) n) (counts_argument (args_at here symbol) n) (ap (λ (o : Option ℕ). counts_argument o n) is_counted ∙ lt-ltb n count less)))
     taken_found (Taker.CalleeAt q s one) register (Takes.by_pointer argument passed) = λ proc body is known.
         let at = body_of object procs bodies signatures named q s passed.reading passed.site passed.is_site in
         let there = body_of object procs bodies signatures named q passed.d passed.reading passed.writer passed.is_writer in

@@ -5,7 +5,7 @@ use Rattle.rt_lines.specs.declared.variable.Base.{Base}
 use Rattle.rt_bridge.specs.Growing.{Var, at, dot, Given, V, Der, HasSub}
 use Rattle.rt_bridge.proofs.Growing.{e2}
 use Rattle.rt_bridge.proofs.Bridges.{Every}
-use Rattle.rt_bridge.proofs.Eliminating.{size, Upto, named, short, le_or}
+use Rattle.rt_bridge.proofs.Eliminating.{size, Upto, named, short, le_or, wider, upto_by}
 use Rattle.rt_loose.specs.Kinds.{Kind, before, kept}
 use Rattle.rt_loose.proofs.Paths.{Pushes, Path, here, up, down, flexible_up, flexible_down, join, push, Composed, compose, more}
 
@@ -93,15 +93,6 @@ module _ (L : Given) (P Q : Var → Type 0) (dec : (x : Var) → P x ⊎ (P x �
 
   pub eliminate : {x y : Var} {k : Kind} → Path L Q x y k → P x → P y → Path L P x y k
   eliminate b p q = close L P (normal b) p q
-
-wider : (M : Var → Type 0) (n m : ℕ) → n ≤ m → (x : Var) → Upto M n x → Upto M m x
-wider M n m h x (named p) = named p
-wider M n m h x (short p) = short (omega arith)
-
-upto_by : (M : Var → Type 0) (n : ℕ) (x : Var) → M x ⊎ (M x → ⊥) → (size x ≤ n) ⊎ (suc n ≤ size x) → Upto M n x ⊎ (Upto M n x → ⊥)
-upto_by M n x (inl p) h = inl (named p)
-upto_by M n x (inr f) (inl h) = inl (short h)
-upto_by M n x (inr f) (inr h) = inr (λ u. elim u [ named p ↦ f p | short h' ↦ omega arith ])
 
 -- each path has a bound on its words
 bounded : (L : Given) (M : Var → Type 0) → {x y : Var} {k : Kind} → Path L Every x y k → (n : ℕ) × Path L (Upto M n) x y k

@@ -2,7 +2,7 @@
 use Rattle.std.proofs.Common.{◌≡◌, ◌⊎◌, inl, inr, List, [], ◌∷◌, Bool, true, false, map, Contains, refl, sym, subst}
 use Rattle.std.specs.List.{filter}
 use Rattle.std.proofs.lemmas.List.Elements.{Contains-append_left, Contains-append_right, Contains-append_cases}
-use Rattle.rt_base.proofs.Lists.{Contains-none, Contains-here, Contains-there, Contains-cons_cases, Contains-map, Contains-map_source}
+use Rattle.rt_base.proofs.Lists.{Contains-none, Contains-here, Contains-there, Contains-cons_cases, Contains-map, Contains-map_source, filter-has, filter-source}
 use Rattle.rt_lines.specs.declared.label.Label.{Label}
 use Rattle.rt_lines.specs.declared.label.Label.TheVariants.{In, Out, Load, Store, Field}
 use Rattle.rt_lines.specs.declared.variable.Dtv.{Dtv}
@@ -20,35 +20,6 @@ use Rattle.rt_loose.specs.Ways.Way.{here, up, down, flexible_up, flexible_down, 
 use Rattle.rt_loose.specs.Laws.{is_sub, flat_lines}
 use Rattle.rt_loose.proofs.Known.{Known, known_there}
 use Rattle.rt_loose.proofs.Steps.{way_turned, way_named}
-
--- elements that pass a test
-filter-has : {X : Type 0} (test : X → Bool) (xs : List X) (x : X) → Contains xs x → test x ≡ true → Contains (filter test xs) x
-filter-has test [] x c e = absurd (Contains-none x c)
-filter-has test (y ∷ xs) x c e = by (test y) refl (Contains-cons_cases y xs x c) (λ d. filter-has test xs x d e)
-  where
-    by : (b : Bool) → test y ≡ b → (y ≡ x) ⊎ Contains xs x → (Contains xs x → Contains (filter test xs) x) →
-        Contains (filter test (y ∷ xs)) x
-    by true f (inl s) rest = rw f (subst (Contains (y ∷ filter test xs)) s (Contains-here y (filter test xs)))
-    by true f (inr d) rest = rw f (Contains-there y (filter test xs) x (rest d))
-    by false f (inl s) rest = let t : test y ≡ true = subst (λ z. test z ≡ true) (sym s) e in cc
-    by false f (inr d) rest = rw f (rest d)
-
-filter-source : {X : Type 0} (test : X → Bool) (xs : List X) (x : X) → Contains (filter test xs) x → Contains xs x × (test x ≡ true)
-filter-source test [] x c = absurd (Contains-none x c)
-filter-source test (y ∷ xs) x c = by (test y) refl c (filter-source test xs x)
-  where
-    later : Contains xs x × (test x ≡ true) → Contains (y ∷ xs) x × (test x ≡ true)
-    later r = (Contains-there y xs x r.0, r.1)
-
-    first : test y ≡ true → (y ≡ x) ⊎ Contains (filter test xs) x → (Contains (filter test xs) x → Contains xs x × (test x ≡ true)) →
-        Contains (y ∷ xs) x × (test x ≡ true)
-    first f (inl s) rest = (subst (Contains (y ∷ xs)) s (Contains-here y xs), subst (λ z. test z ≡ true) s f)
-    first f (inr d) rest = later (rest d)
-
-    by : (b : Bool) → test y ≡ b → Contains (filter test (y ∷ xs)) x → (Contains (filter test xs) x → Contains xs x × (test x ≡ true)) →
-        Contains (y ∷ xs) x × (test x ≡ true)
-    by true f d rest = first f (Contains-cons_cases y (filter test xs) x (rw f at d)) rest
-    by false f d rest = later (rest (rw f at d))
 
 module _ (order : Below) (lines : List Line) where
   abbrev flat : List Line

@@ -21,9 +21,7 @@ use Rattle.rt_named.specs.Laws.{IsPrefix, IsGiven}
 use Rattle.rt_named.proofs.Contents.{contents_law}
 use Rattle.rt_bridge.specs.Growing.{Var, at, dot, dv, vd, Given, V, Der, HasSub}
 use Rattle.rt_bridge.proofs.Growing.{vd-dv}
-
-variable_self : (x : Dtv) → variable_eq x x ≡ true
-variable_self x = (variable_laws.laws-law).refl x
+use Rattle.rt_lines.proofs.Same.{variable_self}
 
 -- a list has a variable or not
 pub has_or : (known : List Dtv) (x : Dtv) → Contains known x ⊎ (Contains known x → ⊥)

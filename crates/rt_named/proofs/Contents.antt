@@ -17,9 +17,7 @@ use Rattle.rt_rules.specs.Rules.{extended, HasSide}
 use Rattle.rt_rules.proofs.Lists.{Contains-none, Contains-here, Contains-there, Contains-cons_cases, Contains-map, Contains-map_source}
 use Rattle.rt_named.specs.Naming.{sides_of, word_prefixes, prefixes, named}
 use Rattle.rt_named.specs.Laws.{IsPrefix, IsGiven, ContentsLaw, OnceLaw}
-
-variable_self : (x : Dtv) → variable_eq x x ≡ true
-variable_self x = (variable_laws.laws-law).refl x
+use Rattle.rt_lines.proofs.Same.{variable_self}
 
 abbrev insert : List Dtv → Dtv → List Dtv
 insert = insert_key variable_eq
@@ -95,7 +93,7 @@ joined-source {X} f (y ∷ xs) z c = elim (Contains-append_cases (f y) (flat_map
 ]
 
 -- the sides of a line
-side-has : (l : Line) (z : Dtv) → HasSide l z → Contains (sides_of l) z
+pub side-has : (l : Line) (z : Dtv) → HasSide l z → Contains (sides_of l) z
 side-has (Var x) z e = subst (Contains (x ∷ [])) e (Contains-here x [])
 side-has (Low k x) z e = subst (Contains (x ∷ [])) e (Contains-here x [])
 side-has (Up x k) z e = subst (Contains (x ∷ [])) e (Contains-here x [])

@@ -4,7 +4,7 @@ use Rattle.std.specs.Prelude.{slice_get, Some, None, ◌&&◌, nat_eq}
 use Rattle.std.specs.List.{list_any, Any, position, position_or_len}
 use Rattle.std.proofs.lemmas.List.Sums.{passes_at_first}
 use Rattle.std.proofs.lemmas.Option.{slice_get-get_or, get_or_from_slice_get, slice_get_within}
-use Rattle.std.proofs.lemmas.Bool.{cases_eq, eqb-true}
+use Rattle.std.proofs.lemmas.Bool.{cases_eq, eqb-true, and_parts}
 use Rattle.std.proofs.lemmas.List.{length_push, get_or_push, get_or_append_left, get_or_default}
 use Rattle.std.proofs.lemmas.List.Sums.{fold-append}
 use Rattle.std.proofs.lemmas.List.Folds.{list_any_at, Any-from_list_any}
@@ -25,18 +25,15 @@ use Rattle.rt_named.specs.declared.origin.Origin.TheVariants.{Bare, Longer}
 use Rattle.rt_named.specs.contracts.origin.OriginPartialEq.TheImpl as the_origin
 use Rattle.rt_named.specs.contracts.origin.OriginEq.TheImpl.Laws as origin_laws
 use Rattle.rt_named.specs.Origins.{no_variable, made, IsBelow, variables, AreMade}
+use Rattle.rt_lines.proofs.Same.{variable_self}
 
 abbrev pub origin_eq : Origin → Origin → Bool
 origin_eq = (the_origin.ghosts).eq
 
-both_true : (a b : Bool) → (a && b) ≡ true → (a ≡ true) × (b ≡ true)
-both_true true b e = (refl, e)
-both_true false b e = cc
-
 pub origin_equal : (a b : Origin) → origin_eq a b ≡ true → a ≡ b
 origin_equal (Bare a) (Bare b) e = ap Bare (base_equal a b e)
 origin_equal (Longer m k) (Longer n l) e =
-    let parts : (nat_eq m n ≡ true) × (label_eq k l ≡ true) = both_true (nat_eq m n) (label_eq k l) e in
+    let parts : (nat_eq m n ≡ true) × (label_eq k l ≡ true) = and_parts (nat_eq m n) (label_eq k l) e in
     let numbers : m ≡ n = eqb-true m n parts.0 in
     let labels : k ≡ l = label_equal k l parts.1 in
     rw (numbers, labels) refl
@@ -46,14 +43,11 @@ origin_equal (Longer n l) (Bare a) e = cc
 origin_self : (a : Origin) → origin_eq a a ≡ true
 origin_self a = (origin_laws.laws-law).refl a
 
-variable_self : (x : Dtv) → variable_eq x x ≡ true
-variable_self x = (variable_laws.laws-law).refl x
-
 -- a letter more is no base alone
-no_base : (x : Dtv) (l : Label) (b : Base) → longer x l ≡ record { base = b; word = [] } → ⊥
+pub no_base : (x : Dtv) (l : Label) (b : Base) → longer x l ≡ record { base = b; word = [] } → ⊥
 no_base x l b e = let h : dot (vd x) l ≡ at b = sym (vd-longer x l) ∙ ap vd e in cc
 
-last_letter : (x y : Dtv) (l m : Label) → longer x l ≡ longer y m → (x ≡ y) × (l ≡ m)
+pub last_letter : (x y : Dtv) (l m : Label) → longer x l ≡ longer y m → (x ≡ y) × (l ≡ m)
 last_letter x y l m e =
     let h : dot (vd x) l ≡ dot (vd y) m = sym (vd-longer x l) ∙ ap vd e ∙ vd-longer y m in
     let p : vd x ≡ vd y = cc in

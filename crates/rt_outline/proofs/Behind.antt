@@ -15,6 +15,7 @@ use Rattle.rt_shape.specs.Shapes.{IsShapeOf}
 use Rattle.rt_shape.proofs.ReadWrite.{read_write_lem}
 use Rattle.rt_outline.specs.Accesses.{AreAdded, AreThereBehind}
 use Rattle.rt_outline.specs.Nodes.{flips_at}
+use Rattle.std.proofs.lemmas.Bool.{and_parts}
 
 pub added_none : (graph : Graph) (old new : List Dtv) → new ≡ old → AreAdded graph old new
 added_none graph old new e = record {
@@ -33,17 +34,12 @@ added_then graph old mid new a b = record {
   ]);
 }
 
-both_parts : (a b : Bool) → (a && b) ≡ true → (a ≡ true) × (b ≡ true)
-both_parts true true e = (refl, refl)
-both_parts true false e = absurd (cc)
-both_parts false b e = absurd (cc)
-
 accesses_there : (lines : List Line) (graph : Graph) (order : Below) (x : Dtv) → IsShapeOf lines graph → (o : Option ℕ) → node_of graph x ≡ o →
     flips_at graph o ≡ true → Derivable order lines (Var (longer x Load)) × Derivable order lines (Var (longer x Store))
 accesses_there lines graph order x shape None e f = absurd (cc)
 accesses_there lines graph order x shape (Some n) e f =
     let p : (is_some (step_of graph n Load) ≡ true) × (is_some (step_of graph n Store) ≡ true) =
-    both_parts (is_some (step_of graph n Load)) (is_some (step_of graph n Store)) f in
+    and_parts (is_some (step_of graph n Load)) (is_some (step_of graph n Store)) f in
     (read_write_lem lines graph order x n shape e).0 (p.0, p.1)
 
 -- the load and the store of what can be read and written through

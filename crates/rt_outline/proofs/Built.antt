@@ -13,11 +13,7 @@ use Rattle.rt_outline.specs.Hubs.{HasAccess, HaveHubs, IsGrownBy}
 use Rattle.rt_outline.specs.Lines.{AreLineArcs}
 use Rattle.rt_outline.proofs.Outer.{outer_of}
 use Rattle.rt_outline.proofs.Standing.{all_set}
-
-slice_left : {X : Type 0} (xs ys : List X) (n : ℕ) (x : X) → slice_get xs n ≡ Some x → slice_get (xs ++ ys) n ≡ Some x
-slice_left [] ys n x e = absurd (cc)
-slice_left (z ∷ xs) ys zero x e = e
-slice_left (z ∷ xs) ys (suc n) x e = slice_left xs ys n x e
+use Rattle.rt_base.proofs.Lists.{slice_get-front}
 
 slice_before : {X : Type 0} (xs ys : List X) (n : ℕ) (x : X) → n < length xs → slice_get (xs ++ ys) n ≡ Some x → slice_get xs n ≡ Some x
 slice_before [] ys n x h e = absurd (omega (arith, h))
@@ -25,7 +21,7 @@ slice_before (z ∷ xs) ys zero x h e = e
 slice_before (z ∷ xs) ys (suc n) x h e = slice_before xs ys n x (omega (arith, h)) e
 
 pub grown_made : (old new more : Origins) → new ≡ old ++ more → (n p : ℕ) (l : Label) → IsMade old n p l → IsMade new n p l
-grown_made old new more e n p l m = ap (λ (xs : Origins). slice_get xs n) e ∙ slice_left old more n (Some (p, l)) m
+grown_made old new more e n p l m = ap (λ (xs : Origins). slice_get xs n) e ∙ slice_get-front old more n (Some (p, l)) m
 
 pub grown_access : (old new more : Origins) → new ≡ old ++ more → (n : ℕ) → HasAccess old n → HasAccess new n
 grown_access old new more e n a = ((a.0.0, grown_made old new more e a.0.0 n _ a.0.1), (a.1.0, grown_made old new more e a.1.0 n _ a.1.1))

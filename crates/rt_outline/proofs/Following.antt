@@ -11,12 +11,6 @@ use Rattle.rt_components.specs.Groups.Reaches.{there, onward}
 use Rattle.rt_outline.specs.declared.arc.Arc.{Arc}
 use Rattle.rt_outline.specs.Arcs.{Leads, allows, IsLeft, IsSpread}
 
-pub nat_same : (n m : ℕ) → nat_eq n m ≡ true → n ≡ m
-nat_same n m e = grind arith
-
-pub nat_itself : (n : ℕ) → nat_eq n n ≡ true
-nat_itself n = grind arith
-
 -- nothing is added
 pub left_none : (P : ℕ → Type 0) (keys new : List ℕ) → new ≡ keys → ((w : ℕ) → P w → Contains keys w) → IsLeft P keys new
 left_none P keys new e all = record {
@@ -148,9 +142,3 @@ none_next keys targets i before here j less c = elim (cases_eq j i) [ inl e ↦ 
 
 pub none_whole : (keys targets : List ℕ) (i : ℕ) → length targets ≤ i → ((j : ℕ) → j < i → Contains keys (get_or targets j 0) → ⊥) → (t : ℕ) → Contains targets t → Contains keys t → ⊥
 none_whole keys targets i h none t c d = none c.0 (omega (arith, h, c.1)) (subst (Contains keys) (sym (get_or_default targets c.0 0 t c.1 ∙ c.2)) d)
-
-pub past_end : (xs : List ℕ) (i : ℕ) → slice_get xs i ≡ None → length xs ≤ i
-past_end xs i e = elim (below i (length xs)) [ inl h ↦ absurd (let f : Some (get_or xs i 0) ≡ None = sym (slice_get-get_or xs i 0 h) ∙ e in cc) | inr h ↦ h ]
-  where
-    below : (i n : ℕ) → (i < n) ⊎ (n ≤ i)
-    below i n = grind arith

@@ -16,21 +16,13 @@ use Rattle.rt_shape.proofs.Letters.{letter_equal, letter_self}
 use Rattle.rt_outline.specs.declared.arc.Arc.{Arc}
 use Rattle.rt_outline.specs.Arcs.{HasArc}
 use Rattle.rt_outline.specs.Frames.{Origins, AreOriginsTo, IsFrame, IsFresh, IsMade, IsSetAt, origin_of, step_of, variable_at}
-
-slice_left : {X : Type 0} (xs ys : List X) (n : ℕ) (x : X) → slice_get xs n ≡ Some x → slice_get (xs ++ ys) n ≡ Some x
-slice_left [] ys n x e = absurd (cc)
-slice_left (z ∷ xs) ys zero x e = e
-slice_left (z ∷ xs) ys (suc n) x e = slice_left xs ys n x e
+use Rattle.rt_base.proofs.Lists.{slice_get-front, slice_get-last}
 
 slice_cases : {X : Type 0} (xs : List X) (y : X) (n : ℕ) (x : X) → slice_get (xs ++ y ∷ []) n ≡ Some x → (slice_get xs n ≡ Some x) ⊎ ((n ≡ length xs) × (y ≡ x))
 slice_cases [] y zero x e = inr (refl, cc)
 slice_cases [] y (suc n) x e = absurd (cc)
 slice_cases (z ∷ xs) y zero x e = inl e
 slice_cases (z ∷ xs) y (suc n) x e = elim (slice_cases xs y n x e) [ inl f ↦ inl f | inr f ↦ inr (ap suc f.0, f.1) ]
-
-slice_end : {X : Type 0} (xs : List X) (y : X) → slice_get (xs ++ y ∷ []) (length xs) ≡ Some y
-slice_end [] y = refl
-slice_end (z ∷ xs) y = slice_end xs y
 
 -- a step that is set by a key
 pub set_at : (key : ℕ × Label) (node : ℕ) (old new : List ((ℕ × Label) × ℕ)) → ((q : ℕ × Label) → lookup (letter_eq q) new ≡ cond (letter_eq key q) (Some node) (lookup (letter_eq q) old)) →
@@ -100,8 +92,8 @@ entered_frame origins steps next arcs back origin few frame fresh below set = re
     only_is : (n p : ℕ) (l : Label) → step_of next p l ≡ Some n → IsMade (origins ++ origin ∷ []) n p l
     only_is n p l f = elim (set p l) [
       | inl s ↦ (let g : Some (length origins) ≡ Some n = sym s.1 ∙ f in let h : length origins ≡ n = cc in
-          subst (λ k. IsMade (origins ++ origin ∷ []) k p l) h (slice_end origins origin ∙ ap Some s.0))
-      | inr s ↦ slice_left origins (origin ∷ []) n (Some (p, l)) (frame.only n p l (sym s.1 ∙ f))
+          subst (λ k. IsMade (origins ++ origin ∷ []) k p l) h (slice_get-last origins origin ∙ ap Some s.0))
+      | inr s ↦ slice_get-front origins (origin ∷ []) n (Some (p, l)) (frame.only n p l (sym s.1 ∙ f))
     ]
 
 -- what a variable of a number more is made of

@@ -156,9 +156,6 @@ pub group_read : (groups read : List (List ℕ)) (k : ℕ) (item group : List �
     item ≡ get_or read k item → group ≡ item → group ≡ group_at groups k
 group_read groups read k item group e h i g = g ∙ i ∙ ap (λ xs. get_or xs k item) e ∙ get_or_default groups k item [] h
 
-pub seen_next : {X : Type 0} (xs : List X) (i : ℕ) (x : X) → i < length xs → x ≡ get_or xs i x → take (i + 1) xs ≡ take i xs ++ x ∷ []
-seen_next xs i x h e = take_more xs i x h ∙ ap (λ y. take i xs ++ y ∷ []) (sym e)
-
 -- a node's number is that of a group
 pub few_groups : (graph groups : List (List ℕ)) (count : ℕ) (numbers : List ℕ) → AreGroups (length graph) (HasEdge graph) groups →
     length graph ≡ count → AreGroupNumbers count groups (length groups) numbers → (v : ℕ) → v < count → get_or numbers v 0 < length groups

@@ -37,25 +37,15 @@ use Rattle.rt_outline.specs.Lines.{IsNumber, AreLineArcs, standing}
 use Rattle.rt_outline.specs.Nodes.{AreClassesOf, AreFlipsOf, flips_at}
 use Rattle.rt_outline.proofs.Inner.{distinct}
 use Rattle.rt_outline.proofs.Naming.{is_known, parents, bases, both_sides}
-use Rattle.rt_outline.proofs.Pushing.{reaches_map, reaches_join}
+use Rattle.rt_outline.proofs.Pushing.{reaches_join}
 use Rattle.rt_outline.proofs.Standing.{Stands, standing_line}
-
--- equal variables with a letter more are of equal ones, with equal letters
-longer_one : (x y : Dtv) (l k : Label) → longer x l ≡ longer y k → (x ≡ y) × (l ≡ k)
-longer_one x y l k e =
-    let d : dot (vd x) l ≡ dot (vd y) k = sym (vd-longer x l) ∙ ap vd e ∙ vd-longer y k in
-    let f : vd x ≡ vd y = cc in
-    let g : l ≡ k = cc in
-    (sym (dv-vd x) ∙ ap dv f ∙ dv-vd y, g)
+use Rattle.rt_components.proofs.Reaching.{reaches_by}
+use Rattle.rt_named.proofs.Making.{last_letter}
+use Rattle.std.proofs.lemmas.Bool.{and_from}
 
 no_letter : (w : List Label) (l : Label) → w ++ l ∷ [] ≡ [] → ⊥
 no_letter [] l e = cc
 no_letter (k ∷ w) l e = cc
-
-both_true : (a b : Bool) → a ≡ true → b ≡ true → (a && b) ≡ true
-both_true true true e f = refl
-both_true true false e f = f
-both_true false b e f = e
 
 -- pushed arcs are followed whichever lines stand
 pushed_open : (arcs : List (List Arc)) (stands : List Bool) (v w : ℕ) → Leads arcs [] true v w → Leads arcs stands true v w
@@ -70,7 +60,7 @@ flips_there L graph shape x f = by (node_of graph (dv x)) refl ((shape.there L.o
     by None e s = absurd (cc)
     by (Some n) e s =
         let h : IsSome (step_of graph n Load) × IsSome (step_of graph n Store) = (read_write_lem L.lines graph L.order (dv x) n shape e).1 (f.0.derives, f.1.derives) in
-        both_true (is_some (step_of graph n Load)) (is_some (step_of graph n Store)) h.0 h.1
+        and_from (is_some (step_of graph n Load)) (is_some (step_of graph n Store)) h.0 h.1
 
 -- the node of a variable that there is
 node_there : (L : Given) (graph : Graph) → IsShapeOf L.lines graph → (x : Var) → Der L (V x) → (n : ℕ) × (node_of graph (dv x) ≡ Some n)
@@ -151,7 +141,7 @@ module _ (lines : List Line) (extra known : List Dtv) (is : known ≡ named_by l
       by None e = absurd (no_letter x.word l (sym (ap (λ (y : Dtv). y.word) (at_of v (longer x l) k)) ∙ are.bare v e))
       by (Some (q, m)) e =
           let a : (q < v) × (variable_at known v ≡ longer (variable_at known q) m) = are.only v q m e in
-          let same : (x ≡ variable_at known q) × (l ≡ m) = longer_one x (variable_at known q) l m (sym (at_of v (longer x l) k) ∙ a.1) in
+          let same : (x ≡ variable_at known q) × (l ≡ m) = last_letter x (variable_at known q) l m (sym (at_of v (longer x l) k) ∙ a.1) in
           let within : q < length known = (let s : v < length known = slice_get_within known v (longer x l) k in omega (arith, s, a.0)) in
           let n : q ≡ p = one q p x (slice_get-get_or known q no_variable within ∙ ap Some (sym same.0)) h in
           subst (λ u. IsMade first v u l) n (subst (λ u. IsMade first v q u) (sym same.1) e)
@@ -179,7 +169,7 @@ module _ (lines : List Line) (extra known : List Dtv) (is : known ≡ named_by l
   M x = Contains known (dv x)
 
   pushed_ways : (stands : List Bool) {v w : ℕ} → Reaches Pushed v w → Reaches (Leads arcs stands true) v w
-  pushed_ways stands r = reaches_map Pushed (Leads arcs stands true) (pushed_open arcs stands) r
+  pushed_ways stands r = reaches_by Pushed (Leads arcs stands true) (pushed_open arcs stands) r
 
   chained : (x y z : Var) → Between Every x y → Between Every y z → Between Every x z
   chained x y z b c = (b.0, c.1, b.2, c.3, reaches_join Every (subst (Reaches Every b.0) (one b.1 c.0 (dv y) b.3 c.2) b.4) c.4)

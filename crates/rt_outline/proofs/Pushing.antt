@@ -12,12 +12,8 @@ use Rattle.rt_outline.specs.Arcs.{Leads}
 use Rattle.rt_outline.specs.Frames.{Origins, IsMade, IsPushed, IsFrame, IsClosed, step_of}
 use Rattle.rt_outline.specs.Frames.IsPushed.{co, contra}
 use Rattle.rt_outline.specs.Sweeps.{IsSwept, IsDoneAt, IsEnd, end_of, toward, side_of}
-use Rattle.rt_outline.proofs.Following.{nat_itself, nat_same}
-
--- ways of one relation are ways of another that has it
-pub reaches_map : (E F : ℕ → ℕ → Type 0) → ((v w : ℕ) → E v w → F v w) → {v w : ℕ} → Reaches E v w → Reaches F v w
-reaches_map E F more there = there
-reaches_map E F more (onward {a} {b} e r) = onward (more a b e) (reaches_map E F more r)
+use Rattle.rt_base.proofs.Numbers.{nat_same, nat_itself}
+use Rattle.rt_components.proofs.Reaching.{reaches_by}
 
 pub reaches_end : (E : ℕ → ℕ → Type 0) → {u v w : ℕ} → Reaches E u v → E v w → Reaches E u w
 reaches_end E there e = onward e there
@@ -88,7 +84,7 @@ done_closed origins steps arcs back stands frame done v w pushed = by pushed
     by : IsPushed origins (Leads arcs stands true) v w → Reaches (Leads arcs [] true) v w
     by (co {p} {q} {l} s m n r) = (pushed_far origins steps (toward (label_variance l) (Leads arcs stands true)) (Leads arcs [] true) l
         (λ a b. frame.made a b l) (λ a b. frame.only a b l) (λ a b k. done a b l k b l k) v p q w m n
-        (subst (λ t. Reaches (toward t (Leads arcs stands true)) p q) (sym s) (reaches_map (Leads arcs stands true) (toward Co (Leads arcs stands true)) (λ a b e. e) r)))
+        (subst (λ t. Reaches (toward t (Leads arcs stands true)) p q) (sym s) (reaches_by (Leads arcs stands true) (toward Co (Leads arcs stands true)) (λ a b e. e) r)))
     by (contra {p} {q} {l} s m n r) = (pushed_far origins steps (toward (label_variance l) (Leads arcs stands true)) (Leads arcs [] true) l
         (λ a b. frame.made a b l) (λ a b. frame.only a b l) (λ a b k. done a b l k b l k) v p q w m n
         (subst (λ t. Reaches (toward t (Leads arcs stands true)) p q) (sym s) (reaches_turn (Leads arcs stands true) r)))
@@ -123,8 +119,8 @@ pub end_pushed : (origins : Origins) (steps : List ((ℕ × Label) × ℕ)) (arc
 end_pushed origins steps arcs back stands v p l w frame made (q, r, e) = by (label_variance l) refl
   where
     by : (s : Variance) → label_variance l ≡ s → IsPushed origins (Leads arcs stands true) v w
-    by Co f = co f made (frame.only w q l e) (reaches_map (Leads (side_of Co arcs back) stands true) (Leads arcs stands true) (λ a b h. h)
+    by Co f = co f made (frame.only w q l e) (reaches_by (Leads (side_of Co arcs back) stands true) (Leads arcs stands true) (λ a b h. h)
         (subst (λ t. Reaches (Leads (side_of t arcs back) stands true) p q) f r))
     by Contra f = contra f made (frame.only w q l e) (reaches_turn (λ a b. Leads arcs stands true b a)
-        (reaches_map (Leads (side_of Contra arcs back) stands true) (λ a b. Leads arcs stands true b a) (λ a b. (side_toward origins steps arcs back stands frame Contra a b).0)
+        (reaches_by (Leads (side_of Contra arcs back) stands true) (λ a b. Leads arcs stands true b a) (λ a b. (side_toward origins steps arcs back stands frame Contra a b).0)
         (subst (λ t. Reaches (Leads (side_of t arcs back) stands true) p q) f r)))

@@ -17,7 +17,7 @@ use Rattle.rt_rules.specs.Alike.{Alike, map_line}
 use Rattle.rt_rules.specs.Laws.{NamesBase}
 use Rattle.rt_rules.specs.Put.{exist, put_at, put, put_lines, HasUse, use_of, IsOnlyUse}
 use Rattle.rt_rules.proofs.Lists.{Contains-here, Contains-there, Contains-cons_cases, Contains-map, Contains-map_source, All-from_contains}
-use Rattle.rt_rules.proofs.Carry.{given, side}
+use Rattle.rt_rules.proofs.Carry.{given, side, HasSide-map}
 use Rattle.rt_rules.proofs.Covering.{exchange, extended-nil, front, map_line-fixed, Alike-refl, Alike-trans}
 use Rattle.rt_rules.proofs.Substitution.{substitution_lem}
 use Rattle.rt_polar.specs.Laws.{PuttingLaw, PuttingOneLaw}
@@ -27,6 +27,7 @@ use Rattle.rt_polar.specs.Puts.{Puts}
 use Rattle.rt_polar.specs.Puts.Exchanges.{goes, exists_still}
 use Rattle.rt_polar.specs.Puts.Puts.{none_left, puts}
 use Rattle.rt_polar.proofs.AlikeTidied.{Alike-tidied}
+use Rattle.rt_base.proofs.Lists.{Contains-middle, Contains-wider, Contains-middle_cases}
 
 -- a variable of another base stays
 put_at-apart : (n : ℕ) (z : Dtv) (b : Base) (w : List Label) → b ≢ Exist n → put_at n z b w ≡ record { base = b; word = w }
@@ -60,36 +61,6 @@ put_use Contra n z other = λ i. Sub (put-exist n z i) (put-apart n z z other i)
 -- a line that does not name the existential stays
 pub put_line-apart : (n : ℕ) (z : Dtv) (l : Line) → ((x : Dtv) → HasSide l x → x.base ≢ Exist n) → map_line (put n z) l ≡ l
 put_line-apart n z l apart = map_line-fixed (put n z) l (λ x h. put-apart n z x (apart x h))
-
-side_map : (f : Dtv → Dtv) (l : Line) (x : Dtv) → HasSide l x → HasSide (map_line f l) (f x)
-side_map f (Var y) x h = ap f h
-side_map f (Same y w) x (inl e) = inl (ap f e)
-side_map f (Same y w) x (inr e) = inr (ap f e)
-side_map f (Sub y w) x (inl e) = inl (ap f e)
-side_map f (Sub y w) x (inr e) = inr (ap f e)
-side_map f (Low k y) x h = ap f h
-side_map f (Up y k) x h = ap f h
-
-pub Contains-middle : {X : Type 0} (before : List X) (x : X) (after : List X) → Contains (before ++ x ∷ after) x
-Contains-middle before x after = Contains-append_right before (x ∷ after) x (Contains-here x after)
-
-pub Contains-wider : {X : Type 0} (before : List X) (x : X) (after : List X) (y : X) → Contains (before ++ after) y → Contains (before ++ x ∷ after) y
-Contains-wider before x after y c = by (Contains-append_cases before after y c)
-  where
-    by : Contains before y ⊎ Contains after y → Contains (before ++ x ∷ after) y
-    by (inl d) = Contains-append_left before (x ∷ after) y d
-    by (inr d) = Contains-append_right before (x ∷ after) y (Contains-there x after y d)
-
-pub Contains-middle_cases : {X : Type 0} (before : List X) (x : X) (after : List X) (y : X) → Contains (before ++ x ∷ after) y → (x ≡ y) ⊎ Contains (before ++ after) y
-Contains-middle_cases before x after y c = by (Contains-append_cases before (x ∷ after) y c)
-  where
-    last : (x ≡ y) ⊎ Contains after y → (x ≡ y) ⊎ Contains (before ++ after) y
-    last (inl e) = inl e
-    last (inr d) = inr (Contains-append_right before after y d)
-
-    by : Contains before y ⊎ Contains (x ∷ after) y → (x ≡ y) ⊎ Contains (before ++ after) y
-    by (inl d) = inr (Contains-append_left before after y d)
-    by (inr d) = last (Contains-cons_cases x after y d)
 
 -- a sole use is an only one
 pub sole_only : (sign : Variance) (n : ℕ) (z : Dtv) (lines : List Line) (place : ℕ) → IsSole sign n z lines place → IsOnlyUse sign n z lines
@@ -140,7 +111,7 @@ module _ (order : Below) (inside : Base → Bool) (sign : Variance) (n : ℕ) (z
         by (l, x, c, h, e) =
             front order rest z x.word
             (subst (λ v. Derivable order rest (Var v)) (put-own n z x e)
-            (side order rest (map_line (put n z) l) (put n z x) (given order rest (map_line (put n z) l) (Contains-map (map_line (put n z)) (before ++ after) l c)) (side_map (put n z) l x h)))
+            (side order rest (map_line (put n z) l) (put n z x) (given order rest (map_line (put n z) l) (Contains-map (map_line (put n z)) (before ++ after) l c)) (HasSide-map (put n z) l x h)))
 
     rest_derives : (k : Line) → ((l : Line) × Contains (before ++ after) l × (map_line (put n z) l ≡ k)) ⊎ (Sub z z ≡ k) → Derivable order rest k
     rest_derives k (inl (l, d, f)) = given order rest k (subst (Contains rest) f (Contains-map (map_line (put n z)) (before ++ after) l d))

@@ -23,6 +23,7 @@ use Rattle.rt_polar.proofs.Exchanging.{put-apart, put_line-apart}
 use Rattle.rt_polar.proofs.Settling.{deduplicated-same}
 use Rattle.rt_polar.proofs.Slots.{lines_source}
 use Rattle.rt_polar.proofs.Soles.{one_slot}
+use Rattle.rt_base.proofs.Lists.{map-map}
 
 -- what is put has another base
 put_at-base : (n : ℕ) (z : Dtv) (b : Base) (w : List Label) → z.base ≢ Exist n → (put_at n z b w).base ≢ Exist n
@@ -116,10 +117,6 @@ module _ (n : ℕ) (z : Dtv) where
   -- a line that does not name it and puts no variable beside itself stays
   pub moved-apart : (l : Line) → (Names n l → ⊥) → without_self l ≡ l → moved n z l ≡ l
   moved-apart l unnamed plain = ap without_self (put_line-apart n z l (λ x h e. unnamed (x, h, e))) ∙ plain
-
-map-map : {A B C : Type 0} (f : A → B) (g : B → C) (xs : List A) → map g (map f xs) ≡ map (λ x. g (f x)) xs
-map-map f g [] = refl
-map-map f g (x ∷ xs) = ap (λ ys. g (f x) ∷ ys) (map-map f g xs)
 
 -- exchanging and tidying, line by line
 pub tidied-moved : (n : ℕ) (z : Dtv) (lines : List Line) → tidied (put_lines n z lines) ≡ deduplicated (map (moved n z) lines)

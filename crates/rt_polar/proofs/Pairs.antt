@@ -9,12 +9,10 @@ use Rattle.std.proofs.lemmas.Bool.Decides.{nat_tests}
 use Rattle.std.proofs.lemmas.Map.Keys.{le_from_not_gt}
 use Rattle.std.proofs.lemmas.Map.Lookups.{exact_unsigned}
 use Rattle.rt_polar.specs.Index.{has, IsBareForgotten, IsBareNoted}
+use Rattle.rt_base.proofs.Numbers.{nat_cmp-less}
 
 pub nat_cmp_self : (x : ℕ) → nat_cmp x x ≡ Equal
 nat_cmp_self x = grind (arith, nat_tests)
-
-nat_cmp_less : (x y : ℕ) → nat_cmp x y ≡ Less → x < y
-nat_cmp_less x y e = grind (arith, nat_tests)
 
 not_gt : (x y : ℕ) → x ≤ y → is_gt (nat_cmp x y) ≡ false
 not_gt x y h = grind (arith, nat_tests)
@@ -41,7 +39,7 @@ pub pair_le : (v s n i : ℕ) → is_gt (ordering_then (nat_cmp v n) (nat_cmp s 
 pair_le v s n i e = by (nat_cmp v n) refl e
   where
     by : (o : Ordering) → nat_cmp v n ≡ o → is_gt (ordering_then o (nat_cmp s i)) ≡ false → (v < n) ⊎ ((v ≡ n) × (s ≤ i))
-    by Less f g = inl (nat_cmp_less v n f)
+    by Less f g = inl (nat_cmp-less v n f)
     by Equal f g = inr (exact_unsigned v n f, le_from_not_gt s i g)
     by Greater f g = cc
 

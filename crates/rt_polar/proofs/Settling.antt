@@ -11,16 +11,11 @@ use Rattle.rt_polar.specs.Places.{Holds, lines_of, Settles}
 use Rattle.rt_polar.specs.Places.Settles.{stands_before, moves, fills}
 use Rattle.rt_lines.proofs.Equal.{line_equal}
 use Rattle.rt_polar.proofs.Cuts.{cut_at, cut_length}
-
-pub line_self : (l : Line) → line_eq l l ≡ true
-line_self l = (line_laws.laws-law).refl l
+use Rattle.rt_lines.proofs.Same.{line_self}
+use Rattle.std.proofs.lemmas.Bool.{or_right}
 
 abbrev has_line : List Line → Line → Bool
 has_line ks l = list_any (line_eq l) ks
-
-or_true : (a b : Bool) → b ≡ true → (a || b) ≡ true
-or_true true b e = refl
-or_true false b e = e
 
 or_more : (a b c : Bool) → (b ≡ true → c ≡ true) → (a || b) ≡ true → (a || c) ≡ true
 or_more true b c f e = refl
@@ -32,7 +27,7 @@ or_false false b f e = e
 
 list_any-append_last : (ks : List Line) (l : Line) → has_line (ks ++ l ∷ []) l ≡ true
 list_any-append_last [] l = rw (line_self l) refl
-list_any-append_last (k ∷ ks) l = or_true (line_eq l k) (has_line (ks ++ l ∷ []) l) (list_any-append_last ks l)
+list_any-append_last (k ∷ ks) l = or_right (line_eq l k) (has_line (ks ++ l ∷ []) l) (list_any-append_last ks l)
 
 list_any-append_front : (ks : List Line) (k l : Line) → has_line ks l ≡ true → has_line (ks ++ k ∷ []) l ≡ true
 list_any-append_front [] k l h = cc

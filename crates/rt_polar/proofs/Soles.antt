@@ -12,9 +12,9 @@ use Rattle.rt_polar.specs.Places.{AreUses, Holds, IsFound, IsSoleAt, IsTurn, lin
 use Rattle.rt_polar.specs.Polar.{HasCandidate, IsCandidate, IsOnlyPlace, IsSole}
 use Rattle.rt_polar.specs.Polar.IsCandidate.{defines, consumes}
 use Rattle.rt_polar.proofs.Cuts.{sole_line, sole_place, use_has}
-use Rattle.rt_polar.proofs.Exchanging.{Contains-middle}
 use Rattle.rt_polar.proofs.Holding.{same_or_apart}
 use Rattle.rt_polar.proofs.Slots.{after_source, before_source, lines_cut, lines_has, lines_source, one_line, within}
+use Rattle.rt_base.proofs.Lists.{Contains-middle}
 
 -- where a sole use in a slot stands in the list
 abbrev pub place_of : List (Option Line) → ℕ → ℕ

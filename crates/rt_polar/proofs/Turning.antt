@@ -12,14 +12,7 @@ use Rattle.rt_lines.specs.declared.variable.Dtv.{Dtv}
 use Rattle.rt_lines.specs.declared.line.Line.{Line}
 use Rattle.rt_polar.specs.Places.{ArePending, IsSoleAt, IsTurn}
 use Rattle.rt_polar.specs.Turns.{IsNextTurn}
-
-equal_number : (v q : ℕ) → is_eq (nat_cmp v q) ≡ true → v ≡ q
-equal_number v q e = by (nat_cmp v q) refl e
-  where
-    by : (o : Ordering) → nat_cmp v q ≡ o → is_eq o ≡ true → v ≡ q
-    by Less f g = cc
-    by Equal f g = exact_unsigned v q f
-    by Greater f g = cc
+use Rattle.rt_base.proofs.Numbers.{equal_number}
 
 -- what was pending is the one that was taken out, or is pending still
 popped : (v : ℕ) (old new : ℕ → Bool) → ((q : ℕ) → new q ≡ cond (is_eq (nat_cmp v q)) false (old q)) → (q : ℕ) → old q ≡ true → (q ≡ v) ⊎ (new q ≡ true)

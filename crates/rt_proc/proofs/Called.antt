@@ -11,7 +11,7 @@ use Rattle.rt_proc.specs.Order.{AreRising}
 use Rattle.rt_proc.specs.Steps.{callees}
 use Rattle.rt_proc.proofs.Ended.{good-look}
 use Rattle.rt_proc.proofs.Forms.{good-callees}
-use Rattle.rt_proc.proofs.Inserted.{Contains-none}
+use Rattle.rt_base.proofs.Lists.{Contains-none}
 
 module _ (object : Object) (ends : List ℕ) where
   pub calls_of-none : (to : Place) → Contains [] to ↔ IsCalledFrom object ends [] to

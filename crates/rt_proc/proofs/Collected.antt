@@ -11,7 +11,7 @@ use Rattle.rt_proc.specs.Bodies.{AreEntries}
 use Rattle.rt_proc.specs.Faults.{symbols_fault, IsSound, IsFirstFault, IsBodyFault, IsFaultOf, HasNoFault}
 use Rattle.rt_proc.specs.Procs.{entries_of, IsProc, AreProcs}
 use Rattle.rt_proc.proofs.Faulty.{earlier}
-use Rattle.rt_proc.proofs.Inserted.{Contains-none}
+use Rattle.rt_base.proofs.Lists.{Contains-none}
 
 -- no body that is entered at one of some places has a fault
 abbrev pub AreSound : Object → List ℕ → List Place → Type 0

@@ -3,14 +3,13 @@ use Rattle.std.proofs.Common.{◌≡◌, ◌==◌, ℕ, ◌<◌, ◌≤◌, ◌�
 use Rattle.std.specs.List.{list_any}
 use Rattle.std.specs.List.Sorted.{IsBinarySearchResult}
 use Rattle.std.specs.Ordering.{nat_cmp}
-use Rattle.std.proofs.lemmas.Bool.{cases_lt, cases_eq}
+use Rattle.std.proofs.lemmas.Bool.{cases_lt, cases_eq, cases_Bool}
 use Rattle.std.proofs.lemmas.List.{get_or_default}
 use Rattle.std.proofs.lemmas.Bool.Decides.{nat_tests}
 use Rattle.std.proofs.lemmas.List.Folds.{list_any_at, list_any_none}
 use Rattle.std.proofs.lemmas.List.Sorted.{searched}
 use Rattle.rt_elf.specs.Parts.{Parts as Object}
 use Rattle.rt_elf.specs.Object.{IsLinkable}
-use Rattle.rt_elf.proofs.Booleans.{cases_bool}
 use Rattle.rt_link.specs.declared.place.Place.{Place}
 use Rattle.rt_control.specs.declared.form.Called.{Called}
 use Rattle.rt_control.specs.declared.form.Form.{Form}
@@ -24,7 +23,7 @@ use Rattle.rt_proc.specs.Ends.{is_end, after_call, ended, Look, ended_look, IsLo
 -- no place of a form is changed, and no name
 
 good-after : (object : Object) (ends : List ℕ) (callee : Called) (after : Option Place) → IsGoodAfter object after → IsGoodAfter object (after_call ends callee after)
-good-after object ends callee after h = elim (cases_bool (is_end ends callee)) [
+good-after object ends callee after h = elim (cases_Bool (is_end ends callee)) [
   | inl over ↦ rw over tt
   | inr on ↦ rw on h
 ]
@@ -86,7 +85,7 @@ not-above xs ascending i j h within = elim (cases_eq i j) [
   | inr other ↦ let less : get_or xs i 0 < get_or xs j 0 = ascending i j 0 (omega arith) within in omega arith
 ]
 
-eq-self : (a b : ℕ) → a ≡ b → (a == b) ≡ true
+pub eq-self : (a b : ℕ) → a ≡ b → (a == b) ≡ true
 eq-self a b e = grind (arith, nat_tests)
 
 eq-apart : (a b : ℕ) → (a < b) ⊎ (b < a) → (a == b) ≡ false

@@ -2,7 +2,6 @@
 use Rattle.std.proofs.Common.{◌≡◌, inl, inr, ℕ, Bool, true, false, IsTrue, List, refl, sym, subst, ◌∙◌}
 use Rattle.std.proofs.lemmas.List.Elements.{Contains-append_left, Contains-append_right, Contains-append_cases}
 use Rattle.rt_elf.specs.Parts.{Parts as Object}
-use Rattle.rt_elf.proofs.Booleans.{cases_bool}
 use Rattle.rt_link.specs.declared.place.Place.{Place}
 use Rattle.rt_proc.specs.declared.proc.Proc.{Proc}
 use Rattle.rt_proc.specs.Bodies.{IsInBody}
@@ -13,6 +12,7 @@ use Rattle.rt_proc.specs.Sites.{is_entry}
 use Rattle.rt_proc.specs.Steps.{steps, callees}
 use Rattle.rt_proc.specs.Walks.{Walk}
 use Rattle.rt_proc.proofs.Staying.{is_entry-has, is_entry-source}
+use Rattle.std.proofs.lemmas.Bool.{cases_Bool}
 
 module _ (object : Object) (ends : List ℕ) where
   -- an entry is reached, and so is what its body has
@@ -36,7 +36,7 @@ module _ (object : Object) (ends : List ℕ) where
 
     next-covered : (own from to : Place) → IsTrue (set own) → IsInBodyOf object ends set own from → LeadsTo object ends from to → IsCovered to
     next-covered own from to is walk leads = elim (Contains-append_cases (steps leads.form) (callees leads.form) to leads.leads) [
-      | inl steps ↦ elim (cases_bool (set to)) [
+      | inl steps ↦ elim (cases_Bool (set to)) [
         | inl within ↦ own-body to within
         | inr out ↦ (
           own,

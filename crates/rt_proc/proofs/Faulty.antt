@@ -16,8 +16,8 @@ use Rattle.rt_proc.specs.Order.{IsBelow, AreRising}
 use Rattle.rt_proc.specs.Procs.{places_of, IsSite}
 use Rattle.rt_proc.specs.Sites.{site_of}
 use Rattle.rt_proc.proofs.Forms.{no_form}
-use Rattle.rt_proc.proofs.Inserted.{Contains-none}
 use Rattle.rt_proc.proofs.PlaceLaws.{IsBelow-irreflexive}
+use Rattle.rt_base.proofs.Lists.{Contains-none}
 
 pub IsBelow-asymmetric : (p q : Place) → IsBelow p q → IsBelow q p → ⊥
 IsBelow-asymmetric p q (inl h) (inl k) = absurd (omega arith)

@@ -2,7 +2,6 @@
 use Rattle.std.proofs.Common.{◌≡◌, ◌↔◌, ℕ, List, inl, inr, Some, None, Ok, Err, [], ◌∷◌, ◌++◌, All, Contains, subst}
 use Rattle.std.proofs.lemmas.List.Elements.{All-nil, All-cons, All-append}
 use Rattle.rt_elf.specs.Parts.{Parts as Object}
-use Rattle.rt_elf.proofs.Booleans.{cases_bool}
 use Rattle.rt_link.specs.Effects.{is_place}
 use Rattle.rt_link.specs.declared.place.Place.{Place}
 use Rattle.rt_control.specs.declared.fault.SiteFault.{SiteFault}
@@ -20,7 +19,8 @@ use Rattle.rt_proc.specs.Entries.{LeadsTo, Calls}
 use Rattle.rt_proc.specs.Looks.{led_by, called_by}
 use Rattle.rt_proc.specs.Steps.{way_steps, steps, called_code, target_code, callees}
 use Rattle.rt_proc.proofs.Ended.{same_look, look-good}
-use Rattle.rt_proc.proofs.Inserted.{Contains-none}
+use Rattle.rt_base.proofs.Lists.{Contains-none}
+use Rattle.std.proofs.lemmas.Bool.{cases_Bool}
 
 -- the places of a form are good
 
@@ -30,7 +30,7 @@ one object p h = All-cons (IsGood object) p [] h (All-nil (IsGood object))
 good-way : (object : Object) (way : Way) → IsGoodWay object way → All (IsGood object) (way_steps way)
 good-way object (On after) h = one object after h
 good-way object (Jump place) h = one object place h
-good-way object (Branch place after) h = elim (cases_bool (is_place place after)) [
+good-way object (Branch place after) h = elim (cases_Bool (is_place place after)) [
   | inl same ↦ rw same (one object place h.0)
   | inr apart ↦ rw apart (All-cons (IsGood object) place (after ∷ []) h.0 (one object after h.1))
 ]

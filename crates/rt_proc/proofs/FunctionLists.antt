@@ -1,13 +1,13 @@
 -- The functions among the first symbols of a table.
 use Rattle.std.proofs.Common.{◌≡◌, ℕ, ◌+◌, ◌<◌, ◌≤◌, ◌↔◌, inl, inr, true, false, Option, Some, None, Ok, Err, IsTrue, List, [], ◌∷◌, ◌++◌, Contains, length, get_or, refl, sym, ap, subst, ◌∙◌, arith}
-use Rattle.std.proofs.lemmas.Bool.{cases_eq}
+use Rattle.std.proofs.lemmas.Bool.{cases_eq, not-false}
 use Rattle.std.proofs.lemmas.List.{get_or_default}
 use Rattle.std.proofs.lemmas.List.Elements.{Contains-get_or, Contains-append_left, Contains-push, Contains-push_cases}
 use Rattle.rt_elf.specs.Parts.{Parts as Object}
 use Rattle.rt_elf.specs.declared.symbol.Symbol.{Symbol}
 use Rattle.rt_elf.specs.Symbols.{zero_symbol}
 use Rattle.rt_link.specs.declared.place.Place.{Place}
-use Rattle.rt_elf.proofs.Booleans.{fault_if-none, and-rest_false, not-false}
+use Rattle.rt_elf.proofs.Booleans.{fault_if-none, and-rest_false}
 use Rattle.rt_control.specs.Places.{is_good}
 use Rattle.rt_proc.specs.Entries.{is_function, place_of, IsFunction}
 use Rattle.rt_proc.specs.Faults.{checked, symbol_fault, IsSymbolFault}

@@ -4,34 +4,22 @@ use Rattle.std.specs.List.{list_any}
 use Rattle.std.proofs.lemmas.List.Elements.{Contains-append_left, Contains-push, Contains-push_cases}
 use Rattle.std.proofs.lemmas.Map.Views.{Contains-from_any}
 use Rattle.rt_control.specs.Tables.{with_place, with_places}
-use Rattle.rt_elf.proofs.Booleans.{cases_bool}
 use Rattle.rt_link.specs.Effects.{is_place}
 use Rattle.rt_link.specs.declared.place.Place.{Place}
-use Rattle.rt_proc.proofs.PlaceLaws.{is_place-same}
-
-pub Contains-none : {X : Type 0} (x : X) → Contains [] x → ⊥
-Contains-none x h = let lt = h.1 in omega arith
-
-pub Contains-here : {X : Type 0} (x : X) (xs : List X) → Contains (x ∷ xs) x
-Contains-here x xs = (0, omega arith, refl)
-
-pub Contains-there : {X : Type 0} (y : X) (xs : List X) (x : X) → Contains xs x → Contains (y ∷ xs) x
-Contains-there y xs x h = let lt = h.1 in (suc h.0, omega arith, h.2)
-
-pub Contains-cons_cases : {X : Type 0} (y : X) (xs : List X) (x : X) → Contains (y ∷ xs) x → (y ≡ x) ⊎ Contains xs x
-Contains-cons_cases y xs x (zero, h, e) = inl e
-Contains-cons_cases y xs x (suc k, h, e) = inr (k, omega arith, e)
+use Rattle.rt_base.proofs.Lists.{Contains-none, Contains-here, Contains-there, Contains-cons_cases}
+use Rattle.std.proofs.lemmas.Bool.{cases_Bool}
+use Rattle.rt_link.proofs.Held.{is_place-same}
 
 -- a place that is added is there
 Contains-with_place : (ks : List Place) (k : Place) → Contains (with_place ks k) k
-Contains-with_place ks k = elim (cases_bool (list_any (is_place k) ks)) [
+Contains-with_place ks k = elim (cases_Bool (list_any (is_place k) ks)) [
   | inl there ↦ rw there (Contains-from_any is_place-same k ks there)
   | inr new ↦ rw new (Contains-push ks k)
 ]
 
 -- the places that were there stay at the begin
 insert-front : (ks : List Place) (k : Place) → (rest : List Place) × (with_place ks k ≡ ks ++ rest)
-insert-front ks k = elim (cases_bool (list_any (is_place k) ks)) [
+insert-front ks k = elim (cases_Bool (list_any (is_place k) ks)) [
   | inl there ↦ ([], rw (there, append-nil) refl)
   | inr new ↦ (k ∷ [], rw new refl)
 ]
@@ -44,7 +32,7 @@ inserted-front (x ∷ xs) ks =
     (one.0 ++ more.0, more.1 ∙ ap (λ (front : List Place). front ++ more.0) one.1 ∙ rw append_assoc refl)
 
 insert-source : (ks : List Place) (k p : Place) → Contains (with_place ks k) p → Contains ks p ⊎ (k ≡ p)
-insert-source ks k p h = elim (cases_bool (list_any (is_place k) ks)) [
+insert-source ks k p h = elim (cases_Bool (list_any (is_place k) ks)) [
   | inl there ↦ inl (rw there at h)
   | inr new ↦ Contains-push_cases ks k p (rw new at h)
 ]

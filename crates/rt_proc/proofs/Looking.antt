@@ -4,16 +4,17 @@ use Rattle.std.proofs.lemmas.List.{take_all}
 use Rattle.std.proofs.lemmas.List.Elements.{Contains-push_cases}
 use Rattle.rt_control.specs.Tables.{with_places}
 use Rattle.rt_elf.specs.Parts.{Parts as Object}
-use Rattle.rt_elf.proofs.Booleans.{cases_bool}
 use Rattle.rt_link.specs.Effects.{is_place}
 use Rattle.rt_link.specs.declared.place.Place.{Place}
 use Rattle.rt_proc.specs.Ends.{Look, IsLookAt}
 use Rattle.rt_proc.specs.declared.look.Looks.{Looks}
 use Rattle.rt_proc.specs.Entries.{IsReached}
 use Rattle.rt_proc.specs.Looks.{look_in, AreLooksOf}
-use Rattle.rt_proc.proofs.Inserted.{Contains-none}
-use Rattle.rt_proc.proofs.PlaceLaws.{is_place-same, is_place-self}
 use Rattle.rt_proc.proofs.Walking.{followed-next}
+use Rattle.rt_base.proofs.Lists.{Contains-none}
+use Rattle.std.proofs.lemmas.Bool.{cases_Bool}
+use Rattle.rt_link.proofs.Held.{is_place-same}
+use Rattle.rt_link.proofs.Naming.{is_place-self}
 
 -- the looks that are kept are those at places of the object, and one is kept for each of some places
 pub record AreLooksAt (object : Object) (ends : List ℕ) (looks : Looks) (places : List Place) : Type 0 where
@@ -29,7 +30,7 @@ no-looks object ends looks none = record {
 -- what is kept for a place after one more
 kept-sound : (object : Object) (ends : List ℕ) (place q : Place) (look found : Look) (old : Option Look) → IsLookAt object ends place look → (old ≡ Some found → IsLookAt object ends q found)
     → (if is_place place q then Some look else old) ≡ Some found → IsLookAt object ends q found
-kept-sound object ends place q look found old is_at before e = elim (cases_bool (is_place place q)) [
+kept-sound object ends place q look found old is_at before e = elim (cases_Bool (is_place place q)) [
   | inl same ↦
       let one : Some look ≡ Some found = rw same at e in
       let looks : look ≡ found = cc in
@@ -38,7 +39,7 @@ kept-sound object ends place q look found old is_at before e = elim (cases_bool 
 ]
 
 kept-some : (place q : Place) (look : Look) (old : Option Look) → IsSome old → IsSome (if is_place place q then Some look else old)
-kept-some place q look old h = elim (cases_bool (is_place place q)) [ inl same ↦ rw same refl | inr apart ↦ rw apart h ]
+kept-some place q look old h = elim (cases_Bool (is_place place q)) [ inl same ↦ rw same refl | inr apart ↦ rw apart h ]
 
 kept-new : (place q : Place) (look : Look) (old : Option Look) → place ≡ q → IsSome (if is_place place q then Some look else old)
 kept-new place q look old e = rw (subst (λ (p : Place). is_place place p ≡ true) e (is_place-self place)) refl

@@ -4,16 +4,17 @@ use Rattle.std.specs.declared.cmp.Ordering.TheVariants.{Less, Equal, Greater}
 use Rattle.std.specs.List.{AllWithin, HoldsAt}
 use Rattle.std.specs.List.Sorted.{IsNonDecreasingBy, IsBinarySearchResult}
 use Rattle.std.specs.Ordering.{nat_cmp, ordering_index, is_lt}
-use Rattle.std.proofs.lemmas.Bool.{cases_lt}
+use Rattle.std.proofs.lemmas.Bool.{cases_lt, cases_Bool}
 use Rattle.std.proofs.lemmas.Bool.Decides.{nat_tests}
 use Rattle.std.proofs.lemmas.List.Folds.{list_any_at}
 use Rattle.std.proofs.lemmas.List.Sorted.{searchable_from_sorted}
 use Rattle.rt_link.specs.Effects.{is_place}
 use Rattle.rt_link.specs.declared.place.Place.{Place}
-use Rattle.rt_elf.proofs.Booleans.{cases_bool}
 use Rattle.rt_proc.specs.Order.{IsBelow, AreRising, place_cmp}
 use Rattle.rt_proc.specs.Sites.{is_entry, number_of, IsIndex}
-use Rattle.rt_proc.proofs.PlaceLaws.{is_place-same, is_place-self, place_cmp-exact, place_cmp-total, IsBelow-irreflexive}
+use Rattle.rt_proc.proofs.PlaceLaws.{place_cmp-exact, place_cmp-total, IsBelow-irreflexive}
+use Rattle.rt_link.proofs.Held.{is_place-same}
+use Rattle.rt_link.proofs.Naming.{is_place-self}
 
 nat_cmp-greater : (a b : ℕ) → a < b → nat_cmp b a ≡ Greater
 nat_cmp-greater a b h = grind (arith, nat_tests)
@@ -28,7 +29,7 @@ not_after p q (inr h) = rw (nat_cmp-same p.section q.section h.0, nat_cmp-greate
 
 -- the place of another list is apart
 pub is_place-below : (p q : Place) → IsBelow p q → is_place p q ≡ false
-is_place-below p q below = elim (cases_bool (is_place p q)) [
+is_place-below p q below = elim (cases_Bool (is_place p q)) [
   | inl same ↦ absurd (IsBelow-irreflexive q (subst (λ (x : Place). IsBelow x q) (is_place-same p q same) below))
   | inr apart ↦ apart
 ]
@@ -50,14 +51,14 @@ number_of-at (q ∷ qs) p (suc i) rising h e =
 
 number_of-none : (places : List Place) (p : Place) → is_entry places p ≡ false → number_of places p ≡ length places
 number_of-none [] p e = refl
-number_of-none (q ∷ qs) p e = elim (cases_bool (is_place q p)) [
+number_of-none (q ∷ qs) p e = elim (cases_Bool (is_place q p)) [
   | inl same ↦ let f : true ≡ false = rw same at e in cc
   | inr apart ↦ let rest : is_entry qs p ≡ false = rw apart at e in rw (apart, number_of-none qs p rest) (add-one (length qs))
 ]
 
 none-found : (places : List Place) (p : Place) → ((k : ℕ) → k < length places → get_or places k p ≡ p → ⊥) → is_entry places p ≡ false
 none-found [] p h = refl
-none-found (q ∷ qs) p h = elim (cases_bool (is_place q p)) [
+none-found (q ∷ qs) p h = elim (cases_Bool (is_place q p)) [
   | inl same ↦ absurd (h 0 (omega arith) (is_place-same q p same))
   | inr apart ↦ rw apart (none-found qs p (λ k within e. h (suc k) (omega arith) e))
 ]

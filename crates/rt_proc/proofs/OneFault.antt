@@ -22,7 +22,7 @@ use Rattle.rt_proc.specs.Walks.{Walk}
 use Rattle.rt_proc.proofs.Called.{good_entry}
 use Rattle.rt_proc.proofs.Ended.{good-look, one_look}
 use Rattle.rt_proc.proofs.Forms.{good-steps}
-use Rattle.rt_proc.proofs.PlaceLaws.{place_same}
+use Rattle.rt_link.proofs.Held.{place-same}
 
 -- two places are one, or one of them comes first
 order : (p q : Place) → IsBelow p q ⊎ ((p ≡ q) ⊎ IsBelow q p)
@@ -34,7 +34,7 @@ order p q = elim (cases_lt p.section q.section) [
       | inl less ↦ inl (inr (one, less))
       | inr more' ↦ elim (cases_eq p.offset q.offset) [
         | inr other ↦ inr (inr (inr (sym one, omega arith)))
-        | inl same ↦ inr (inl (place_same p.section q.section p.offset q.offset one same))
+        | inl same ↦ inr (inl (place-same p.section q.section p.offset q.offset one same))
       ]
     ]
   ]

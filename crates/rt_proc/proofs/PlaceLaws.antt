@@ -13,42 +13,22 @@ use Rattle.rt_link.specs.Effects.{is_place}
 use Rattle.rt_link.specs.declared.place.Place.{Place}
 use Rattle.rt_link.specs.contracts.place.PlaceEq.TheImpl.Laws as eq_laws
 use Rattle.rt_link.specs.contracts.place.PlaceOrd.TheImpl.Laws as ord_laws
-use Rattle.rt_elf.proofs.Booleans.{and-true, eqb-is}
+use Rattle.rt_elf.proofs.Booleans.{eqb-is}
 use Rattle.rt_proc.specs.Order.{IsBelow, AreRising, place_cmp}
-
-pub place_same : (s t o u : ℕ) → s ≡ t → o ≡ u → let p : Place = record { section = s; offset = o } in let q : Place = record { section = t; offset = u } in p ≡ q
-place_same s t o u e f = rw (e, f) refl
-
--- the test is equality
-pub is_place-same : (p q : Place) → is_place p q ≡ true → p ≡ q
-is_place-same p q e =
-    let both = and-true _ _ e in
-    place_same p.section q.section p.offset q.offset (eqb-is _ _ both.0) (eqb-is _ _ both.1)
+use Rattle.rt_base.proofs.Numbers.{nat_cmp-less, nat_cmp-equal, then-equal}
+use Rattle.std.proofs.lemmas.Bool.{and_parts}
+use Rattle.rt_link.proofs.Held.{place-same}
 
 pub is_place-laws : IsEquivalence is_place
 is_place-laws = eq_laws.laws-law
 
-pub is_place-self : (p : Place) → is_place p p ≡ true
-is_place-self p = (eq_laws.laws-law).refl p
-
 pub place_cmp-total : IsTotalOrder place_cmp
 place_cmp-total = ord_laws.total-law
-
-nat_cmp-less : (a b : ℕ) → nat_cmp a b ≡ Less → a < b
-nat_cmp-less a b e = grind (arith, nat_tests)
-
-nat_cmp-equal : (a b : ℕ) → nat_cmp a b ≡ Equal → a ≡ b
-nat_cmp-equal a b e = grind (arith, nat_tests)
 
 then-less : (a b : Ordering) → ordering_then a b ≡ Less → (a ≡ Less) ⊎ ((a ≡ Equal) × (b ≡ Less))
 then-less Less b e = inl refl
 then-less Equal b e = inr (refl, e)
 then-less Greater b e = cc
-
-then-equal : (a b : Ordering) → ordering_then a b ≡ Equal → (a ≡ Equal) × (b ≡ Equal)
-then-equal Less b e = cc
-then-equal Equal b e = (refl, e)
-then-equal Greater b e = cc
 
 pub IsBelow-from_less : (p q : Place) → place_cmp p q ≡ Less → IsBelow p q
 IsBelow-from_less p q e = elim (then-less (nat_cmp p.section q.section) (nat_cmp p.offset q.offset) e) [
@@ -59,7 +39,7 @@ IsBelow-from_less p q e = elim (then-less (nat_cmp p.section q.section) (nat_cmp
 pub place_cmp-exact : CmpEqualImpliesEq place_cmp
 place_cmp-exact p q e =
     let both = then-equal (nat_cmp p.section q.section) (nat_cmp p.offset q.offset) e in
-    place_same p.section q.section p.offset q.offset (nat_cmp-equal p.section q.section both.0) (nat_cmp-equal p.offset q.offset both.1)
+    place-same p.section q.section p.offset q.offset (nat_cmp-equal p.section q.section both.0) (nat_cmp-equal p.offset q.offset both.1)
 
 -- no place comes before itself
 pub IsBelow-irreflexive : (p : Place) → IsBelow p p → ⊥

@@ -2,7 +2,6 @@
 use Rattle.std.proofs.Common.{◌≡◌, ◌↔◌, ℕ, inl, inr, Bool, true, false, not, Ok, Err, List, [], ◌∷◌, Contains, filter, refl, sym, ap, subst, ◌∙◌}
 use Rattle.std.proofs.lemmas.List.Folds.{list_any_at}
 use Rattle.rt_elf.specs.Parts.{Parts as Object}
-use Rattle.rt_elf.proofs.Booleans.{cases_bool}
 use Rattle.rt_link.specs.Effects.{is_place}
 use Rattle.rt_link.specs.declared.place.Place.{Place}
 use Rattle.rt_control.specs.declared.form.Form.{Form}
@@ -13,30 +12,10 @@ use Rattle.rt_proc.specs.Looks.{stepped_by}
 use Rattle.rt_proc.specs.Sites.{is_entry, is_other}
 use Rattle.rt_proc.specs.Steps.{steps}
 use Rattle.rt_proc.proofs.Forms.{one_form, no_form}
-use Rattle.rt_proc.proofs.Inserted.{Contains-none, Contains-here, Contains-there, Contains-cons_cases}
-use Rattle.rt_proc.proofs.PlaceLaws.{is_place-same, is_place-self}
-
--- an element that passes is kept
-pub filter-has : {X : Type 0} (test : X → Bool) (xs : List X) (x : X) → Contains xs x → test x ≡ true → Contains (filter test xs) x
-filter-has test [] x h e = absurd (Contains-none x h)
-filter-has test (y ∷ ys) x h e = elim (Contains-cons_cases y ys x h) [
-  | inl same ↦ let pass : test y ≡ true = ap test same ∙ e in rw pass (subst (Contains (y ∷ filter test ys)) same (Contains-here y (filter test ys)))
-  | inr later ↦ elim (cases_bool (test y)) [
-    | inl pass ↦ rw pass (Contains-there y (filter test ys) x (filter-has test ys x later e))
-    | inr fail ↦ rw fail (filter-has test ys x later e)
-  ]
-]
-
--- what is kept is an element that passes
-pub filter-source : {X : Type 0} (test : X → Bool) (xs : List X) (x : X) → Contains (filter test xs) x → Contains xs x × (test x ≡ true)
-filter-source test [] x h = absurd (Contains-none x h)
-filter-source test (y ∷ ys) x h = elim (cases_bool (test y)) [
-  | inl pass ↦ elim (Contains-cons_cases y (filter test ys) x (rw pass at h)) [
-    | inl same ↦ (subst (Contains (y ∷ ys)) same (Contains-here y ys), ap test (sym same) ∙ pass)
-    | inr later ↦ let rest = filter-source test ys x later in (Contains-there y ys x rest.0, rest.1)
-  ]
-  | inr fail ↦ let rest = filter-source test ys x (rw fail at h) in (Contains-there y ys x rest.0, rest.1)
-]
+use Rattle.rt_base.proofs.Lists.{filter-has, filter-source, Contains-none, Contains-here, Contains-there, Contains-cons_cases}
+use Rattle.std.proofs.lemmas.Bool.{cases_Bool}
+use Rattle.rt_link.proofs.Held.{is_place-same}
+use Rattle.rt_link.proofs.Naming.{is_place-self}
 
 -- the test of entries says which places are among them
 pub is_entry-has : (entries : List Place) (p : Place) → Contains entries p → is_entry entries p ≡ true
@@ -44,7 +23,7 @@ is_entry-has entries p h = list_any_at (λ q. is_place q p) entries h.0 p h.1 (r
 
 pub is_entry-source : (entries : List Place) (p : Place) → is_entry entries p ≡ true → Contains entries p
 is_entry-source [] p e = cc
-is_entry-source (q ∷ qs) p e = elim (cases_bool (is_place q p)) [
+is_entry-source (q ∷ qs) p e = elim (cases_Bool (is_place q p)) [
   | inl same ↦ subst (Contains (q ∷ qs)) (is_place-same q p same) (Contains-here q qs)
   | inr apart ↦ Contains-there q qs p (is_entry-source qs p (rw apart at e))
 ]
@@ -52,13 +31,13 @@ is_entry-source (q ∷ qs) p e = elim (cases_bool (is_place q p)) [
 -- a place stays in the body of `own` exactly if it isn't the entry of another procedure
 module _ (object : Object) (ends : List ℕ) (entries : List Place) (own : Place) (same : (p : Place) → Contains entries p ↔ IsEntry object ends p) where
   pub stays : (to : Place) → not (is_other entries own to) ≡ true → IsEntry object ends to → to ≡ own
-  stays to e entry = elim (cases_bool (is_place to own)) [
+  stays to e entry = elim (cases_Bool (is_place to own)) [
     | inl one ↦ is_place-same to own one
     | inr apart ↦ let f : false ≡ true = rw (is_entry-has entries to ((same to).1 entry), apart) at e in cc
   ]
 
   pub stays-test : (to : Place) → (IsEntry object ends to → to ≡ own) → not (is_other entries own to) ≡ true
-  stays-test to h = elim (cases_bool (is_entry entries to)) [
+  stays-test to h = elim (cases_Bool (is_entry entries to)) [
     | inr out ↦ rw out refl
     | inl entry ↦
         let one : is_place to own ≡ true = rw (h ((same to).0 (is_entry-source entries to entry))) (is_place-self own) in

@@ -15,12 +15,7 @@ use Rattle.rt_proc.specs.Order.{IsBelow}
 use Rattle.rt_proc.specs.Procs.{AreProcs, IsProc, IsSite, entries_of, name_at, places_of}
 use Rattle.rt_proc.specs.Sites.{site_of}
 use Rattle.rt_proc.proofs.Ordered.{one_ordered}
-
-below_one_way : (p q : Place) → IsBelow p q → IsBelow q p → ⊥
-below_one_way p q (inl a) (inl b) = omega (arith, a, b)
-below_one_way p q (inl a) (inr b) = let e = b.0 in omega (arith, a, e)
-below_one_way p q (inr a) (inl b) = let e = a.0 in omega (arith, b, e)
-below_one_way p q (inr a) (inr b) = let x = a.1 in let y = b.1 in omega (arith, x, y)
+use Rattle.rt_proc.proofs.Faulty.{IsBelow-asymmetric}
 
 abbrev form_of : Form → Look → Form
 form_of form (Ok found) = found
@@ -46,7 +41,7 @@ module _ (object : Object) (ends : List ℕ) (one_form : IsLawOfOneForm) where
 
     places_same : places_of p.sites ≡ places_of q.sites
     places_same =
-        one_ordered IsBelow below_one_way (IsInBody object ends p.entry) (places_of p.sites) (places_of q.sites) a.rising a.body there.rising
+        one_ordered IsBelow IsBelow-asymmetric (IsInBody object ends p.entry) (places_of p.sites) (places_of q.sites) a.rising a.body there.rising
         (subst (λ own. (place : Place) → Contains (places_of q.sites) place ↔ IsInBody object ends own place) (sym entry) there.body)
 
     count_same : length p.sites ≡ length q.sites
@@ -71,7 +66,7 @@ module _ (object : Object) (ends : List ℕ) (one_form : IsLawOfOneForm) where
   module _ (first second : List Proc) (a : AreProcs object ends first) (b : AreProcs object ends second) where
     entries_same : entries_of first ≡ entries_of second
     entries_same =
-        one_ordered IsBelow below_one_way (IsEntry object ends) (entries_of first) (entries_of second) a.rising a.entries b.rising b.entries
+        one_ordered IsBelow IsBelow-asymmetric (IsEntry object ends) (entries_of first) (entries_of second) a.rising a.entries b.rising b.entries
 
     counts_same : length first ≡ length second
     counts_same =

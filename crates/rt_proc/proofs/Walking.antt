@@ -6,7 +6,8 @@ use Rattle.std.proofs.lemmas.List.Elements.{Contains-push_cases, All-contains}
 use Rattle.rt_control.specs.Tables.{with_places}
 use Rattle.rt_link.specs.declared.place.Place.{Place}
 use Rattle.rt_proc.specs.Walks.{Walk}
-use Rattle.rt_proc.proofs.Inserted.{Contains-none, inserted-front, inserted-source, inserted-stays, inserted-has}
+use Rattle.rt_proc.proofs.Inserted.{inserted-front, inserted-source, inserted-stays, inserted-has}
+use Rattle.rt_base.proofs.Lists.{Contains-none}
 
 -- all that was found is walked to and good, all starts are among it, and all that the first i of it lead to
 pub record IsWalking (Starts : Place → Type 0) (Leads : Place → Place → Type 0) (Good : Place → Type 0) (found : List Place) (i : ℕ) : Type 0 where

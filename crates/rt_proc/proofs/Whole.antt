@@ -3,7 +3,6 @@ use Rattle.std.proofs.Common.{◌≡◌, ℕ, zero, suc, ◌<◌, inl, inr, true
 use Rattle.std.proofs.lemmas.List.{length-map}
 use Rattle.std.proofs.lemmas.List.Elements.{All-nil, All-cons, All-map, Contains-get_or}
 use Rattle.rt_elf.specs.Parts.{Parts as Object}
-use Rattle.rt_elf.proofs.Booleans.{cases_bool, and-true}
 use Rattle.rt_link.specs.Effects.{is_place}
 use Rattle.rt_link.specs.declared.place.Place.{Place}
 use Rattle.rt_control.specs.declared.form.Called.{Called}
@@ -28,9 +27,10 @@ use Rattle.rt_proc.specs.Steps.{way_steps, steps, called_code, target_code, call
 use Rattle.rt_proc.specs.Walks.{Walk}
 use Rattle.rt_proc.proofs.Ended.{known-look}
 use Rattle.rt_proc.proofs.EntrySets.{reached-body}
-use Rattle.rt_proc.proofs.Inserted.{Contains-here, Contains-there}
 use Rattle.rt_proc.proofs.OneFault.{good-body}
-use Rattle.rt_proc.proofs.Staying.{filter-source, is_entry-has, stays}
+use Rattle.rt_proc.proofs.Staying.{is_entry-has, stays}
+use Rattle.rt_base.proofs.Lists.{filter-source, Contains-here, Contains-there}
+use Rattle.std.proofs.lemmas.Bool.{cases_Bool, and_parts}
 
 -- the image of an element stands in the mapped list
 Contains-mapped : {X Y : Type 0} (f : X → Y) (xs : List X) (k : ℕ) (d : X) → k < length xs → Contains (map f xs) (f (get_or xs k d))
@@ -74,7 +74,7 @@ steps_lem object ends procs are k d within =
 -- the number of an entry is that of a procedure
 number-below : (entries : List Place) (p : Place) → is_entry entries p ≡ true → number_of entries p < length entries
 number-below [] p e = cc
-number-below (q ∷ qs) p e = elim (cases_bool (is_place q p)) [
+number-below (q ∷ qs) p e = elim (cases_Bool (is_place q p)) [
   | inl same ↦ rw same (omega arith)
   | inr apart ↦ let rest : number_of qs p < length qs = number-below qs p (rw apart at e) in rw apart (omega arith)
 ]
@@ -105,7 +105,7 @@ module _ (object : Object) (entries : List Place) (count : ℕ) (counted : lengt
       (λ k d within.
       let p = get_or (filter (is_other entries own) places) k d in
       let kept = filter-source (is_other entries own) places p (Contains-get_or (filter (is_other entries own) places) k d within) in
-      proc-below p (and-true (is_entry entries p) (not (is_place p own)) kept.1).0
+      proc-below p (and_parts (is_entry entries p) (not (is_place p own)) kept.1).0
       )
 
   way_tails-are : (own : Place) (way : Way) → IsKnownWay object way → All (IsCallee object count) (way_tails entries own way)

@@ -1,31 +1,14 @@
 -- Arcs from outside of the lines that are left.
-use Rattle.std.proofs.Common.{◌≡◌, inl, inr, Bool, true, List, [], ◌∷◌, ◌++◌, Contains, length, replicate, sym, ap, subst, ◌∙◌}
-use Rattle.rt_base.proofs.Lists.{Contains-here, Contains-there}
+use Rattle.std.proofs.Common.{◌≡◌, Bool, true, List, [], ◌∷◌, ◌++◌, Contains, length, replicate, sym, ap, subst, ◌∙◌}
 use Rattle.rt_lines.specs.declared.variable.Dtv.{Dtv}
 use Rattle.rt_lines.specs.declared.line.Line.{Line}
-use Rattle.rt_lines.specs.declared.line.Line.TheVariants.{Var, Same, Sub, Low, Up}
 use Rattle.rt_lines.specs.Sides.{sides as sides_of}
-use Rattle.rt_rules.specs.Rules.{HasSide}
 use Rattle.rt_named.specs.Naming.{named as named_by}
 use Rattle.rt_sat.proofs.Frames.{extra_named, side_named}
 use Rattle.rt_outline.specs.Lines.{Lined, standing}
 use Rattle.rt_outline.proofs.Standing.{all_set, standing_whole}
 use Rattle.rt_reduce.specs.Deciding.{IsOuterFor, IsUpperWith}
-
-in_two : (x y z : Dtv) → y ≡ z → Contains (x ∷ y ∷ []) z
-in_two x y z e = subst (Contains (x ∷ y ∷ [])) e (Contains-there x (y ∷ []) y (Contains-here y []))
-
-in_front : (x z : Dtv) (rest : List Dtv) → x ≡ z → Contains (x ∷ rest) z
-in_front x z rest e = subst (Contains (x ∷ rest)) e (Contains-here x rest)
-
-side_in : (l : Line) (z : Dtv) → HasSide l z → Contains (sides_of l) z
-side_in (Var x) z e = in_front x z [] e
-side_in (Same x y) z (inl e) = in_front x z (y ∷ []) e
-side_in (Same x y) z (inr e) = in_two x y z e
-side_in (Sub x y) z (inl e) = in_front x z (y ∷ []) e
-side_in (Sub x y) z (inr e) = in_two x y z e
-side_in (Low k x) z e = in_front x z [] e
-side_in (Up x k) z e = in_front x z [] e
+use Rattle.rt_rules.proofs.LineSides.{Contains-sides}
 
 -- between the variables that lines and the sides of another one name
 pub upper_of : (lines : List Line) (line : Line) (none sides given : List Dtv) (outer : Lined) → none ≡ [] → sides ≡ none ++ sides_of line →
@@ -34,7 +17,7 @@ upper_of lines line none sides given outer start e same is = record {
   own = ap (λ (l : Lined). l.lines) is;
   sides = side_named lines given outer.named (ap (λ (l : Lined). l.named) is);
   line_sides = λ x h. extra_named lines given outer.named (ap (λ (l : Lined). l.named) is) x
-      (subst (λ xs. Contains xs x) (sym (same ∙ e ∙ ap (λ xs. xs ++ sides_of line) start)) (side_in line x h));
+      (subst (λ xs. Contains xs x) (sym (same ∙ e ∙ ap (λ xs. xs ++ sides_of line) start)) (Contains-sides line x h));
 }
 
 -- all lines stand

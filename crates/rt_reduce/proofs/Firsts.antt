@@ -11,7 +11,7 @@ use Rattle.std.proofs.lemmas.List.{take_more}
 use Rattle.std.proofs.lemmas.Map.Keys.{le_from_not_gt}
 use Rattle.std.proofs.lemmas.Map.Lookups.{exact_unsigned}
 use Rattle.std.proofs.lemmas.List.Elements.{Contains-append_cases, Contains-append_left, Contains-append_right}
-use Rattle.rt_base.proofs.Lists.{Contains-none, Contains-here, Contains-cons_cases, Contains-flat_map, Contains-flat_map_source}
+use Rattle.rt_base.proofs.Lists.{Contains-none, Contains-here, Contains-cons_cases, Contains-flat_map, Contains-flat_map_source, take-next}
 use Rattle.rt_lines.specs.declared.variable.Base.TheVariants.{Exist}
 use Rattle.rt_lines.specs.declared.variable.Dtv.{Dtv}
 use Rattle.rt_lines.specs.declared.line.Line.{Line}
@@ -26,15 +26,13 @@ use Rattle.rt_reduction.specs.Merges.{IsEqualTo, HasEqual, IsMerge}
 use Rattle.rt_reduction.proofs.Before.{before_chain, not_before_self}
 use Rattle.rt_reduction.proofs.Naming.{base_named}
 use Rattle.rt_reduce.specs.Merging.{IsEarlier, IsFirstAmong, IsFirstEqual, IsLike}
-
-pub taken_more : {X : Type 0} (xs : List X) (i : ℕ) (x : X) → i < length xs → x ≡ get_or xs i x → take (i + 1) xs ≡ take i xs ++ x ∷ []
-taken_more xs i x h e = take_more xs i x h ∙ ap (λ y. take i xs ++ y ∷ []) (sym e)
+use Rattle.rt_base.proofs.Numbers.{equal_number}
 
 -- an element that is gone through is one of those before, or the last one
 pub more_cases : {X : Type 0} (xs : List X) (i : ℕ) (x y : X) → i < length xs → x ≡ get_or xs i x → Contains (take (i + 1) xs) y →
     Contains (take i xs) y ⊎ (x ≡ y)
 more_cases xs i x y h e c =
-    by (Contains-append_cases (take i xs) (x ∷ []) y (subst (λ ys. Contains ys y) (taken_more xs i x h e) c))
+    by (Contains-append_cases (take i xs) (x ∷ []) y (subst (λ ys. Contains ys y) (take-next xs i x h e) c))
   where
     at : (x ≡ y) ⊎ Contains [] y → Contains (take i xs) y ⊎ (x ≡ y)
     at (inl f) = inr f
@@ -173,14 +171,6 @@ merge_of order lines v z old is pending least = record {
   where
     apart : (m : ℕ) → m < v → v ≤ m → ⊥
     apart m h g = omega (arith, h, g)
-
-equal_number : (v q : ℕ) → is_eq (nat_cmp v q) ≡ true → v ≡ q
-equal_number v q e = by (nat_cmp v q) refl e
-  where
-    by : (o : Ordering) → nat_cmp v q ≡ o → is_eq o ≡ true → v ≡ q
-    by Less f g = absurd (cc)
-    by Equal f g = exact_unsigned v q f
-    by Greater f g = absurd (cc)
 
 -- what was pending is pending still, but for one that was taken out
 pub still_pending : (v m : ℕ) (old new : ℕ → Bool) → ((q : ℕ) → new q ≡ cond (is_eq (nat_cmp v q)) false (old q)) → old m ≡ true →

@@ -1,7 +1,7 @@
 -- What a round keeps: sides of schemes, and constants below a count.
 use Rattle.std.proofs.Common.{◌≡◌, ℕ, ◌⊎◌, inl, inr, List, ◌∷◌, ◌++◌, All, Contains, map, Bool, true, false, cond, sym, subst}
 use Rattle.std.proofs.lemmas.List.Elements.{All-contains, Contains-append_cases}
-use Rattle.rt_base.proofs.Lists.{All-from_contains, Contains-map_source}
+use Rattle.rt_base.proofs.Lists.{All-from_contains, Contains-map_source, Contains-wider, Contains-middle_cases}
 use Rattle.rt_lines.specs.declared.variable.Base.TheVariants.{Exist}
 use Rattle.rt_lines.specs.declared.variable.Dtv.{Dtv}
 use Rattle.rt_lines.specs.declared.line.Line.{Line}
@@ -17,7 +17,6 @@ use Rattle.rt_polar.specs.Puts.{Exchanges, Puts}
 use Rattle.rt_polar.specs.Puts.Exchanges.{goes, exists_still}
 use Rattle.rt_polar.specs.Puts.Puts.{none_left, puts}
 use Rattle.rt_polar.specs.Tidied.{tidied}
-use Rattle.rt_polar.proofs.Exchanging.{Contains-wider, Contains-middle_cases}
 use Rattle.rt_reduction.specs.Emits.{flow_lines, first_side, AreOfScheme, IsAnchored, IsEmitted, IsShapeLine}
 use Rattle.rt_reduction.specs.Simplifies.{Simplifies, simple, twins_go}
 use Rattle.rt_reduction.proofs.Anchoring.{keep_source}

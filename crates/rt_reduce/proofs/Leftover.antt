@@ -15,7 +15,6 @@ use Rattle.rt_rules.specs.Put.{exist}
 use Rattle.rt_polar.specs.Polar.{HasCandidate}
 use Rattle.rt_polar.specs.Puts.{Puts}
 use Rattle.rt_polar.specs.Puts.Puts.{none_left, puts}
-use Rattle.rt_polar.proofs.Settling.{line_self}
 use Rattle.rt_reduction.specs.Twins.{AreTwins, IsTwinOf}
 use Rattle.rt_reduction.specs.Simplifies.{Simplifies, simple, twins_go}
 use Rattle.rt_reduction.specs.Rounds.{IsUnfinished, of_candidate, of_twins, of_unused}
@@ -23,6 +22,7 @@ use Rattle.rt_reduction.proofs.Losing.{IsSimple, Loses, simple_loses}
 use Rattle.rt_simplify.specs.Uses.{AreOfLines}
 use Rattle.rt_reduce.specs.Settling.{AreUsed, HasMissing, HaveMissing, IsMissing, IsSimplified, IsUnused, IsUsedBy}
 use Rattle.rt_reduce.proofs.Firsts.{more_cases}
+use Rattle.rt_lines.proofs.Same.{line_self}
 
 -- putting changes nothing, or an existential has a candidate
 puts_or : (left start : List Line) → Puts left start → (start ≡ left) ⊎ ((n : ℕ) × HasCandidate n start)

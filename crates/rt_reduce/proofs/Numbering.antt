@@ -6,7 +6,7 @@ use Rattle.std.specs.List.{flat_map}
 use Rattle.std.proofs.lemmas.Bool.{cases_eq, eqb-true}
 use Rattle.std.proofs.lemmas.List.{get_or_append_left, get_or_default, get_or_push, length_push}
 use Rattle.std.proofs.lemmas.Option.{get_or_from_slice_get, slice_get_within}
-use Rattle.rt_base.proofs.Lists.{Contains-flat_map_source}
+use Rattle.rt_base.proofs.Lists.{Contains-flat_map_source, take-next}
 use Rattle.rt_lines.specs.declared.variable.Base.{Base}
 use Rattle.rt_lines.specs.declared.variable.Base.TheVariants.{Exist}
 use Rattle.rt_lines.specs.declared.variable.Dtv.{Dtv}
@@ -30,7 +30,7 @@ use Rattle.rt_reduce.specs.declared.bases.Bases.TheVariants.{Several}
 use Rattle.rt_reduce.specs.Alike.{AreAlikeAt, AreNumbered, HasNumber, IsAlike, no_side}
 use Rattle.rt_reduce.specs.Bases.{AreNoted, IsAloneAt, Notes}
 use Rattle.rt_reduce.specs.Merging.{IsNamedPair}
-use Rattle.rt_reduce.proofs.Firsts.{side_of, taken_more}
+use Rattle.rt_reduce.proofs.Firsts.{side_of}
 
 -- equal numbers are those of variables that lie below each other
 pub same_number : (order : Below) (lines : List Line) (known : List Dtv) (equals : List ℕ) (x y : Dtv) (k m : ℕ) →
@@ -131,7 +131,7 @@ pub numbered_next : (known : List Dtv) (equals : List ℕ) (all : List Dtv) (i :
     AreNumbered known equals (take i all) numbers → AreNumbered known equals (take (i + 1) all) new
 numbered_next known equals all i x numbers new number h e f has are =
     subst (AreNumbered known equals (take (i + 1) all)) (sym f)
-    (subst (λ xs. AreNumbered known equals xs (numbers ++ number ∷ [])) (sym (taken_more all i x h e))
+    (subst (λ xs. AreNumbered known equals xs (numbers ++ number ∷ [])) (sym (take-next all i x h e))
     (numbered_push known equals (take i all) numbers x number has are))
 
 -- whether a side has the existential's number

@@ -88,9 +88,6 @@ given_named lines extra known from x e there f z c =
     by (inl g) = subst (Contains known) g (extra_named lines extra known e x there)
     by (inr d) = absurd (Contains-none z d)
 
-pub first_in : (x : Dtv) (rest sides : List Dtv) → sides ≡ x ∷ rest → Contains sides x
-first_in x rest sides e = subst (λ xs. Contains xs x) (sym e) (Contains-here x rest)
-
 pub second_in : (x y : Dtv) (sides : List Dtv) → sides ≡ x ∷ y ∷ [] → Contains sides y
 second_in x y sides e = subst (λ xs. Contains xs y) (sym e) (Contains-there x (y ∷ []) y (Contains-here y []))
 

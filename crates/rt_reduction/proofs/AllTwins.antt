@@ -84,7 +84,7 @@ peer_has Co n (Constant k) = (refl, refl)
 peer_has Contra n (Variable z) = inl (refl, refl)
 peer_has Contra n (Constant k) = (refl, refl)
 
-peer_use : (sign : Variance) (n : ℕ) (z : Dtv) → peer_line sign n (Variable z) ≡ use_of sign n z
+pub peer_use : (sign : Variance) (n : ℕ) (z : Dtv) → peer_line sign n (Variable z) ≡ use_of sign n z
 peer_use Co n z = refl
 peer_use Contra n z = refl
 
@@ -99,7 +99,7 @@ one_peer Contra n (Constant j) (Variable z) e = absurd (cc)
 one_peer Contra n (Constant j) (Constant k) e = let f : j ≡ k = cc in ap Constant f
 
 -- twins are so in either order, and in chains
-twins_back : (sign : Variance) (lines : List Line) (v w : ℕ) → AreTwins sign lines v w → AreTwins sign lines w v
+pub twins_back : (sign : Variance) (lines : List Line) (v w : ℕ) → AreTwins sign lines v w → AreTwins sign lines w v
 twins_back sign lines v w a = record {
   first = a.second;
   second = a.first;

@@ -17,6 +17,7 @@ use Rattle.rt_lines.specs.declared.variable.Base.TheVariants.{Proc, Global, Exis
 use Rattle.rt_lines.specs.declared.variable.Dtv.{Dtv}
 use Rattle.rt_texts.specs.Texts.{label_text}
 use Rattle.rt_reduction.specs.Before.{base_key, location_numbers, offset_numbers, label_numbers, variable_key, comes_before}
+use Rattle.rt_base.proofs.Numbers.{less_lt}
 
 -- lists compare as equal only if they are, where their elements do
 exact_list : {X : Type 0} (R : X → X → Ordering) → ((x y : X) → R x y ≡ Equal → x ≡ y) → (xs ys : List X) → slice_cmp R xs ys ≡ Equal →
@@ -51,13 +52,8 @@ one_key a b e f = by (key_cmp a b) refl
         let k : is_lt (key_cmp b a) ≡ true = ap is_lt h in
         absurd (cc)
 
-is_less : (o : Ordering) → is_lt o ≡ true → o ≡ Less
-is_less Less e = refl
-is_less Equal e = absurd (cc)
-is_less Greater e = absurd (cc)
-
 -- the key of a variable is that of no other
-one_base_key : (a b : Base) → base_key a ≡ base_key b → a ≡ b
+pub one_base_key : (a b : Base) → base_key a ≡ base_key b → a ≡ b
 one_base_key (Exist m) (Exist n) e = let f : m ≡ n = cc in ap Exist f
 one_base_key (Global m) (Global n) e = let f : m ≡ n = cc in ap Global f
 one_base_key (Proc m) (Proc n) e = let f : m ≡ n = cc in ap Proc f
@@ -148,7 +144,7 @@ one_word u v e =
     one_word_numbers u v (same_tails (map label_text u) (map label_numbers u) (map label_text v) (map label_numbers v)
     (length-map u label_text ∙ h ∙ sym (length-map v label_text)) e)
 
-one_variable_key : (x y : Dtv) → variable_key x ≡ variable_key y → x ≡ y
+pub one_variable_key : (x y : Dtv) → variable_key x ≡ variable_key y → x ≡ y
 one_variable_key x y e =
     let f : base_key x.base ≡ base_key y.base = cc in
     let g : map label_text x.word ++ map label_numbers x.word ≡ map label_text y.word ++ map label_numbers y.word = cc in
@@ -166,5 +162,5 @@ not_before_self x e =
 
 pub before_chain : (x y z : Dtv) → comes_before x y ≡ true → comes_before y z ≡ true → comes_before x z ≡ true
 before_chain x y z e f =
-    ap is_lt (key_total.trans (variable_key x) (variable_key y) (variable_key z) (is_less (key_cmp (variable_key x) (variable_key y)) e)
-    (is_less (key_cmp (variable_key y) (variable_key z)) f))
+    ap is_lt (key_total.trans (variable_key x) (variable_key y) (variable_key z) (less_lt (key_cmp (variable_key x) (variable_key y)) e)
+    (less_lt (key_cmp (variable_key y) (variable_key z)) f))

@@ -1,7 +1,7 @@
 -- Constants of the lines that each step leaves stand in the lines before it.
 use Rattle.std.proofs.Common.{◌≡◌, ℕ, ◌⊎◌, inl, inr, List, ◌∷◌, ◌++◌, map, Contains, Bool, true, false, cond, sym, subst}
 use Rattle.std.proofs.lemmas.List.Elements.{Contains-append_cases}
-use Rattle.rt_base.proofs.Lists.{Contains-map_source}
+use Rattle.rt_base.proofs.Lists.{Contains-map_source, Contains-wider, Contains-middle_cases}
 use Rattle.rt_lines.specs.declared.variable.Dtv.{Dtv}
 use Rattle.rt_lines.specs.declared.line.Line.{Line}
 use Rattle.rt_lines.specs.declared.line.Line.TheVariants.{Var, Same, Sub, Low, Up}
@@ -14,7 +14,6 @@ use Rattle.rt_polar.specs.Puts.{Exchanges, Puts}
 use Rattle.rt_polar.specs.Puts.Exchanges.{goes, exists_still}
 use Rattle.rt_polar.specs.Puts.Puts.{none_left, puts}
 use Rattle.rt_polar.specs.Tidied.{without_self, tidied}
-use Rattle.rt_polar.proofs.Exchanging.{Contains-wider, Contains-middle_cases}
 use Rattle.rt_reduction.specs.Constants.{HasConstant, NamesConstant}
 use Rattle.rt_reduction.specs.Simplifies.{Simplifies, simple, twins_go}
 use Rattle.rt_reduction.specs.Merges.{Merges}

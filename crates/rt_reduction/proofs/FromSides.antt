@@ -1,7 +1,7 @@
 -- Sides of the lines that each step leaves come from sides of the lines before it.
 use Rattle.std.proofs.Common.{◌≡◌, ◌≢◌, ℕ, ◌⊎◌, inl, inr, List, [], ◌∷◌, ◌++◌, map, Contains, Bool, true, false, cond, Option, Some}
 use Rattle.std.proofs.Common.{None, refl, sym, ap, subst, ◌∙◌}
-use Rattle.rt_base.proofs.Lists.{Contains-map_source}
+use Rattle.rt_base.proofs.Lists.{Contains-map_source, Contains-middle, Contains-wider, Contains-middle_cases}
 use Rattle.rt_lines.specs.declared.label.Label.{Label}
 use Rattle.rt_lines.specs.declared.label.Variance.{Variance}
 use Rattle.rt_lines.specs.declared.label.Variance.TheVariants.{Co, Contra}
@@ -23,7 +23,7 @@ use Rattle.rt_polar.specs.Puts.{Exchanges, Puts}
 use Rattle.rt_polar.specs.Puts.Exchanges.{goes, exists_still}
 use Rattle.rt_polar.specs.Puts.Puts.{none_left, puts}
 use Rattle.rt_polar.specs.Tidied.{without_self, tidied}
-use Rattle.rt_polar.proofs.Exchanging.{put-apart, put-own, Contains-middle, Contains-wider, Contains-middle_cases}
+use Rattle.rt_polar.proofs.Exchanging.{put-apart, put-own}
 use Rattle.rt_reduction.specs.Twins.{IsTwinOf, AreTwinned}
 use Rattle.rt_reduction.specs.Simplifies.{Simplifies, simple, twins_go}
 use Rattle.rt_reduction.specs.Merges.{Merges}
@@ -127,16 +127,16 @@ from_put all lines n z side from x (k, c, h) = by (Contains-map_source (map_line
         let s : (y : Dtv) × HasSide l y × (put n z y ≡ x) = HasSide-map_line_source (put n z) l x (subst (λ m. HasSide m x) (sym e) h) in
         subst (IsFrom all) s.2 (at s.0 (l, d, s.1) (one_base s.0.base (Exist n)))
 
-use_side : (sign : Variance) (n : ℕ) (z : Dtv) → HasSide (use_of sign n z) z
-use_side Co n z = inl refl
-use_side Contra n z = inr refl
+pub use_is_side : (sign : Variance) (n : ℕ) (z : Dtv) → HasSide (use_of sign n z) z
+use_is_side Co n z = inl refl
+use_is_side Contra n z = inr refl
 
 cut_side : (lines before after : List Line) (sign : Variance) (n : ℕ) (z : Dtv) → lines ≡ before ++ use_of sign n z ∷ after →
     IsSideOf lines z
 cut_side lines before after sign n z cut = (
   use_of sign n z,
   subst (λ ls. Contains ls (use_of sign n z)) (sym cut) (Contains-middle before (use_of sign n z) after),
-  use_side sign n z,
+  use_is_side sign n z,
 )
 
 cut_fewer : (lines before after : List Line) (sole : Line) → lines ≡ before ++ sole ∷ after → (l : Line) → Contains (before ++ after) l →

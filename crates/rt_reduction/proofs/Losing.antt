@@ -25,7 +25,7 @@ use Rattle.rt_polar.specs.Puts.{Exchanges, Puts}
 use Rattle.rt_polar.specs.Puts.Exchanges.{goes, exists_still}
 use Rattle.rt_polar.specs.Puts.Puts.{none_left, puts}
 use Rattle.rt_polar.specs.Tidied.{tidied}
-use Rattle.rt_polar.proofs.Exchanging.{candidate_only, Contains-middle_cases}
+use Rattle.rt_polar.proofs.Exchanging.{candidate_only}
 use Rattle.rt_polar.proofs.OneAnswer.{left_none}
 use Rattle.rt_reduction.specs.Twins.{Variable, AreTwins, IsTwinOf, AreTwinned}
 use Rattle.rt_reduction.specs.Simplifies.{HasNoTwins, Simplifies, simple, twins_go}
@@ -39,6 +39,7 @@ use Rattle.rt_reduction.proofs.Anchoring.{keep_source}
 use Rattle.rt_reduction.proofs.Emitting.{emits_used_lem, emits_joined_lem}
 use Rattle.rt_reduction.proofs.NamesFrom.{NamesFrom, named_from, names_chain, names_tidied, put_source, IsTwinnedSide, own_is_side}
 use Rattle.rt_reduction.proofs.NamesFrom.{cut_own, names_puts, twinned_source, names_simple, names_emitted, names_after, names_round}
+use Rattle.rt_base.proofs.Lists.{Contains-middle_cases}
 
 pub round_names_lem : RoundNamesLaw
 round_names_lem order lines after r b names = named_from lines after (names_round order lines after r) b names

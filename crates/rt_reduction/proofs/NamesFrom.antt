@@ -1,6 +1,6 @@
 -- Each step names no base anew.
 use Rattle.std.proofs.Common.{◌≡◌, ◌≢◌, ℕ, ◌⊎◌, inl, inr, List, ◌∷◌, ◌++◌, map, Contains, Option, Some, None, refl, sym, ap, subst, ◌∙◌}
-use Rattle.rt_base.proofs.Lists.{Contains-map_source}
+use Rattle.rt_base.proofs.Lists.{Contains-map_source, Contains-middle, Contains-wider, Contains-middle_cases}
 use Rattle.rt_lines.specs.declared.label.Label.{Label}
 use Rattle.rt_lines.specs.declared.label.Variance.{Variance}
 use Rattle.rt_lines.specs.declared.label.Variance.TheVariants.{Co, Contra}
@@ -21,7 +21,7 @@ use Rattle.rt_polar.specs.Puts.{Exchanges, Puts}
 use Rattle.rt_polar.specs.Puts.Exchanges.{goes, exists_still}
 use Rattle.rt_polar.specs.Puts.Puts.{none_left, puts}
 use Rattle.rt_polar.specs.Tidied.{without_self, tidied}
-use Rattle.rt_polar.proofs.Exchanging.{put-apart, put-own, Contains-middle, Contains-wider, Contains-middle_cases}
+use Rattle.rt_polar.proofs.Exchanging.{put-apart, put-own}
 use Rattle.rt_reduction.specs.Twins.{IsTwinOf, AreTwinned}
 use Rattle.rt_reduction.specs.Simplifies.{Simplifies, simple, twins_go}
 use Rattle.rt_reduction.specs.Merges.{Merges}
@@ -30,7 +30,7 @@ use Rattle.rt_reduction.specs.Emits.{IsKept, IsEmitted}
 use Rattle.rt_reduction.specs.Rounds.{IsRound}
 use Rattle.rt_reduction.proofs.Simplifying.{twinned_lines}
 use Rattle.rt_reduction.proofs.Flow.{flow_source}
-use Rattle.rt_reduction.proofs.FromSides.{IsSideOf, without_side}
+use Rattle.rt_reduction.proofs.FromSides.{IsSideOf, without_side, use_is_side}
 use Rattle.rt_reduction.proofs.Dropping.{kept_lem}
 use Rattle.rt_reduction.proofs.Emitting.{use_side, emitted_base}
 
@@ -82,10 +82,6 @@ names_put all lines n z side from x s = by (put_source lines n z x s)
     by : (x.base ≡ z.base) ⊎ ((x.base ≢ Exist n) × NamesBase lines x.base) → NamesBase all x.base
     by (inl e) = subst (NamesBase all) (sym e) side
     by (inr (apart, names)) = named_from all lines from x.base names
-
-use_is_side : (sign : Variance) (n : ℕ) (z : Dtv) → HasSide (use_of sign n z) z
-use_is_side Co n z = inl refl
-use_is_side Contra n z = inr refl
 
 pub own_is_side : (sign : Variance) (n : ℕ) (z : Dtv) → HasSide (use_of sign n z) (exist n)
 own_is_side Co n z = inr refl

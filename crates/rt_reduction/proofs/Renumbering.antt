@@ -5,7 +5,7 @@ use Rattle.std.specs.List.{flat_map}
 use Rattle.std.proofs.lemmas.Bool.{eqb-true}
 use Rattle.std.proofs.lemmas.List.{map-append}
 use Rattle.std.proofs.lemmas.List.Elements.{All-contains}
-use Rattle.rt_base.proofs.Lists.{Contains-map, Contains-map_source, Contains-flat_map, All-from_contains, get_or-position_or_len}
+use Rattle.rt_base.proofs.Lists.{Contains-map, Contains-map_source, Contains-flat_map, All-from_contains, get_or-position_or_len, Contains-middle, Contains-wider}
 use Rattle.rt_lines.specs.declared.label.Variance.{Variance}
 use Rattle.rt_lines.specs.declared.label.Variance.TheVariants.{Co, Contra}
 use Rattle.rt_lines.specs.declared.variable.Base.{Base}
@@ -27,7 +27,6 @@ use Rattle.rt_rules.specs.Reduced.IsJoined.{joined_self, joined_line}
 use Rattle.rt_rules.proofs.Carry.{given, carry}
 use Rattle.rt_rules.proofs.Covering.{map_line-fixed}
 use Rattle.rt_rules.proofs.LineSides.{Contains-sides, HasSide-map_line_source}
-use Rattle.rt_polar.proofs.Exchanging.{Contains-middle, Contains-wider}
 use Rattle.rt_reduction.specs.Laws.{NumberedReducedLaw}
 use Rattle.rt_reduction.proofs.Naming.{base_named}
 

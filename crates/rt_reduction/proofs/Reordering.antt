@@ -2,7 +2,7 @@
 use Rattle.std.proofs.Common.{◌≡◌, ◌≢◌, ◌↔◌, ℕ, suc, get_or, arith, ◌⊎◌, inl, inr, List, [], ◌∷◌, ◌++◌, All, AllPairs, Contains, refl}
 use Rattle.std.proofs.Common.{sym, ap, subst, ◌∙◌}
 use Rattle.std.proofs.lemmas.List.Elements.{All-contains}
-use Rattle.rt_base.proofs.Lists.{Contains-none, Contains-cons_cases, All-from_contains}
+use Rattle.rt_base.proofs.Lists.{Contains-none, Contains-cons_cases, All-from_contains, Contains-middle, Contains-wider, Contains-middle_cases}
 use Rattle.rt_lines.specs.declared.label.Variance.{Variance}
 use Rattle.rt_lines.specs.declared.label.Variance.TheVariants.{Co, Contra}
 use Rattle.rt_lines.specs.declared.variable.Base.{Base}
@@ -17,7 +17,6 @@ use Rattle.rt_rules.specs.Reduced.{IsJoined, IsAnchor, IsReduced}
 use Rattle.rt_rules.specs.Reduced.IsJoined.{joined_self, joined_line}
 use Rattle.rt_rules.proofs.Carry.{given}
 use Rattle.rt_rules.proofs.Covering.{derives_more}
-use Rattle.rt_polar.proofs.Exchanging.{Contains-middle, Contains-wider, Contains-middle_cases}
 use Rattle.rt_reduction.specs.Laws.{ReorderedReducedLaw}
 
 module _ {X : Type 0} where

@@ -24,7 +24,7 @@ use Rattle.rt_reduction.specs.Emits.{IsOfScheme, AreOfScheme, IsKept, IsOfKept, 
 use Rattle.rt_reduction.specs.Emits.{AreShapeLines}
 use Rattle.rt_reduction.proofs.Before.{one_first}
 
-not_empty : (w : List Label) (l : Label) → w ++ l ∷ [] ≢ []
+pub not_empty : (w : List Label) (l : Label) → w ++ l ∷ [] ≢ []
 not_empty [] l e = cc
 not_empty (m ∷ w) l e = cc
 
@@ -36,7 +36,7 @@ bare_cases (at (Exist n)) = inr (λ m e. absurd (cc))
 bare_cases (at (Outer n)) = inr (λ m e. absurd (cc))
 bare_cases (dot x l) = inr (λ m e. not_empty (dv x).word l)
 
-level_none : (b : Base) → level b [] ≡ 0
+pub level_none : (b : Base) → level b [] ≡ 0
 level_none (Proc n) = refl
 level_none (Global n) = refl
 level_none (Exist n) = refl

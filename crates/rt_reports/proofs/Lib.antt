@@ -1,5 +1,4 @@
 pub mod Rising
-pub mod Clear
 pub mod RowTexts
 pub mod Rows
 pub mod Runs

@@ -12,7 +12,8 @@ use Rattle.rt_scheme.specs.NameReadings.{AreBytes}
 use Rattle.rt_reports.specs.GoodReports.{IsGlobal}
 use Rattle.rt_reports.specs.Rows.{listed_text, begun_text, row_text, IsBegun, IsRow}
 use Rattle.rt_reports.specs.declared.row.Row.TheVariants.{Listed, Heading, Stated, End}
-use Rattle.rt_reports.proofs.Clear.{AreAbove-decimal, HasNo-above}
+use Rattle.rt_texts.proofs.Clear.{HasNo-above}
+use Rattle.rt_scheme.proofs.Clear.{AreAbove-decimal}
 use Rattle.rt_reports.proofs.RowTexts.{one_numbered, no_listed_line, no_begun_line, first_bytes}
 
 -- a number and a word stand in a text as it is cut at its first space
@@ -24,11 +25,6 @@ pub numbered_cut : (n : ℕ) (word rest text front back : List ℕ) → slice_in
 numbered_cut n word rest text front back space cut small same =
     let clear : HasNo 32 (decimal n) = HasNo-above 32 47 (decimal n) (omega arith) (AreAbove-decimal n (omega arith)) in
     one_cut 32 (decimal n) (word ++ rest) front back (same ∙ cut.joined) clear (stops_word word rest space) cut.clear cut.stops
-
--- a fault, where what is good of a text tells of another text
-pub other_fault : {X Y T S : Type 0} (IsGood : X → Type 0) (text_of : X → T) (text : T) (IsFine : Y → Type 0) (other_of : Y → S) (other : S) (fault : TextFault) → (IsNoText IsGood text_of text → IsNoText IsFine other_of other) → (fault ≡ Memory) ⊎ ((fault ≡ BadText 0) × IsNoText IsGood text_of text) → (fault ≡ Memory) ⊎ ((fault ≡ BadText 0) × IsNoText IsFine other_of other)
-other_fault IsGood text_of text IsFine other_of other fault tells (inl e) = inl e
-other_fault IsGood text_of text IsFine other_of other fault tells (inr (e, none)) = inr (e, tells none)
 
 -- a global's line whose name is none
 pub no_listed_name : (n : ℕ) (text escaped : List ℕ) → IsNumber n × (decimal n ++ (codes " name " ++ escaped) ≡ text) → IsNoText AreBytes name_text escaped → IsNoText IsGlobal listed_text text

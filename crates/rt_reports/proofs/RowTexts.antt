@@ -19,7 +19,8 @@ use Rattle.rt_reports.specs.GoodReports.{IsGlobal}
 use Rattle.rt_reports.specs.Rows.{listed_text, begun_text, row_text, IsBegun, IsRow}
 use Rattle.rt_reports.specs.declared.row.Row.{Row}
 use Rattle.rt_reports.specs.declared.row.Row.TheVariants.{Listed, Heading, Stated, End}
-use Rattle.rt_reports.proofs.Clear.{AreAbove, AreAbove-append, AreAbove-fixed, AreAbove-numbered, AreAbove-decimal, AreAbove-line, AreAbove-name, HasNo-above}
+use Rattle.rt_texts.proofs.Clear.{AreAbove, AreAbove-append, HasNo-above}
+use Rattle.rt_scheme.proofs.Clear.{AreAbove-fixed, AreAbove-numbered, AreAbove-decimal, AreAbove-line, AreAbove-name}
 
 -- a number, a space and a word are read in one way
 pub one_numbered : (n m : ℕ) (word a b : List ℕ) → IsNumber n → IsNumber m → decimal n ++ 32 ∷ (word ++ a) ≡ decimal m ++ 32 ∷ (word ++ b) → (n ≡ m) × (a ≡ b)

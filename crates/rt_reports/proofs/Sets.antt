@@ -6,27 +6,11 @@ use Rattle.std.proofs.lemmas.Bool.Decides.{nat_tests}
 use Rattle.std.proofs.lemmas.Map.Views.{Contains-from_any}
 use Rattle.std.proofs.lemmas.List.Elements.{Contains-append_left, Contains-push, Contains-push_cases, All-contains}
 use Rattle.indexmap.specs.IndexSet.{insert_key}
-use Rattle.rt_base.proofs.Lists.{Contains-none, Contains-here, Contains-there, Contains-cons_cases, All-from_contains}
-
-nat_eq-is : (x y : ℕ) → nat_eq x y ≡ true → x ≡ y
-nat_eq-is x y e = grind (arith, nat_tests)
-
-nat_eq-self : (x : ℕ) → nat_eq x x ≡ true
-nat_eq-self x = grind (arith, nat_tests)
-
-any-has : (keys : List ℕ) (n : ℕ) → list_any (nat_eq n) keys ≡ true → Contains keys n
-any-has keys n e = Contains-from_any nat_eq-is n keys e
-
-has-any : (keys : List ℕ) (n : ℕ) → Contains keys n → list_any (nat_eq n) keys ≡ true
-has-any [] n h = absurd (Contains-none n h)
-has-any (k ∷ keys) n h = by (Contains-cons_cases k keys n h) (has-any keys n)
-  where
-    by : (k ≡ n) ⊎ Contains keys n → (Contains keys n → list_any (nat_eq n) keys ≡ true) → list_any (nat_eq n) (k ∷ keys) ≡ true
-    by (inl e) rest = or_left (nat_eq n k) (list_any (nat_eq n) keys) (subst (λ z. nat_eq n z ≡ true) (sym e) (nat_eq-self n))
-    by (inr there) rest = or_right (nat_eq n k) (list_any (nat_eq n) keys) (rest there)
+use Rattle.rt_base.proofs.Lists.{Contains-none, Contains-here, Contains-there, Contains-cons_cases, All-from_contains, found_from, found_to}
+use Rattle.rt_base.proofs.Numbers.{nat_same, nat_itself}
 
 pub has_number : (keys : List ℕ) (n : ℕ) (r : Bool) → r ≡ list_any (nat_eq n) keys → IsTrue r ↔ Contains keys n
-has_number keys n r is = (λ t. any-has keys n (sym is ∙ t), λ h. is ∙ has-any keys n h)
+has_number keys n r is = (λ t. found_from keys n (sym is ∙ t), λ h. is ∙ found_to keys n h)
 
 insert_cases : (keys : List ℕ) (k n : ℕ) → Contains (insert_key nat_eq keys k) n → Contains keys n ⊎ (k ≡ n)
 insert_cases keys k n = by (list_any (nat_eq k) keys)
@@ -46,7 +30,7 @@ insert_has : (keys : List ℕ) (k : ℕ) → Contains (insert_key nat_eq keys k)
 insert_has keys k = by (list_any (nat_eq k) keys) refl
   where
     by : (b : Bool) → list_any (nat_eq k) keys ≡ b → Contains (if b then keys else keys ++ k ∷ []) k
-    by true e = any-has keys k e
+    by true e = found_from keys k e
     by false e = Contains-push keys k
 
 fold_cases : (keys ns : List ℕ) (n : ℕ) → Contains (fold (insert_key nat_eq) keys ns) n → Contains keys n ⊎ Contains ns n

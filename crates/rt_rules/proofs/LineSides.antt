@@ -8,7 +8,7 @@ use Rattle.rt_lines.specs.Sides.{map_line, sides}
 use Rattle.rt_lines.proofs.LineSides.{sides-map_line}
 use Rattle.rt_rules.specs.Rules.{HasSide}
 
-first_in : (x z : Dtv) (more : List Dtv) → x ≡ z → Contains (x ∷ more) z
+pub first_in : (x z : Dtv) (more : List Dtv) → x ≡ z → Contains (x ∷ more) z
 first_in x z more e = subst (Contains (x ∷ more)) e (Contains-here x more)
 
 second_in : (x y z : Dtv) → (x ≡ z) ⊎ (y ≡ z) → Contains (x ∷ y ∷ []) z

@@ -25,6 +25,7 @@ use Rattle.rt_run.specs.Globals.{AreGlobals}
 use Rattle.rt_run.specs.Goods.{HasGoodParts}
 use Rattle.rt_run.proofs.Goodness.{good_report}
 use Rattle.rt_run.specs.Reports.{AreEntries, IsEntryOf, IsReportOf, IsRightOf, IsTold}
+use Rattle.rt_table.proofs.Framings.{element}
 
 -- Lists.
 
@@ -137,16 +138,11 @@ right told object procs analysis report in_profile is_analysis is_object are_pro
       globals = subst (λ o. AreGlobals o report.entries report.globals) (sym is_object) globals;
     })
 
--- an entry's number is its place
-some_of : {X : Type 0} (xs : List X) (k : ℕ) → k < length xs → X
-some_of [] k less = absurd (omega (arith, less))
-some_of (x ∷ xs) k less = x
-
 numbered : (told : Told) (object : Object) (order : NamedOrder) (signatures : List Signature) (procs : List Proc) (schemes : List (Option Scheme)) (entries : List Entry)
     → AreEntries told object order signatures procs schemes entries → (k : ℕ) (entry : Entry) → k < length entries → (get_or entries k entry).number ≡ k
 numbered told object order signatures procs schemes entries are k entry less =
     let within : k < length procs = omega (arith, less, are.one_each) in
-    (are.each k (some_of procs k within) entry within).has_number
+    (are.each k (element procs k within) entry within).has_number
 
 pub right_text : (told : Told) (object : Object) (procs : List Proc) (order : NamedOrder) (signatures : List Signature) (names : List (List ℕ)) (analysis : Analysis) (report : Report)
     {X E : Type 0} (items : X → List ℕ) (text : Result X E)

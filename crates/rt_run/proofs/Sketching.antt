@@ -25,6 +25,7 @@ use Rattle.rt_run.specs.declared.analysis.Analysis.{Analysis}
 use Rattle.rt_run.specs.Analyses.{IsAnalysis, object_in, procs_in}
 use Rattle.rt_run.specs.Objects.{IsInProfile}
 use Rattle.rt_run.specs.Sketches.{AddsSketch, IsSketch, IsSketchesOf, sketch_text, sketches_text}
+use Rattle.rt_solve.proofs.Setting.{some_of}
 
 -- The marks of a sketch are below the count of its order.
 pub marks_below : (order : Below) (own : ℕ) (lines : List Line) (tree : Nodes) → IsSketchOf order own lines tree → AreMarksBelow order.count tree
@@ -70,13 +71,10 @@ has_scheme analysis number is_analysis within =
       constants = (is_analysis.given number solved.scheme found).constants;
     }
 
-some_is : (a b : Scheme) → Some a ≡ Some b → a ≡ b
-some_is a b e = cc
-
 -- the scheme that is found is that one
 pub scheme_is : (analysis : Analysis) (number : ℕ) (scheme : Scheme) (has : HasScheme analysis number) → slice_index_or analysis.schemes number None ≡ Some scheme
     → has.scheme ≡ scheme
-scheme_is analysis number scheme has found = some_is has.scheme scheme (sym has.is_scheme ∙ found)
+scheme_is analysis number scheme has found = some_of has.scheme scheme (sym has.is_scheme ∙ found)
 
 -- there is one
 pub scheme_there : (analysis : Analysis) (number : ℕ) → HasScheme analysis number → None ≡ slice_index_or analysis.schemes number None → ⊥

@@ -40,6 +40,7 @@ use Rattle.rt_sat.proofs.Mattering.{fewer_where}
 use Rattle.rt_sat.proofs.Numbered.{numbered_law}
 use Rattle.rt_sat.proofs.Bounded.{lows_within, ups_within}
 use Rattle.rt_sat.proofs.Sources.{sourced_walk, walk_sourced}
+use Rattle.rt_base.proofs.Options.{none_is}
 
 module _ (order : Below) (lines : List Line) (extra known : List Dtv) (edges : List Edge) (table : IsTableOf lines extra known edges) where
   abbrev pub L : Given
@@ -220,10 +221,6 @@ pub up_derived : (order : Below) (lines : List Line) (x : Dtv) (k : ℕ) (answer
 up_derived order lines x k answer is few h says =
     let r : Derivable order lines (Up x k) ↔ HasUp order lines x k = up_law order lines x k is few h in
     (λ g. r.1 (says.0 g), λ d. says.1 (r.0 d))
-
-none_is : (o : Option ℕ) → o ≡ None → IsSome o → ⊥
-none_is None e s = absurd (cc)
-none_is (Some n) e s = absurd (cc)
 
 -- a variable without a node has no shape
 pub no_node : (lines : List Line) (graph : Graph) (order : Below) (x : Dtv) → IsShapeOf lines graph → node_of graph x ≡ None → Derivable order lines (VarLine x) → ⊥

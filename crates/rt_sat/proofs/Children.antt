@@ -11,7 +11,7 @@ use Rattle.rt_rules.specs.Rules.{longer}
 use Rattle.rt_sat.specs.Numbered.{at_number, AreDistinct}
 use Rattle.rt_sat.specs.Pushes.{AreChildren}
 use Rattle.rt_sat.proofs.Numbered.{number_one}
-use Rattle.rt_sat.proofs.Pushed.{last_letter, no_base}
+use Rattle.rt_named.proofs.Making.{no_base, last_letter}
 
 -- the children below a number are entered
 pub record AreChildrenTo (known : List Dtv) (number : ℕ) (children : List (List ℕ)) : Type 0 where

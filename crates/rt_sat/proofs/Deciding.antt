@@ -27,6 +27,8 @@ use Rattle.rt_named.specs.Naming.{named as named_by}
 use Rattle.rt_named.specs.Laws.{IsPrefix, IsGiven}
 use Rattle.rt_named.proofs.Contents.{contents_law}
 use Rattle.rt_sat.specs.Deciding.{is_among, flips_at, flips_by, DecidingLaw}
+use Rattle.rt_lines.proofs.Same.{variable_self}
+use Rattle.std.proofs.lemmas.Bool.{and_parts, and_from}
 
 -- a line has a side of the base
 abbrev HasBase : List Line → Base → Type 0
@@ -64,9 +66,6 @@ module _ (order : Below) (lines : List Line) where
   based (low_sub d e a) = (based e).1
   based (up_sub d e a) = (based d).0
 
-variable_self : (x : Dtv) → variable_eq x x ≡ true
-variable_self x = (variable_laws.laws-law).refl x
-
 pub among-from : (known : List Dtv) (x : Dtv) → Contains known x → list_any (variable_eq x) known ≡ true
 among-from known x c = list_any_at (variable_eq x) known c.0 x c.1 (ap (variable_eq x) c.2 ∙ variable_self x)
 
@@ -74,15 +73,6 @@ pub among-to : (known : List Dtv) (x : Dtv) → list_any (variable_eq x) known �
 among-to known x e =
     let a : Any (λ (y : Dtv). variable_eq x y ≡ true) known = Any-from_list_any (variable_eq x) known e in
     (a.0, a.2, get_or_default known a.0 x a.1 a.2 ∙ a.3 ∙ sym (variable_equal x a.1 a.4))
-
-both_true : (a b : Bool) → a ≡ true → b ≡ true → (a && b) ≡ true
-both_true true true e f = refl
-both_true true false e f = f
-both_true false b e f = e
-
-pub parts_true : (a b : Bool) → (a && b) ≡ true → (a ≡ true) × (b ≡ true)
-parts_true true b e = (refl, e)
-parts_true false b e = absurd (cc)
 
 module _ (L : Given) (extra : List Dtv) (graph : Graph) (shape : IsShapeOf L.lines graph) where
   abbrev known : List Dtv
@@ -110,7 +100,7 @@ module _ (L : Given) (extra : List Dtv) (graph : Graph) (shape : IsShapeOf L.lin
   flip_of : (x : Var) (o : Option ℕ) → node_of graph (dv x) ≡ o → flips_at graph o ≡ true → Flip L x
   flip_of x None e f = absurd (cc)
   flip_of x (Some n) e f =
-      let p : (is_some (step_of graph n Load) ≡ true) × (is_some (step_of graph n Store) ≡ true) = parts_true (is_some (step_of graph n Load)) (is_some (step_of graph n Store)) f in
+      let p : (is_some (step_of graph n Load) ≡ true) × (is_some (step_of graph n Store) ≡ true) = and_parts (is_some (step_of graph n Load)) (is_some (step_of graph n Store)) f in
       let d : Derivable L.order L.lines (VarLine (longer (dv x) Load)) × Derivable L.order L.lines (VarLine (longer (dv x) Store)) = (read_write_lem L.lines graph L.order (dv x) n shape e).0 (p.0, p.1) in
       (der L (V (dot x Load)) d.0, der L (V (dot x Store)) d.1)
 
@@ -118,7 +108,7 @@ module _ (L : Given) (extra : List Dtv) (graph : Graph) (shape : IsShapeOf L.lin
   by_node x None e s f = absurd (cc)
   by_node x (Some n) e s f =
       let h : IsSome (step_of graph n Load) × IsSome (step_of graph n Store) = (read_write_lem L.lines graph L.order (dv x) n shape e).1 (f.0.derives, f.1.derives) in
-      both_true (is_some (step_of graph n Load)) (is_some (step_of graph n Store)) h.0 h.1
+      and_from (is_some (step_of graph n Load)) (is_some (step_of graph n Store)) h.0 h.1
 
   pub are_flips : AreFlips L (flips_by graph)
   are_flips x = (flip_of x (node_of graph (dv x)) refl, λ f. by_node x (node_of graph (dv x)) refl ((shape.there L.order (dv x)).1 (prefix Load f.0.derives)) f)

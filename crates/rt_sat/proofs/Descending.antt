@@ -23,16 +23,13 @@ use Rattle.rt_bridge.proofs.Trees.{V as Is, E as One, Tree, tree}
 use Rattle.rt_chain.specs.Numbers.{number_of}
 use Rattle.rt_sat.specs.Probe.{all_flip}
 use Rattle.rt_sat.proofs.Probes.{Part, above, below, outside, after, top_after, ArePointers, part, top, top-above, part-probe, top-probe, top-rest, Alike, Has, B, old_line, line_there, fresh}
+use Rattle.rt_bridge.proofs.Lawful.{decide}
 
 abbrev pub number : List Label → ℕ
 number w = number_of w (all_flip w)
 
 pub number-more : (l : Label) (w : List Label) → number (l ∷ w) ≡ bit (times (label_variance l) (variance_of_word w)) + (number w + number w)
 number-more l w = omega arith
-
-decide : (b : Bool) → IsTrue b ⊎ (IsTrue b → ⊥)
-decide true = inl refl
-decide false = inr (λ e. cc)
 
 -- where no subtype line reaches, a judgement is one of the parents pushed
 module _ (L : Given) (M : Var → Type 0) (parent : (x : Var) (l : Label) → M (dot x l) → M x) (Z : Var → Type 0) (closed : (x y : Var) → Der L (E x y) → Z x → Z y)

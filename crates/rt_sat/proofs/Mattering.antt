@@ -24,8 +24,10 @@ use Rattle.rt_sat.specs.Numbered.{at_number}
 use Rattle.rt_sat.specs.Pushes.{asked_of, matter_at}
 use Rattle.rt_sat.specs.Searches.{Allows}
 use Rattle.rt_sat.specs.Tables.{stepped}
-use Rattle.rt_sat.proofs.Deciding.{are_flips, parts_true}
+use Rattle.rt_sat.proofs.Deciding.{are_flips}
 use Rattle.rt_sat.proofs.Frames.{node_longer}
+use Rattle.std.proofs.lemmas.Bool.{and_parts}
+use Rattle.rt_bridge.proofs.Lawful.{decide}
 
 pub asked_allowed : (b : Bool) (k : ℕ) → (k ≡ 0) ⊎ (b ≡ true) → Allows (asked_of b) k
 asked_allowed true k o = tt
@@ -72,7 +74,7 @@ module _ (L : Given) (graph : Graph) (marks : List Bool) (shape : IsShapeOf L.li
 
     flip_marked : (o : Option ℕ) → flips_at graph o ≡ true → mark_at marks o ≡ true
     flip_marked None e = absurd (cc)
-    flip_marked (Some n) e = step (step_of graph n Load) refl (parts_true (is_some (step_of graph n Load)) (is_some (step_of graph n Store)) e).0
+    flip_marked (Some n) e = step (step_of graph n Load) refl (and_parts (is_some (step_of graph n Load)) (is_some (step_of graph n Store)) e).0
       where
         step : (p : Option ℕ) → step_of graph n Load ≡ p → is_some p ≡ true → mark_at marks (Some n) ≡ true
         step None f s = absurd (cc)
@@ -80,10 +82,6 @@ module _ (L : Given) (graph : Graph) (marks : List Bool) (shape : IsShapeOf L.li
 
     pub flipping : (x : Var) → Der L (V (dot x Load)) → Der L (V (dot x Store)) → Matters graph marks x
     flipping x f g = flip_marked (node_of graph (dv x)) ((are_flips L [] graph shape x).1 (f, g))
-
-decide : (b : Bool) → IsTrue b ⊎ (IsTrue b → ⊥)
-decide true = inl refl
-decide false = inr (λ e. cc)
 
 -- where edges have the lines of a shorter list, and are closed under the pushes of a longer one as far as counts matter, there is a way wherever the shorter list says that a variable lies below another
 pub fewer_where : (L fewer : Given) (named : Var → Bool) (Edge : State → State → ℕ → Type 0) (graph : Graph) (marks : List Bool) → IsShapeOf L.lines graph → AreMarked graph marks → AreNamed fewer named → ((f : Fact) → Der fewer f → Der L f) →

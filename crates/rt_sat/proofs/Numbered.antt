@@ -3,7 +3,7 @@ use Rattle.std.proofs.Common.{◌≡◌, ℕ, ◌+◌, ◌<◌, ◌⊎◌, inl, 
 use Rattle.std.specs.Prelude.{not, nat_eq, ◌&&◌}
 use Rattle.std.specs.Bool.{beq}
 use Rattle.std.specs.List.{Any}
-use Rattle.std.proofs.lemmas.Bool.{eqb-true, cases_eq}
+use Rattle.std.proofs.lemmas.Bool.{eqb-true, cases_eq, and_parts, and_from}
 use Rattle.std.proofs.lemmas.List.{get_or_default}
 use Rattle.std.proofs.lemmas.List.Folds.{list_any_at, Any-from_list_any}
 use Rattle.std.proofs.Common.{eq-eqb}
@@ -25,15 +25,7 @@ use Rattle.rt_sat.specs.declared.state.Edge.{Edge}
 use Rattle.rt_sat.specs.Searches.{turned, Walk}
 use Rattle.rt_sat.specs.Searches.Walk.{stays as rests, turns as swaps, steps as goes}
 use Rattle.rt_sat.specs.Numbered.{sign_of, is_contra, at_number, state_of, stands_for, edges_of, AreDistinct, AreWithin, NumberedLaw}
-
-both_true : (a b : Bool) → a ≡ true → b ≡ true → (a && b) ≡ true
-both_true true true e f = refl
-both_true true false e f = f
-both_true false b e f = e
-
-parts_true : (a b : Bool) → (a && b) ≡ true → (a ≡ true) × (b ≡ true)
-parts_true true b e = (refl, e)
-parts_true false b e = absurd (cc)
+use Rattle.rt_lines.proofs.Same.{variable_self}
 
 contra_self : (b : Bool) → beq b (is_contra (sign_of b)) ≡ true
 contra_self true = refl
@@ -60,17 +52,14 @@ sign_not false = refl
 pub sign_one : (a b : Bool) → sign_of a ≡ sign_of b → a ≡ b
 sign_one a b e = sym (contra_sign a) ∙ ap is_contra e ∙ contra_sign b
 
-variable_self : (x : Dtv) → variable_eq x x ≡ true
-variable_self x = (variable_laws.laws-law).refl x
-
 pub stands_itself : (known : List Dtv) (s : Place) → stands_for known s (state_of known s) ≡ true
 stands_itself known s =
-    both_true (variable_eq (at_number known s.variable) (dv (vd (at_number known s.variable)))) (beq s.contra (is_contra (sign_of s.contra)))
+    and_from (variable_eq (at_number known s.variable) (dv (vd (at_number known s.variable)))) (beq s.contra (is_contra (sign_of s.contra)))
     (ap (variable_eq (at_number known s.variable)) (dv-vd (at_number known s.variable)) ∙ variable_self (at_number known s.variable)) (contra_self s.contra)
 
 pub stands_from : (known : List Dtv) (s : Place) (x : State) → stands_for known s x ≡ true → state_of known s ≡ x
 stands_from known s x e =
-    let p : (variable_eq (at_number known s.variable) (dv x.var) ≡ true) × (beq s.contra (is_contra x.sign) ≡ true) = parts_true (variable_eq (at_number known s.variable) (dv x.var)) (beq s.contra (is_contra x.sign)) e in
+    let p : (variable_eq (at_number known s.variable) (dv x.var) ≡ true) × (beq s.contra (is_contra x.sign) ≡ true) = and_parts (variable_eq (at_number known s.variable) (dv x.var)) (beq s.contra (is_contra x.sign)) e in
     let v : vd (at_number known s.variable) ≡ x.var = ap vd (variable_equal (at_number known s.variable) (dv x.var) p.0) ∙ vd-dv x.var in
     let t : sign_of s.contra ≡ x.sign = sign_from s.contra x.sign p.1 in
     λ i. st (v i) (t i)
@@ -81,8 +70,8 @@ edge_of known edges e c = list_any_at (λ (g : Edge). stands_for known g.from (s
     (subst (λ (g : Edge). (stands_for known g.from (state_of known e.from) && (stands_for known g.to (state_of known e.to) && nat_eq g.count e.count)) ≡ true) (sym c.2) itself)
   where
     itself : (stands_for known e.from (state_of known e.from) && (stands_for known e.to (state_of known e.to) && nat_eq e.count e.count)) ≡ true
-    itself = both_true (stands_for known e.from (state_of known e.from)) (stands_for known e.to (state_of known e.to) && nat_eq e.count e.count) (stands_itself known e.from)
-        (both_true (stands_for known e.to (state_of known e.to)) (nat_eq e.count e.count) (stands_itself known e.to) (eq-eqb e.count e.count refl))
+    itself = and_from (stands_for known e.from (state_of known e.from)) (stands_for known e.to (state_of known e.to) && nat_eq e.count e.count) (stands_itself known e.from)
+        (and_from (stands_for known e.to (state_of known e.to)) (nat_eq e.count e.count) (stands_itself known e.to) (eq-eqb e.count e.count refl))
 
 -- and each edge is one that an edge of the list stands for
 pub record IsEdge (known : List Dtv) (edges : List Edge) (x y : State) (k : ℕ) : Type 0 where
@@ -96,8 +85,8 @@ pub edge_from : (known : List Dtv) (edges : List Edge) (x y : State) (k : ℕ) �
 edge_from known edges x y k h =
     let a : Any (λ (e : Edge). (stands_for known e.from x && (stands_for known e.to y && nat_eq e.count k)) ≡ true) edges = Any-from_list_any (λ (e : Edge). stands_for known e.from x && (stands_for known e.to y && nat_eq e.count k)) edges h in
     let e : Edge = a.1 in
-    let p : (stands_for known e.from x ≡ true) × ((stands_for known e.to y && nat_eq e.count k) ≡ true) = parts_true (stands_for known e.from x) (stands_for known e.to y && nat_eq e.count k) a.4 in
-    let q : (stands_for known e.to y ≡ true) × (nat_eq e.count k ≡ true) = parts_true (stands_for known e.to y) (nat_eq e.count k) p.1 in
+    let p : (stands_for known e.from x ≡ true) × ((stands_for known e.to y && nat_eq e.count k) ≡ true) = and_parts (stands_for known e.from x) (stands_for known e.to y && nat_eq e.count k) a.4 in
+    let q : (stands_for known e.to y ≡ true) × (nat_eq e.count k ≡ true) = and_parts (stands_for known e.to y) (nat_eq e.count k) p.1 in
     record { edge = e; listed = (a.0, a.2, get_or_default edges a.0 e a.1 a.2 ∙ a.3); start = stands_from known e.from x p.0; end = stands_from known e.to y q.0; count = eqb-true e.count k q.1 }
 
 -- distinct variables have one number each

@@ -18,6 +18,7 @@ use Rattle.rt_bridge.specs.Counted.{IsPointer}
 use Rattle.rt_bridge.proofs.Growing.{der, q1 as one, q2 as one_self, q3 as one_back, q4 as one_chain, q5 as one_longer, s6 as pointer, both, prefix, vd-dv, dv-rest}
 use Rattle.rt_bridge.proofs.Trees.{V as Is, E as One, S as Less, Lo, Hi, Fact as Shown, Tree, e1, e2, e3a, e3b, e4, q0, q1, q2, q3, q4, q5, s1, s2, s3, s4, s5, s6, c1l, c1u, c2, c3}
 use Rattle.rt_sat.specs.Probe.{pointer_words, probed}
+use Rattle.rt_lines.proofs.Same.{label_self}
 
 -- where a variable lies: above the probe, so many letters below it, or elsewhere
 pub data Part : Type 0 where
@@ -45,9 +46,6 @@ top_after outside x t = t
 abbrev pub ArePointers : List Label → Type 0
 ArePointers [] = Unit {0}
 ArePointers (l ∷ w) = IsPointer l × ArePointers w
-
-label_self : (l : Label) → label_eq l l ≡ true
-label_self l = (label_laws.laws-law).refl l
 
 pointer_first : (m : ℕ) (l : Label) (w : List Label) → IsPointer l → ((v : List Label) → Contains (pointer_words m) v → ArePointers v × (length v ≡ m)) → Contains (map (λ (v : List Label). l ∷ v) (pointer_words m)) w →
     ArePointers w × (length w ≡ suc m)

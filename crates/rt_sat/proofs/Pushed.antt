@@ -21,6 +21,8 @@ use Rattle.std.proofs.lemmas.Option.{slice_get_within}
 use Rattle.std.proofs.lemmas.List.{get_or_default}
 use Rattle.std.proofs.lemmas.Map.Entries.{place_from_lookup}
 use Rattle.rt_sat.proofs.Numbered.{sign_contra, contra_sign, sign_one, number_one}
+use Rattle.rt_named.proofs.Making.{no_base, last_letter}
+use Rattle.rt_chain.proofs.Digits.{bit-small, times-twice}
 
 pub grown_more : (P Q R : Edge → Type 0) (a b c : List Edge) → ((e : Edge) → P e → R e) → ((e : Edge) → Q e → R e) → IsGrown P a b → IsGrown Q b c → IsGrown R a c
 grown_more P Q R a b c f g p q = record {
@@ -37,27 +39,12 @@ grown_none P a = record { only = λ e h. inl h; kept = λ h. h }
 pub grown_as : (P R : Edge → Type 0) (a b : List Edge) → ((e : Edge) → P e → R e) → IsGrown P a b → IsGrown R a b
 grown_as P R a b f p = record { only = λ e h. (elim (p.only e h) [ inl i ↦ inl i | inr i ↦ inr (f e i) ]); kept = p.kept }
 
-pub last_letter : (x y : Dtv) (l m : Label) → longer x l ≡ longer y m → (x ≡ y) × (l ≡ m)
-last_letter x y l m e =
-    let h : dot (vd x) l ≡ dot (vd y) m = sym (vd-longer x l) ∙ ap vd e ∙ vd-longer y m in
-    let p : vd x ≡ vd y = cc in
-    let q : l ≡ m = cc in
-    (sym (dv-vd x) ∙ ap (λ (z : Var). dv z) p ∙ dv-vd y, q)
-
-pub no_base : (x : Dtv) (l : Label) (b : Base) → longer x l ≡ record { base = b; word = [] } → ⊥
-no_base x l b e = let h : dot (vd x) l ≡ at b = sym (vd-longer x l) ∙ ap vd e in cc
-
-pub times_twice : (s v : Variance) → times s (times s v) ≡ v
-times_twice Co v = refl
-times_twice Contra Co = refl
-times_twice Contra Contra = refl
-
 -- what a letter says of the sign of a child
 pub sign_child : (s : Variance) (child parent : Bool) → times s (sign_of child) ≡ sign_of parent → child ≡ is_contra (times s (sign_of parent))
-sign_child s child parent e = sym (contra_sign child) ∙ ap is_contra (sym (times_twice s (sign_of child)) ∙ ap (times s) e)
+sign_child s child parent e = sym (contra_sign child) ∙ ap is_contra (sym (times-twice s (sign_of child)) ∙ ap (times s) e)
 
 pub child_sign : (s : Variance) (parent : Bool) → times s (sign_of (is_contra (times s (sign_of parent)))) ≡ sign_of parent
-child_sign s parent = ap (times s) (sign_contra (times s (sign_of parent))) ∙ times_twice s (sign_of parent)
+child_sign s parent = ap (times s) (sign_contra (times s (sign_of parent))) ∙ times-twice s (sign_of parent)
 
 -- a variable is the child of one alone, by one letter
 pub parent_one : (known : List Dtv) → AreDistinct known → (child parent : State) (l : Label) (v : ℕ) (m : Label) → v < length known → at_number known child.variable ≡ longer (at_number known v) m → IsChildOf known child parent l → (parent.variable ≡ v) × (l ≡ m)
@@ -146,13 +133,9 @@ module _ (known : List Dtv) (flips matters : List Bool) (edges pushed : List Edg
       let i : IsWithin found end q.0 = d other r.0 r.1 end m q.0 c q.1 (allows_less most q.0 k q.2 o.1) in
       (i.0, back.sound end i.0 i.1, omega (arith, i.2, q.2))
 
-bit_one : (a : Variance) → bit a ≤ 1
-bit_one Co = omega arith
-bit_one Contra = omega arith
-
 -- nought is pushed from at most one
 pub nought_pushed : (flip : Bool) (l m : Label) (d k : ℕ) (a b : Variance) → PushBy flip l m d a b k → k ≤ 0 → d ≤ 1
-nought_pushed flip l m d k a b (inl p) h = omega (arith, p.enough, bit_one (times (label_variance m) b), h)
+nought_pushed flip l m d k a b (inl p) h = omega (arith, p.enough, bit-small (times (label_variance m) b), h)
 nought_pushed flip l m d k a b (inr p) h = omega (arith, p.1, h)
 
 -- and from nought, but by a half push

@@ -25,6 +25,7 @@ use Rattle.rt_bridge.proofs.Chains.{Spell, nil, swap, place_of, num, num_flip, s
 use Rattle.rt_sat.specs.Probe.{pointer_words}
 use Rattle.rt_sat.proofs.Probes.{Part, above, below, outside, after, top_after, ArePointers, pointers-in, part, top, part-probe, top-probe, part-pointer, top-pointer, Has}
 use Rattle.rt_sat.proofs.Descending.{number, number-more, P, shown_there}
+use Rattle.std.proofs.lemmas.Bool.{and_parts, and_from}
 
 -- numbers by their lowest digit
 pub record Halved (n : ℕ) : Type 0 where
@@ -160,14 +161,6 @@ fewer_to n zero h = absurd (omega (arith, h))
 fewer_to zero (suc m) h = refl
 fewer_to (suc n) (suc m) h = fewer_to n m (omega (arith, h))
 
-both_true : (a b : Bool) → a ≡ true → b ≡ true → (a && b) ≡ true
-both_true true b e f = f
-both_true false b e f = e
-
-parts_true : (a b : Bool) → (a && b) ≡ true → (a ≡ true) × (b ≡ true)
-parts_true true b e = (refl, e)
-parts_true false b e = absurd (cc)
-
 rest-joined : (w v : List Label) (x : Var) → rest x (w ++ v) ≡ rest (rest x w) v
 rest-joined [] v x = refl
 rest-joined (l ∷ w) v x = rest-joined w v (dot x l)
@@ -271,7 +264,7 @@ module _ (k : ℤ) (A : Given) (X : Var) (m : ℕ) (free : (l : Line) (x : Dtv) 
   yes_by : (z : Var) (p : Part) → part k z ≡ p → flag p z ≡ true → Flip B z
   yes_by z above e h = let f : Flip A z = (are z).0 h in (more f.0, more f.1)
   yes_by z (below n) e h =
-      let q : (is_fewer n m ≡ true) × (same (top k z) ≡ true) = parts_true (is_fewer n m) (same (top k z)) h in
+      let q : (is_fewer n m ≡ true) × (same (top k z) ≡ true) = and_parts (is_fewer n m) (same (top k z)) h in
       let o : Der A (E (top k z) X) = (one (top k z)).0 q.1 in
       (under_letter z n Load tt (under z n e) (fewer_from n m q.0) o, under_letter z n Store tt (under z n e) (fewer_from n m q.0) o)
   yes_by z outside e h = absurd (cc)
@@ -285,14 +278,14 @@ module _ (k : ℤ) (A : Given) (X : Var) (m : ℕ) (free : (l : Line) (x : Dtv) 
   no_by : (z : Var) (p : Part) → part k z ≡ p → top k z ≡ top k z → Has k A X m free exists plain (after p false Load) (top_after (after p false Load) (dot z Load) (top k z)) →
       Has k A X m free exists plain (after p false Store) (top_after (after p false Store) (dot z Store) (top k z)) → flag p z ≡ true
   no_by z above e t f g = (are z).1 (f, g)
-  no_by z (below n) e t f g = both_true (is_fewer n m) (same (top k z)) (fewer_to n m f.1) ((one (top k z)).1 f.0)
+  no_by z (below n) e t f g = and_from (is_fewer n m) (same (top k z)) (fewer_to n m f.1) ((one (top k z)).1 f.0)
   no_by z outside e t f g = absurd f
 
   no : (z : Var) → Flip B z → fl z ≡ true
   no z f = no_by z (part k z) refl refl (there (dot z Load) f.0) (there (dot z Store) f.1)
 
   fl-below : (u : Var) (n : ℕ) → part k u ≡ below n → top k u ≡ X → suc n ≤ m → fl u ≡ true
-  fl-below u n e t h = rw e (both_true (is_fewer n m) (same (top k u)) (fewer_to n m h) ((one (top k u)).1 (subst (λ z. Der A (E z X)) (sym t) (q2 exists))))
+  fl-below u n e t h = rw e (and_from (is_fewer n m) (same (top k u)) (fewer_to n m h) ((one (top k u)).1 (subst (λ z. Der A (E z X)) (sym t) (q2 exists))))
 
   spelled : (w r : List Label) (u : Var) (n : ℕ) → part k u ≡ below n → top k u ≡ X → n + length w ≤ m → ArePointers w → ArePointers r → length w ≡ length r → Spell fl u w r
   spelled [] [] u n e t h p q s = nil

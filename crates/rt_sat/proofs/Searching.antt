@@ -3,7 +3,7 @@ use Rattle.std.proofs.Common.{◌≡◌, ℕ, ◌+◌, ◌<◌, ◌≤◌, ◌�
 use Rattle.std.specs.Prelude.{not, nat_eq, ◌&&◌}
 use Rattle.std.specs.Bool.{beq}
 use Rattle.std.specs.Map.{lookup}
-use Rattle.std.proofs.lemmas.Bool.{eqb-true, cases_eq}
+use Rattle.std.proofs.lemmas.Bool.{eqb-true, cases_eq, and_parts}
 use Rattle.std.proofs.lemmas.List.{get_or_default}
 use Rattle.std.proofs.lemmas.List.Elements.{Contains-append_left, Contains-append_right, Contains-append_cases, Contains-push}
 use Rattle.rt_rules.proofs.Lists.{Contains-none, Contains-here, Contains-cons_cases}
@@ -11,10 +11,7 @@ use Rattle.rt_sat.specs.declared.state.State.{State}
 use Rattle.rt_sat.specs.declared.state.Edge.{Edge}
 use Rattle.rt_sat.specs.contracts.state.StateEq.TheImpl.Laws as state_laws
 use Rattle.rt_sat.specs.Searches.{state_eq, turned, Walk, stays, turns, steps, IsKnown, IsWithin, Allows, AreNoted, IsRelaxed, AreRelaxed, AreFallen, IsOffered, IsIndexed, IsSearch, IsVisited, IsPassed, IsFollowed}
-
-both_true : (a b : Bool) → (a && b) ≡ true → (a ≡ true) × (b ≡ true)
-both_true true b e = (refl, e)
-both_true false b e = absurd (cc)
+use Rattle.rt_sat.proofs.Weighed.{known_one}
 
 same_bool : (a b : Bool) → beq a b ≡ true → a ≡ b
 same_bool true true e = refl
@@ -24,16 +21,13 @@ same_bool false false e = refl
 
 pub state_equal : (a b : State) → state_eq a b ≡ true → a ≡ b
 state_equal a b e =
-    let p : (nat_eq a.variable b.variable ≡ true) × (beq a.contra b.contra ≡ true) = both_true (nat_eq a.variable b.variable) (beq a.contra b.contra) e in
+    let p : (nat_eq a.variable b.variable ≡ true) × (beq a.contra b.contra ≡ true) = and_parts (nat_eq a.variable b.variable) (beq a.contra b.contra) e in
     let m : a.variable ≡ b.variable = eqb-true a.variable b.variable p.0 in
     let n : a.contra ≡ b.contra = same_bool a.contra b.contra p.1 in
     λ i. record { variable = m i; contra = n i }
 
 pub state_self : (a : State) → state_eq a a ≡ true
 state_self a = (state_laws.laws-law).refl a
-
-one_count : (found : List (State × ℕ)) (s : State) (j k : ℕ) → IsKnown found s j → IsKnown found s k → j ≡ k
-one_count found s j k e f = let g : Some j ≡ Some k = sym e ∙ f in cc
 
 pub within-fallen : (old new : List (State × ℕ)) (s : State) (k : ℕ) → AreFallen old new → IsWithin old s k → IsWithin new s k
 within-fallen old new s k f w = let r : IsWithin new s w.0 = f s w.0 w.1 in (r.0, r.1, omega (arith, r.2, w.2))
@@ -61,7 +55,7 @@ module _ (old new : List (State × ℕ)) (to : State) (count : ℕ) (updates : (
   elsewhere s e = updates s ∙ ap (λ b. cond b (Some count) (lookup (state_eq s) old)) e
 
   cases : (s : State) (k : ℕ) (b : Bool) → state_eq to s ≡ b → IsKnown new s k → IsKnown old s k ⊎ ((to ≡ s) × (k ≡ count))
-  cases s k true e h = let t : to ≡ s = state_equal to s e in inr (t, one_count new s k count h (here s t))
+  cases s k true e h = let t : to ≡ s = state_equal to s e in inr (t, known_one new s k count h (here s t))
   cases s k false e h = inl (sym (elsewhere s e) ∙ h)
 
   falls : ((k : ℕ) → IsKnown old to k → count ≤ k) → (s : State) (k : ℕ) (b : Bool) → state_eq to s ≡ b → IsKnown old s k → IsWithin new s k
@@ -145,7 +139,7 @@ module _ (most : Option ℕ) (edges : List Edge) (old : List (State × ℕ)) (ac
 
       itself : state ≡ s → IsKnown old s k → IsRelaxed most edges new s k
       itself e g =
-          let m : k ≡ count = one_count old state k count (subst (λ z. IsKnown old z k) (sym e) g) known in
+          let m : k ≡ count = known_one old state k count (subst (λ z. IsKnown old z k) (sym e) g) known in
           subst (λ z. IsRelaxed most edges new z k) e (subst (λ n. IsRelaxed most edges new state n) (sym m) (record { turn = v.turn; edge = λ x c f. v.edge x c f }))
 
       listed : IsKnown old s k → Contains active s ⊎ Contains (state ∷ rest) s → Contains (next ++ rest) s ⊎ IsRelaxed most edges new s k

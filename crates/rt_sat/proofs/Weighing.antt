@@ -43,7 +43,7 @@ use Rattle.rt_sat.proofs.Closed.{name_at}
 use Rattle.rt_sat.proofs.Mattering.{all_matter}
 use Rattle.rt_sat.proofs.Deciding.{are_flips}
 use Rattle.rt_sat.proofs.Frames.{side_named, extra_named}
-use Rattle.rt_sat.proofs.Numbered.{numbered_law}
+use Rattle.rt_sat.proofs.Numbered.{numbered_law, sign_contra}
 use Rattle.rt_sat.proofs.Probes.{above, ArePointers, pointers-of, pointers-in, part, part-plain}
 use Rattle.rt_sat.proofs.Descending.{number, P, Counted, counted}
 use Rattle.rt_sat.proofs.Raising.{Spellings, spellings, raised}
@@ -125,10 +125,6 @@ same_node lines order graph shape x y = (
       some_nodes (node_of graph x) (node_of graph y) ((shape.there order x).1 b.0) ((shape.there order y).1 b.1) (λ i j e f. (shape.one order x y i j e f).1 d)),
 )
 
-sign_back : (a : Variance) → sign_of (is_contra a) ≡ a
-sign_back Co = refl
-sign_back Contra = refl
-
 module _ (order : Below) (lines : List Line) (extra known : List Dtv) (edges : List Edge) (whole : IsWholeTableOf lines extra known edges) where
   abbrev table : IsTableOf lines extra known edges
   table = whole.table
@@ -169,7 +165,7 @@ module _ (order : Below) (lines : List Line) (extra known : List Dtv) (edges : L
     walk_bridge : (a b : Variance) (n : ℕ) → Walk edges (signed i a) (signed j b) n → Bridge A (Named (is_among known)) (st X a) (st Y b) n
     walk_bridge a b n w =
         (ways_law A (is_among known) (edges_of known edges) (named_all order lines extra known edges table) is_table (st X a) (st Y b) n).1 (name_at known i h) exists
-        (subst (λ s. Way (EdgeOf (edges_of known edges)) (st X s) (st Y b) n) (sign_back a) (subst (λ s. Way (EdgeOf (edges_of known edges)) (st X (sign_of (is_contra a))) (st Y s) n) (sign_back b)
+        (subst (λ s. Way (EdgeOf (edges_of known edges)) (st X s) (st Y b) n) (sign_contra a) (subst (λ s. Way (EdgeOf (edges_of known edges)) (st X (sign_of (is_contra a))) (st Y s) n) (sign_contra b)
         ((numbered_law known edges (distinct order lines extra known edges table) (within order lines extra known edges table) (signed i a) (signed j b) n h g).0 w)))
 
     bridge_walk : (a b : Variance) (n : ℕ) → Bridge A (Named (is_among known)) (st X a) (st Y b) n → HasWalk edges (signed i a) (signed j b) n
@@ -177,7 +173,7 @@ module _ (order : Below) (lines : List Line) (extra known : List Dtv) (edges : L
         let w : WayIn (EdgeOf (edges_of known edges)) (st X a) (st Y b) n = (ways_law A (is_among known) (edges_of known edges) (named_all order lines extra known edges table) is_table (st X a) (st Y b) n).0 r in (
           w.count,
           (numbered_law known edges (distinct order lines extra known edges table) (within order lines extra known edges table) (signed i a) (signed j b) w.count h g).1
-              (subst (λ s. Way (EdgeOf (edges_of known edges)) (st X s) (st Y (sign_of (is_contra b))) w.count) (sym (sign_back a)) (subst (λ s. Way (EdgeOf (edges_of known edges)) (st X a) (st Y s) w.count) (sym (sign_back b)) w.way)),
+              (subst (λ s. Way (EdgeOf (edges_of known edges)) (st X s) (st Y (sign_of (is_contra b))) w.count) (sym (sign_contra a)) (subst (λ s. Way (EdgeOf (edges_of known edges)) (st X a) (st Y s) w.count) (sym (sign_contra b)) w.way)),
           w.few,
         )
 

@@ -6,3 +6,4 @@ pub mod SplittingBack
 pub mod SplittingKeeps
 pub mod FirstFree
 pub mod PortLabels
+pub mod Clear

@@ -21,9 +21,7 @@ use Rattle.rt_scheme.specs.declared.origin.Origin.{Origin}
 use Rattle.rt_scheme.specs.declared.origin.Origin.TheVariants.{Port, Bound}
 use Rattle.rt_scheme.specs.Instances.{origin_eq, origin_of, origins_of, origins, ports_from}
 use Rattle.rt_scheme.specs.Ports.{NamesLabel, begins_side, begins_with, has_port, line_names, names_label}
-
-label_self : (l : Label) → label_eq l l ≡ true
-label_self l = (label_laws.laws-law).refl l
+use Rattle.rt_lines.proofs.Same.{label_self}
 
 origin_equal : (a b : Origin) → origin_eq a b ≡ true → a ≡ b
 origin_equal (Port l) (Port k) e = ap Port (label_equal l k e)

@@ -7,10 +7,10 @@ use Rattle.rt_lines.specs.Equality.{base_eq}
 use Rattle.rt_lines.proofs.Equal.{base_equal}
 use Rattle.rt_rules.specs.Rules.{longer}
 use Rattle.rt_shape.specs.Graphs.{Graph, bare, base_of, step_of, node_of, IsTree}
-use Rattle.rt_shape.proofs.Letters.{base_self}
 use Rattle.rt_shape.proofs.Walks.{Walks, walks, has_walked}
 use Rattle.rt_shape.proofs.Walks.Walks.{at_base, at_letter}
 use Rattle.rt_shape.proofs.Growth.{GrowsBy, tree_grown}
+use Rattle.rt_lines.proofs.Same.{base_self}
 
 -- one base more, with a node more
 module _ (old new : Graph) (tree : IsTree old) (base : Base)

@@ -20,9 +20,6 @@ letter_equal p q e =
 pub letter_self : (p : ℕ × Label) → letter_eq p p ≡ true
 letter_self p = rw (eq-eqb p.0 p.0 refl, (label_laws.laws-law).refl p.1) refl
 
-pub base_self : (b : Base) → base_eq b b ≡ true
-base_self b = (base_laws.laws-law).refl b
-
 pub base_equivalence : IsEquivalence base_eq
 base_equivalence = base_laws.laws-law
 

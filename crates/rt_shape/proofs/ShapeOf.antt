@@ -18,6 +18,7 @@ use Rattle.rt_shape.proofs.Within.{walked_within}
 use Rattle.rt_shape.proofs.Models.{HaveOne, IsModel, holds}
 use Rattle.rt_shape.proofs.JoinedSame.{there, same_from_joined}
 use Rattle.rt_shape.proofs.Quotients.{node_on, same_class, same_number, pointers_one}
+use Rattle.rt_base.proofs.Options.{some_of, is_some_of}
 
 equated_sides : (l : Line) (x y : Dtv) → Equates l x y → HasSide l x × HasSide l y
 equated_sides (Var z) x y h = absurd h
@@ -25,17 +26,6 @@ equated_sides (Same u v) x y (e, f) = (inl e, inr f)
 equated_sides (Sub u v) x y (e, f) = (inl e, inr f)
 equated_sides (Low k z) x y h = absurd h
 equated_sides (Up z k) x y h = absurd h
-
-some_of : (o : Option ℕ) → IsSome o → (n : ℕ) × (o ≡ Some n)
-some_of None h = absurd cc
-some_of (Some n) h = (n, refl)
-
-is_some_of : (o : Option ℕ) (n : ℕ) → o ≡ Some n → IsSome o
-is_some_of None n e = absurd (none_some e)
-  where
-    none_some : None ≡ Some n → ⊥
-    none_some f = cc
-is_some_of (Some m) n e = refl
 
 module _ (lines : List Line) (tree : Graph) (pairs : List (ℕ × ℕ)) (class number : List ℕ) (shape : Graph)
     (is_tree : IsTree tree) (naming : IsNaming lines tree) (are : ArePairs lines tree pairs)

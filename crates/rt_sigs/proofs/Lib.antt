@@ -2,7 +2,6 @@ pub mod Finding
 pub mod Constants
 pub mod Parts
 pub mod Files
-pub mod Clear
 pub mod OneFile
 pub mod NoFault
 pub mod OneFault

@@ -22,7 +22,8 @@ use Rattle.rt_sigs.specs.declared.prototype.Prototype.{Prototype}
 use Rattle.rt_sigs.specs.Signatures.{Signature, IsSignature, IsSignatureLine}
 use Rattle.rt_sigs.specs.SignatureTexts.{heading_text, args_text, remarks_text, signature_text}
 use Rattle.rt_sigs.specs.Laws.{OneFileLaw}
-use Rattle.rt_sigs.proofs.Clear.{HasNo-above, AreAbove-line, AreAbove-name}
+use Rattle.rt_texts.proofs.Clear.{HasNo-above}
+use Rattle.rt_scheme.proofs.Clear.{AreAbove-line, AreAbove-name}
 
 -- a byte that a line may begin with is neither that of `args`, nor that of `noreturn`, nor that of `end`
 abbrev IsOther : ℕ → Type 0
@@ -86,7 +87,7 @@ same_remarks false true a None low high k h e = absurd (h.1 _ (sym e))
 same_remarks false true a (Some m) low high k h e = let is : 110 ≡ 97 = first_byte 110 97 _ _ e in absurd (omega (arith, is))
 
 -- a scheme is its procedure's number and its lines
-one_scheme : (s t : Scheme) → s.base ≡ t.base → s.lines ≡ t.lines → s ≡ t
+pub one_scheme : (s t : Scheme) → s.base ≡ t.base → s.lines ≡ t.lines → s ≡ t
 one_scheme s t base lines = λ i. record {
   base = base i;
   lines = lines i;

@@ -5,6 +5,7 @@ use Rattle.std.proofs.lemmas.List.Elements.{Contains-append_left, Contains-appen
 use Rattle.rt_base.proofs.Lists.{Contains-none, Contains-here, Contains-cons_cases}
 use Rattle.rt_polar.proofs.Holding.{same_or_apart}
 use Rattle.rt_simplify.specs.Numbers.{numbers_below}
+use Rattle.rt_base.proofs.Booleans.{same_truth}
 
 append_none : (xs : List ℕ) → xs ++ [] ≡ xs
 append_none [] = refl
@@ -80,14 +81,9 @@ pub same_below : (test other : ℕ → Bool) (bound k : ℕ) → numbers_below t
 same_below test other bound k e lt h =
     below_source other bound k (subst (λ (ks : List ℕ). Contains ks k) e (below_has test bound k lt h))
 
-same_bool : (a b : Bool) → (a ≡ true → b ≡ true) → (b ≡ true → a ≡ true) → a ≡ b
-same_bool true b f g = sym (f refl)
-same_bool false true f g = g refl
-same_bool false false f g = refl
-
 pub below_same : (test other : ℕ → Bool) (bound : ℕ) → ((k : ℕ) → test k ≡ true → other k ≡ true) →
     ((k : ℕ) → other k ≡ true → test k ≡ true) →
     numbers_below test bound ≡ numbers_below other bound
 below_same test other bound f g =
-    let e : (k : ℕ) → test k ≡ other k = λ k. same_bool (test k) (other k) (f k) (g k) in
+    let e : (k : ℕ) → test k ≡ other k = λ k. same_truth (test k) (other k) (f k) (g k) in
     ap (λ (t : ℕ → Bool). numbers_below t bound) (λ i k. e k i)

@@ -8,30 +8,19 @@ use Rattle.rt_lines.specs.declared.line.Line.{Line}
 use Rattle.rt_rules.specs.Put.{exist, use_of}
 use Rattle.rt_polar.proofs.Holding.{same_or_apart}
 use Rattle.rt_reduction.specs.Twins.{Peer, Variable, peer_line, ArePeerLines, AreTwins, IsTwinOf, AreTwinned}
-use Rattle.rt_reduction.proofs.AllTwins.{twins_chain}
+use Rattle.rt_reduction.proofs.AllTwins.{twins_chain, peer_use, twins_back}
 use Rattle.rt_simplify.specs.Uses.{IsOtherUse, IsVariableUse, AreOfLines}
 use Rattle.rt_simplify.specs.Numbers.{IsNumbered, IsNumberOf, IsPeerIndex, numbers_below}
 use Rattle.rt_simplify.specs.Twins.{AreLeastTwins, IsPlaced, leads, follows, TakesTurn, passes, joins, exist_of, placing}
-use Rattle.rt_simplify.proofs.Owning.{peer_use, peer_or_not}
-use Rattle.rt_simplify.proofs.Noting.{equal_number, number_self}
+use Rattle.rt_simplify.proofs.Owning.{peer_or_not}
+use Rattle.rt_simplify.proofs.Noting.{number_self}
 use Rattle.rt_simplify.proofs.Below.{same_below, below_same}
+use Rattle.rt_base.proofs.Numbers.{equal_number}
 
 -- the existential has uses of the sign, a variable's among them, and they are lines of it alone
 pub record MayBeTwin (sign : Variance) (lines : List Line) (n : ℕ) : Type 0 where
   pub alone : ArePeerLines sign lines n
   pub some : (z : Dtv) × Contains lines (use_of sign n z)
-
-pub twins_back : (sign : Variance) (lines : List Line) (v w : ℕ) → AreTwins sign lines v w → AreTwins sign lines w v
-twins_back sign lines v w a = record {
-  first = a.second;
-  second = a.first;
-  some = (
-    a.some.0,
-    subst (Contains lines) (peer_use sign w a.some.0)
-        ((a.one (Variable a.some.0)).0 (subst (Contains lines) (sym (peer_use sign v a.some.0)) a.some.1)),
-  );
-  one = λ p. ((a.one p).1, (a.one p).0);
-}
 
 pub may_first : (sign : Variance) (lines : List Line) (v w : ℕ) → AreTwins sign lines v w → MayBeTwin sign lines v
 may_first sign lines v w a = record { alone = a.first; some = a.some }

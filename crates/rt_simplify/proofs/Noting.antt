@@ -11,14 +11,7 @@ use Rattle.rt_base.proofs.Lists.{Contains-here}
 use Rattle.rt_lines.specs.declared.line.Line.{Line}
 use Rattle.rt_polar.proofs.Pairs.{nat_cmp_self}
 use Rattle.rt_simplify.specs.Uses.{AreOfLines, AreNoted}
-
-pub equal_number : (v q : ℕ) → is_eq (nat_cmp v q) ≡ true → v ≡ q
-equal_number v q e = by (nat_cmp v q) refl e
-  where
-    by : (o : Ordering) → nat_cmp v q ≡ o → is_eq o ≡ true → v ≡ q
-    by Less f g = cc
-    by Equal f g = exact_unsigned v q f
-    by Greater f g = cc
+use Rattle.rt_base.proofs.Numbers.{equal_number}
 
 pub number_self : (v : ℕ) → is_eq (nat_cmp v v) ≡ true
 number_self v = ap is_eq (nat_cmp_self v)

@@ -12,10 +12,6 @@ use Rattle.rt_rules.specs.Put.{exist, use_of}
 use Rattle.rt_polar.proofs.Holding.{same_or_apart}
 use Rattle.rt_reduction.specs.Twins.{Peer, Variable, Constant, peer_line}
 
-pub peer_use : (sign : Variance) (n : ℕ) (z : Dtv) → peer_line sign n (Variable z) ≡ use_of sign n z
-peer_use Co n z = refl
-peer_use Contra n z = refl
-
 exist_one : (m n : ℕ) → exist m ≡ exist n → m ≡ n
 exist_one m n e = let f : Exist m ≡ Exist n = ap (λ (x : Dtv). x.base) e in cc
 

@@ -12,6 +12,7 @@ use Rattle.rt_lines.specs.declared.variable.Base.TheVariants.{Proc, Global, Exis
 use Rattle.rt_lines.specs.declared.variable.Dtv.{Dtv}
 use Rattle.rt_reduction.specs.Twins.{Peer, Variable, Constant}
 use Rattle.rt_simplify.specs.Ranks.{Rank, base_rank, label_rank, ranks_of, rank_cmp, peer_ranks}
+use Rattle.rt_base.proofs.Numbers.{then-equal}
 
 -- a label has its rank alone, and a base too
 pub label_rank-one : (a b : Label) → label_rank a ≡ label_rank b → a ≡ b
@@ -74,16 +75,11 @@ pub rank_total : IsTotalOrder rank_cmp
 rank_total = then_total (then_total (on_total (λ (t : Rank). t.0) nat_cmp_total) (on_total (λ (t : Rank). t.1) nat_cmp_total))
     (on_total (λ (t : Rank). t.2) int_cmp_total)
 
-both_equal : (p q : Ordering) → ordering_then p q ≡ Equal → (p ≡ Equal) × (q ≡ Equal)
-both_equal Less q e = (e, cc)
-both_equal Equal q e = (refl, e)
-both_equal Greater q e = (e, cc)
-
 -- ranks that compare equal are equal
 pub rank_equal : (a b : Rank) → rank_cmp a b ≡ Equal → a ≡ b
 rank_equal a b e =
-    let parts = both_equal (ordering_then (nat_cmp a.0 b.0) (nat_cmp a.1 b.1)) (int_cmp a.2 b.2) e in
-    let kinds = both_equal (nat_cmp a.0 b.0) (nat_cmp a.1 b.1) parts.0 in
+    let parts = then-equal (ordering_then (nat_cmp a.0 b.0) (nat_cmp a.1 b.1)) (int_cmp a.2 b.2) e in
+    let kinds = then-equal (nat_cmp a.0 b.0) (nat_cmp a.1 b.1) parts.0 in
     let f : a.0 ≡ b.0 = ranked a.0 b.0 Equal (sym kinds.0) in
     let g : a.1 ≡ b.1 = ranked a.1 b.1 Equal (sym kinds.1) in
     let h : a.2 ≡ b.2 = int_ranked a.2 b.2 Equal (sym parts.1) in

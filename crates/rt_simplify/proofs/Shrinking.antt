@@ -20,9 +20,9 @@ use Rattle.rt_polar.specs.Puts.Exchanges.{goes, exists_still}
 use Rattle.rt_polar.specs.Puts.Puts.{none_left, puts}
 use Rattle.rt_polar.specs.Tidied.{tidied, without_self}
 use Rattle.rt_reduction.specs.Twins.{Variable, peer_line, AreTwins, IsTwinOf, AreTwinned}
-use Rattle.rt_reduction.proofs.AllTwins.{twins_chain}
+use Rattle.rt_reduction.proofs.AllTwins.{twins_chain, peer_use}
 use Rattle.rt_simplify.specs.Twins.{BecomeOne}
-use Rattle.rt_simplify.proofs.Owning.{peer_use}
+use Rattle.rt_lines.proofs.Same.{line_self}
 
 abbrev inserted : List Line → List Line → List Line
 inserted ks xs = fold (insert_key line_eq) ks xs
@@ -70,9 +70,6 @@ puts-length : (left start : List Line) → Puts left start → length left ≤ l
 puts-length left start (none_left none) = omega arith
 puts-length left start (puts n now between least exchanged rest) =
     omega (arith, exchange-length n now between exchanged, puts-length left between rest)
-
-line_self : (l : Line) → line_eq l l ≡ true
-line_self l = (line_laws.laws-law).refl l
 
 -- Two lines that become one.
 module _ (f : Line → Line) where

@@ -11,12 +11,9 @@ use Rattle.rt_lines.specs.declared.line.Line.TheVariants.{Low, Up}
 use Rattle.rt_named.specs.Origins.{no_variable}
 use Rattle.rt_ways.specs.Arcs.{AreMore, IsAdded}
 use Rattle.rt_ways.specs.Pushes.{AreDistinct, variable_at}
-use Rattle.rt_ways.proofs.Entering.{more_none}
+use Rattle.rt_ways.proofs.Entering.{more_none, one_line}
 use Rattle.rt_ways.proofs.Hubs.{more_arc, more_join}
 use Rattle.rt_sketch.specs.Bounds.{AreBoundsOf, IsLow, IsUp}
-
-one_line : (k x : Line) → Contains (k ∷ []) x → k ≡ x
-one_line k x c = elim (Contains-cons_cases k [] x c) [ inl e ↦ e | inr h ↦ absurd (Contains-none x h) ]
 
 pub bounds_all : (P : ℕ → ℕ → Type 0) (count : ℕ) (empty rows : List (List ℕ)) → length empty ≡ count → ((v : ℕ) → get_or empty v [] ≡ []) → AreMore P empty rows → AreBoundsOf count P rows
 bounds_all P count empty rows e none m = record {

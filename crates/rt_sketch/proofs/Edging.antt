@@ -13,45 +13,11 @@ use Rattle.rt_lines.specs.Equality.{label_eq}
 use Rattle.rt_lines.proofs.Equal.{label_equal}
 use Rattle.rt_tree.specs.Labels.{label_cmp}
 use Rattle.rt_tree.specs.Trees.{Node, Nodes, leaf, edge_of, step_of, marks_of, node_at, with_edge, longer_node, joined, grown}
-use Rattle.rt_tree.proofs.Edges.{label_itself}
 use Rattle.rt_tree.proofs.Growing.{none_in_front}
-
-skipped : (b : Bool) (n : ℕ) (o : Option ℕ) → cond b (Some n) o ≡ None → o ≡ None
-skipped true n o e = cc
-skipped false n o e = e
-
-found : (b : Bool) (n : ℕ) (o : Option ℕ) → b ≡ true → cond b (Some n) o ≡ Some n
-found true n o e = refl
-found false n o e = cc
-
-passed : (b : Bool) (n : ℕ) (o : Option ℕ) → b ≡ false → cond b (Some n) o ≡ o
-passed true n o e = cc
-passed false n o e = refl
-
--- an edge of another label is found as before
-kept_edge : (edges : List (Label × ℕ)) (l : Label) (to : ℕ) (k : Label) → label_eq k l ≡ false → lookup (label_eq k) (with_edge edges l to) ≡ lookup (label_eq k) edges
-kept_edge [] l to k apart = passed (label_eq k l) to None apart
-kept_edge (edge ∷ edges) l to k apart = by (is_lt (label_cmp l edge.0)) (kept_edge edges l to k apart)
-  where
-    by : (b : Bool) → lookup (label_eq k) (with_edge edges l to) ≡ lookup (label_eq k) edges → lookup (label_eq k) (cond b ((l, to) ∷ edge ∷ edges) (edge ∷ with_edge edges l to)) ≡ lookup (label_eq k) (edge ∷ edges)
-    by true rest = passed (label_eq k l) to (lookup (label_eq k) (edge ∷ edges)) apart
-    by false rest = ap (cond (label_eq k edge.0) (Some edge.1)) rest
-
--- the new edge is found
-new_edge : (edges : List (Label × ℕ)) (l : Label) (to : ℕ) → lookup (label_eq l) edges ≡ None → lookup (label_eq l) (with_edge edges l to) ≡ Some to
-new_edge [] l to none = found (label_eq l l) to None (label_itself l)
-new_edge (edge ∷ edges) l to none = by (is_lt (label_cmp l edge.0)) (new_edge edges l to (skipped (label_eq l edge.0) edge.1 (lookup (label_eq l) edges) none))
-  where
-    by : (b : Bool) → lookup (label_eq l) (with_edge edges l to) ≡ Some to → lookup (label_eq l) (cond b ((l, to) ∷ edge ∷ edges) (edge ∷ with_edge edges l to)) ≡ Some to
-    by true rest = found (label_eq l l) to (lookup (label_eq l) (edge ∷ edges)) (label_itself l)
-    by false rest = over (label_eq l edge.0) none rest
-      where
-        over : (b : Bool) → cond b (Some edge.1) (lookup (label_eq l) edges) ≡ None → lookup (label_eq l) (with_edge edges l to) ≡ Some to → cond b (Some edge.1) (lookup (label_eq l) (with_edge edges l to)) ≡ Some to
-        over true e rest = cc
-        over false e rest = rest
-
-at_set : (t : Nodes) (i : ℕ) (x : Node) → i < length t → slice_get (set t i x) i ≡ Some x
-at_set t i x less = slice_get-get_or (set t i x) i (leaf 0 0) (subst (λ n. i < n) (sym (length-set t i x)) less) ∙ ap Some (get_or-set_same t i x (leaf 0 0) less)
+use Rattle.rt_lines.proofs.Same.{label_self}
+use Rattle.rt_base.proofs.Options.{here_back, skipped, passed}
+use Rattle.rt_tree.proofs.Reaching.{joined_length, kept_edge, new_edge, at_set, new_step}
+use Rattle.rt_tree.proofs.Alike.{at_node}
 
 off_set : (t : Nodes) (i j : ℕ) (x : Node) → (j ≡ i → ⊥) → slice_get (set t i x) j ≡ slice_get t j
 off_set t i j x apart = by (order j (length t))
@@ -64,13 +30,6 @@ off_set t i j x apart = by (order j (length t))
         slice_get-get_or (set t i x) j (leaf 0 0) (subst (λ n. j < n) (sym (length-set t i x)) less)
         ∙ (ap Some (get_or-set_other t i j x (leaf 0 0) apart) ∙ sym (slice_get-get_or t j (leaf 0 0) less))
     by (inr past) = slice_get_past (set t i x) j (subst (λ n. n ≤ j) (sym (length-set t i x)) past) ∙ sym (slice_get_past t j past)
-
-at_node : (t : Nodes) (n : ℕ) (l : Label) → n < length t → step_of t n l ≡ lookup (label_eq l) (node_at t n).edges
-at_node t n l less = ap (option_and_then (edge_of l)) (slice_get-get_or t n (leaf 0 0) less)
-
-pub joined_same : (t : Nodes) (from : ℕ) (l : Label) (to : ℕ) → from < length t → step_of t from l ≡ None → step_of (joined t from l to) from l ≡ Some to
-joined_same t from l to less none =
-    ap (option_and_then (edge_of l)) (at_set t from (longer_node (node_at t from) l to) less) ∙ new_edge (node_at t from).edges l to (sym (at_node t from l less) ∙ none)
 
 pub joined_other : (t : Nodes) (from : ℕ) (l : Label) (to : ℕ) → from < length t → (n : ℕ) (k : Label) → ((n ≡ from) × (k ≡ l) → ⊥) → step_of (joined t from l to) n k ≡ step_of t n k
 joined_other t from l to less n k apart = by (cases_eq n from)
@@ -94,9 +53,6 @@ joined_marks t from l to less n = by (cases_eq n from)
         subst (λ i. marks_of (node_at (joined t from l to) i) ≡ marks_of (node_at t i)) (sym same)
         (ap marks_of (get_or-set_same t from (longer_node (node_at t from) l to) (leaf 0 0) less))
 
-pub joined_length : (t : Nodes) (from : ℕ) (l : Label) (to : ℕ) → length (joined t from l to) ≡ length t
-joined_length t from l to = length-set t from (longer_node (node_at t from) l to)
-
 leaf_step : (t : Nodes) (low up n : ℕ) (k : Label) → step_of (t ++ leaf low up ∷ []) n k ≡ step_of t n k
 leaf_step [] low up zero k = refl
 leaf_step [] low up (suc n) k = refl
@@ -111,7 +67,7 @@ grown_length t from l low up = joined_length (t ++ leaf low up ∷ []) from l (l
 
 pub grown_same : (t : Nodes) (from : ℕ) (l : Label) (low up : ℕ) → from < length t → step_of t from l ≡ None → step_of (grown t from l low up) from l ≡ Some (length t)
 grown_same t from l low up less none =
-    joined_same (t ++ leaf low up ∷ []) from l (length t) (let e = leaf_length t low up in omega arith) (none_in_front t (leaf low up ∷ []) from l less none)
+    new_step (t ++ leaf low up ∷ []) from l (length t) (let e = leaf_length t low up in omega arith) (none_in_front t (leaf low up ∷ []) from l less none)
 
 pub grown_other : (t : Nodes) (from : ℕ) (l : Label) (low up : ℕ) → from < length t → (n : ℕ) (k : Label) → ((n ≡ from) × (k ≡ l) → ⊥) → step_of (grown t from l low up) n k ≡ step_of t n k
 grown_other t from l low up less n k apart =

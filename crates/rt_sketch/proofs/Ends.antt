@@ -18,17 +18,11 @@ use Rattle.rt_tree.specs.Trees.{Nodes, IsTree, edge_of, marks_from, marks_of, st
 use Rattle.rt_tree.proofs.Words.{leads, marked, marks-append, node_of, step_in, then_some, walk_in, walk_on}
 use Rattle.rt_sketch.specs.Laws.{OneEndLaw}
 use Rattle.rt_sketch.specs.Sketches.{AreMarks, IsAdmitted, IsJoinOf, IsMeetOf, IsSketchOf, of_procedure}
+use Rattle.rt_base.proofs.Options.{some_of, is_some_of}
 
 not_empty : (w : List Label) (l : Label) (z : List Label) → (w ++ l ∷ []) ++ z ≡ [] → ⊥
 not_empty [] l z e = cc
 not_empty (k ∷ w) l z e = cc
-
-is_some : (o : Option ℕ) (n : ℕ) → o ≡ Some n → IsSome o
-is_some o n e = subst IsSome (sym e) refl
-
-the_some : (o : Option ℕ) → IsSome o → (n : ℕ) × (o ≡ Some n)
-the_some None e = cc
-the_some (Some n) e = (n, refl)
 
 module _ (order : Below) (anti : IsAntisymmetric (IsAtOrBelow order) order.count) where
   -- equal properties have one join and one meet
@@ -50,7 +44,7 @@ module _ (order : Below) (anti : IsAntisymmetric (IsAtOrBelow order) order.count
   module _ (own : ℕ) (lines : List Line) (tree : Nodes) (is_tree : IsTree tree) (sketch : IsSketchOf order own lines tree) where
     -- a word that isn't empty leads somewhere where the lines derive it
     derived : (w : List Label) (n : ℕ) → (w ≡ [] → ⊥) → walk tree 0 w ≡ Some n → Derivable order lines (Var (of_procedure own w))
-    derived w n some e = by ((sketch.words w).0 (is_some (walk tree 0 w) n e))
+    derived w n some e = by ((sketch.words w).0 (is_some_of (walk tree 0 w) n e))
       where
         by : IsAdmitted order lines own w → Derivable order lines (Var (of_procedure own w))
         by (inl none) = absurd (some none)
@@ -59,7 +53,7 @@ module _ (order : Below) (anti : IsAntisymmetric (IsAtOrBelow order) order.count
     -- and marks are there
     marks_there : (w : List Label) → Derivable order lines (Var (of_procedure own w)) → (m : ℕ × ℕ) × (marks_from tree 0 w ≡ Some m)
     marks_there w d =
-        let to : (n : ℕ) × (walk tree 0 w ≡ Some n) = the_some (walk tree 0 w) ((sketch.words w).1 (inr d)) in
+        let to : (n : ℕ) × (walk tree 0 w ≡ Some n) = some_of (walk tree 0 w) ((sketch.words w).1 (inr d)) in
         let node = node_of tree to.0 (walk_in tree is_tree.nodes 0 w to.0 is_tree.rooted to.1) in
         (marks_of node.0, marked tree 0 w to.0 node.0 to.1 node.1)
 

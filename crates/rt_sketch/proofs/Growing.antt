@@ -16,19 +16,10 @@ use Rattle.rt_sketch.specs.declared.state.State.{State}
 use Rattle.rt_sketch.specs.Growths.{AreAlike, HasMarks, IsMarkedBy, IsMore, IsOnWay, IsStep, IsTaken, LeadsFrom}
 use Rattle.rt_sketch.specs.Sketches.{AreMarks}
 use Rattle.rt_sketch.specs.States.{AreSetsOf, Denotes, LeadsTo}
-use Rattle.rt_sketch.proofs.Edging.{joined_same, joined_other, joined_marks, joined_length, grown_same, grown_other, grown_marks, grown_new, grown_length}
-
-any_at : {X : Type 0} (p : X → Bool) (xs : List X) (n : ℕ) (x : X) → slice_get xs n ≡ Some x → p x ≡ true → list_any p xs ≡ true
-any_at p [] n x e h = cc
-any_at p (y ∷ xs) zero x e h =
-    let same : y ≡ x = cc in
-    let here : p y ≡ true = ap p same ∙ h in
-    rw here refl
-any_at p (y ∷ xs) (suc n) x e h = by (p y) (any_at p xs n x e h)
-  where
-    by : (b : Bool) → list_any p xs ≡ true → (b || list_any p xs) ≡ true
-    by true rest = refl
-    by false rest = rest
+use Rattle.rt_sketch.proofs.Edging.{joined_other, joined_marks, grown_same, grown_other, grown_marks, grown_new, grown_length}
+use Rattle.rt_tree.proofs.Reaching.{joined_length, new_step}
+use Rattle.rt_base.proofs.Options.{one_some}
+use Rattle.std.proofs.lemmas.Map.Keys.{any_passes_from_place}
 
 -- what stands in a list with one more
 push_cases : (xs : List State) (y : State) (n : ℕ) (s : State) → slice_get (xs ++ y ∷ []) n ≡ Some s → ((n < length xs) × (slice_get xs n ≡ Some s)) ⊎ ((n ≡ length xs) × (s ≡ y))
@@ -56,7 +47,7 @@ module _ (eq : State → State → Bool) (keys after : List State) (next k : Sta
       by false e =
           let pushed : after ≡ keys ++ next ∷ [] = is ∙ (rw e refl) in
           elim (push_cases keys next to k (subst (λ xs. slice_get xs to ≡ Some k) pushed stored)) [
-            | inl h ↦ absurd (let u : list_any (eq next) keys ≡ true = any_at (eq next) keys to k h.1 same in let v : true ≡ false = sym u ∙ e in cc)
+            | inl h ↦ absurd (let u : list_any (eq next) keys ≡ true = any_passes_from_place (eq next) keys to k h.1 same in let v : true ≡ false = sym u ∙ e in cc)
             | inr h ↦ absurd (let f = h.0 in omega arith)
           ]
 
@@ -106,7 +97,7 @@ itself s = record { node = refl; class = refl; below = refl; above = refl }
 
 pub leads_joined : (keys : List State) (tree : Nodes) (from : ℕ) (l : Label) → from < length tree → step_of tree from l ≡ None →
     (to : ℕ) (next k : State) (after : List State) (new : Nodes) → slice_get after to ≡ Some k → AreAlike next k → new ≡ joined tree from l to → LeadsFrom from l next after new
-leads_joined keys tree from l less none to next k after new stored alike t = (to, k, ap (λ (u : Nodes). step_of u from l) t ∙ joined_same tree from l to less none, stored, alike)
+leads_joined keys tree from l less none to next k after new stored alike t = (to, k, ap (λ (u : Nodes). step_of u from l) t ∙ new_step tree from l to less none, stored, alike)
 
 pub leads_grown : (keys : List State) (tree : Nodes) (from : ℕ) (l : Label) → length tree ≡ length keys → from < length tree → step_of tree from l ≡ None →
     (next : State) (low up : ℕ) (after : List State) (new : Nodes) → after ≡ keys ++ next ∷ [] → new ≡ grown tree from l low up → LeadsFrom from l next after new
@@ -116,9 +107,6 @@ leads_grown keys tree from l each less none next low up after new a t =
 -- nothing is more
 pub none_more : (from : ℕ) (l : Label) (keys : List State) (tree : Nodes) → length tree ≡ length keys → IsMore from l keys tree keys tree
 none_more from l keys tree each = record { each = each; long = omega arith; kept = λ n s e. e; others = λ n k apart. refl }
-
-one_some : {X : Type 0} (o : Option X) (x y : X) → o ≡ Some x → o ≡ Some y → x ≡ y
-one_some o x y e f = let g : Some x ≡ Some y = sym e ∙ f in cc
 
 module _ (lines : List Line) (machine : Machine) where
   denotes_alike : (s t : State) (x : Dtv) → AreAlike s t → Denotes lines machine s x → Denotes lines machine t x

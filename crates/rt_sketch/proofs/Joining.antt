@@ -108,10 +108,6 @@ bound_left rows numbers i h k b = (b.0, take_left numbers i h b.0 b.1, b.2)
 pub bound_right : (rows : List (List ℕ)) (numbers : List ℕ) (i : ℕ) (row : List ℕ) → i < length numbers → row ≡ get_or rows (get_or numbers i 0) [] → (k : ℕ) → Contains row k → IsBoundOf rows (take (i + 1) numbers) k
 bound_right rows numbers i row h e k c = (get_or numbers i 0, take_here numbers i h, subst (λ xs. Contains xs k) e c)
 
--- of a name and the first ones of a row
-pub row_member : (row : List ℕ) (i : ℕ) → i < length row → Contains row (get_or row i 0)
-row_member row i h = (i, h, get_or_default row i (get_or row i 0) 0 h)
-
 pub row_more : (first : ℕ) (row : List ℕ) (i : ℕ) → i < length row → (k : ℕ) → (k ≡ first) ⊎ Contains (take (i + 1) row) k → ((k ≡ first) ⊎ Contains (take i row) k) ⊎ (k ≡ get_or row i 0)
 row_more first row i h k (inl e) = inl (inl e)
 row_more first row i h k (inr c) = elim (take_cases row i h k c) [ inl d ↦ inl (inr d) | inr e ↦ inr e ]

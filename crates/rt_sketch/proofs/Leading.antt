@@ -28,6 +28,7 @@ use Rattle.rt_ways.proofs.Knowing.{at_named, named_derives, number_in}
 use Rattle.rt_sketch.specs.States.{AreNumbers, members, sets_of, variables}
 use Rattle.rt_sketch.specs.Steps.{AreAll, IsLed, hub_in, next_class}
 use Rattle.rt_sketch.proofs.Members.{member_has, member_source, members_in, variable_has, variable_source}
+use Rattle.rt_base.proofs.Options.{not_some}
 
 -- variables between which a way leads have one shape
 pointers_same : (order : Below) (lines : List Line) (y : Dtv) (l m : Label) → IsPointer l → IsPointer m → Flips order lines y → Derivable order lines (Same (longer y l) (longer y m))
@@ -61,9 +62,6 @@ way_same order lines M (flexible_up c) = same_sub (sub_line c)
 way_same order lines M (flexible_down c) = same_back (same_sub (sub_line c))
 way_same order lines M (join p q) = same_chain (way_same order lines M p) (way_same order lines M q)
 way_same order lines M (push {x} {y} {l} {m} {d} {k} a b v w c s) = pushed_same order lines x y l m d k (way_same order lines M c) v s
-
-not_some : IsSome {T = ℕ} None → ⊥
-not_some e = cc
 
 module _ (lines : List Line) (net : Net) (is : AreWaysOf lines net) (order : Below) where
   abbrev xs : List Dtv

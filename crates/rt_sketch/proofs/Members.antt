@@ -7,12 +7,7 @@ use Rattle.rt_lines.specs.declared.variable.Dtv.{Dtv}
 use Rattle.rt_ways.specs.Nets.{Net, class_at}
 use Rattle.rt_ways.specs.Pushes.{variable_at}
 use Rattle.rt_sketch.specs.States.{AreNumbers, members, numbers_below, variables}
-
-nat_itself : (n : ℕ) → nat_eq n n ≡ true
-nat_itself n = grind arith
-
-nat_same : (n m : ℕ) → nat_eq n m ≡ true → n ≡ m
-nat_same n m e = grind arith
+use Rattle.rt_base.proofs.Numbers.{nat_same, nat_itself}
 
 filter_has : (p : ℕ → Bool) (xs : List ℕ) (x : ℕ) → Contains xs x → p x ≡ true → Contains (filter p xs) x
 filter_has p [] x c e = absurd (Contains-none x c)

@@ -15,12 +15,12 @@ use Rattle.rt_lines.specs.Orders.{Below}
 use Rattle.rt_lines.proofs.Equal.{label_equal}
 use Rattle.rt_rules.specs.Rules.{longer, Derivable}
 use Rattle.rt_tree.specs.Trees.{Nodes, step_of}
-use Rattle.rt_tree.proofs.Edges.{label_itself}
 use Rattle.rt_sketch.specs.declared.machine.Machine.{Machine}
 use Rattle.rt_sketch.specs.declared.state.State.{State}
 use Rattle.rt_sketch.specs.Growths.{HasMarks, HasTaken, IsGrown, IsGrowing, IsMore, IsOnWay, IsStep, IsTaken}
 use Rattle.rt_sketch.specs.Letters.{HasNext}
 use Rattle.rt_sketch.specs.States.{Denotes}
+use Rattle.rt_lines.proofs.Same.{label_self}
 
 -- letters that are distinct don't come back
 first_apart : (l : Label) (letters : List Label) (i : ℕ) (d : Label) → i < length letters → AllByRecursion (λ k. label_eq l k ≡ false) letters → l ≡ get_or letters i d → ⊥
@@ -28,7 +28,7 @@ first_apart l [] i d h all e = omega arith
 first_apart l (k ∷ letters) zero d h all e =
     let f : label_eq l k ≡ false = all.0 in
     let g : label_eq l l ≡ label_eq l k = ap (label_eq l) e in
-    let u : label_eq l l ≡ true = label_itself l in
+    let u : label_eq l l ≡ true = label_self l in
     cc
 first_apart l (k ∷ letters) (suc i) d h all e = first_apart l letters i d (omega arith) all.1 e
 
@@ -48,7 +48,7 @@ contained (k ∷ letters) l = by (label_eq k l) refl (contained letters l)
     unlike : label_eq k l ≡ false → k ≡ l → ⊥
     unlike e f =
         let g : label_eq k k ≡ label_eq k l = ap (label_eq k) f in
-        let u : label_eq k k ≡ true = label_itself k in
+        let u : label_eq k k ≡ true = label_self k in
         cc
 
     by : (b : Bool) → label_eq k l ≡ b → Contains letters l ⊎ (Contains letters l → ⊥) → Contains (k ∷ letters) l ⊎ (Contains (k ∷ letters) l → ⊥)

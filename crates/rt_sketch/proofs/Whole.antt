@@ -34,6 +34,7 @@ use Rattle.rt_sketch.specs.States.{AreSetsOf, Denotes, IsMachineOf, sets_of}
 use Rattle.rt_sketch.specs.Unfoldings.{IsUnfolded}
 use Rattle.rt_sketch.proofs.Leading.{led_none}
 use Rattle.rt_sketch.proofs.Marking.{low_mark, up_mark}
+use Rattle.rt_base.proofs.Options.{none_is}
 
 -- the bounds of lines are below a count
 pub lows_below : (lines : List Line) (machine : Machine) (count : ℕ) → IsMachineOf lines machine → All (HasConstantsBelow count) lines →
@@ -47,10 +48,6 @@ pub ups_below : (lines : List Line) (machine : Machine) (count : ℕ) → IsMach
 ups_below lines machine count is all n k row =
     let up : IsUp machine.ways.named lines n k = (is.ups.bound n k).0 row in
     All-contains (HasConstantsBelow count) lines (Up (variable_at machine.ways.named n) k) all up.1
-
-not_some : (o : Option ℕ) → o ≡ None → IsSome o → ⊥
-not_some None e some = cc
-not_some (Some n) e some = cc
 
 module _ (order : Below) (lines : List Line) (machine : Machine) (first : State) (tree : Nodes)
     (grown : IsGrown order lines machine first tree) where
@@ -83,7 +80,7 @@ module _ (order : Below) (lines : List Line) (machine : Machine) (first : State)
     grown_words w = (out (walk tree 0 w) (from_root w), back w)
       where
         out : (o : Option ℕ) → Leads (of_procedure own w) o → IsSome o → IsAdmitted order lines own w
-        out None not some = absurd (not_some None refl some)
+        out None not some = absurd (none_is None refl some)
         out (Some n) at some = inr (there at.0 (of_procedure own w) at.2)
 
         some_there : (u : List Label) (o : Option ℕ) → Leads (of_procedure own u) o →
@@ -146,7 +143,7 @@ module _ (lines : List Line) (machine : Machine) (is : IsMachineOf lines machine
       where
         words : (w : List Label) → IsSome (walk (leaf low up ∷ []) 0 w) ↔ IsAdmitted lattice.order lines own w
         words [] = (λ s. inl refl, λ a. refl)
-        words (l ∷ w) = (λ some. absurd (not_some None refl some), back)
+        words (l ∷ w) = (λ some. absurd (none_is None refl some), back)
           where
             back : IsAdmitted lattice.order lines own (l ∷ w) → IsSome (walk (leaf low up ∷ []) 0 (l ∷ w))
             back (inl e) = cc

@@ -1,5 +1,5 @@
 mod Gathering
 mod Linking
-mod Setting
+pub mod Setting
 mod Solving
 mod Uniqueness

@@ -23,11 +23,7 @@ use Rattle.rt_sigs.specs.Signatures.{Signature}
 use Rattle.rt_table.specs.Facts.{AreKnown, Knowledge}
 use Rattle.rt_table.specs.Lists.{AreLinesOf, AreRowsOf, is_member, linked_by, linked_in, scheme_target, target_by, words_at}
 use Rattle.rt_table.specs.Table.{Member, Target}
-
--- an element of a list that has one
-pub element_of : {X : Type 0} (xs : List X) (k : ℕ) → k < length xs → X
-element_of [] k lt = absurd (omega arith)
-element_of (x ∷ xs) k lt = x
+use Rattle.rt_table.proofs.Framings.{element}
 
 map_same : {X Y : Type 0} (f g : X → Y) (xs : List X) → All (λ x. f x ≡ g x) xs → map f xs ≡ map g xs
 map_same f g [] same = refl
@@ -113,7 +109,7 @@ module _ (program : Program) (known : List Knowledge) (group : List ℕ) (first 
     each_same : (s : ℕ) → s < length calls → All (λ call. IsSame call.callee) (get_or calls s [])
     each_same s lt i call less =
         let within : s < length proc.sites = omega (arith, are.one_each) in
-        let some : Site = element_of proc.sites s within in
+        let some : Site = element proc.sites s within in
         let site : Site = get_or proc.sites s some in
         let here = are.each s some lt in
         let is = here.each i (get_or (get_or calls s []) i call).callee call less in
@@ -128,7 +124,7 @@ module _ (program : Program) (known : List Knowledge) (group : List ℕ) (first 
   member_same are agree number knowledge member at =
       let lt : number < length known = slice_get_within known number knowledge at in
       let within : number < length program.procs = omega (arith, are.one_each) in
-      let some : procedure.Proc = element_of program.procs number within in
+      let some : procedure.Proc = element program.procs number within in
       let is = are.each number some knowledge lt in
       let calls : AreCallsIn program number (get_or program.procs number some) knowledge.calls =
       subst (λ (k : Knowledge). AreCallsIn program number (get_or program.procs number some) k.calls) (get_or_from_slice_get known number knowledge knowledge at) is.calls in

@@ -31,7 +31,7 @@ there-with schemes (s ∷ found) within apart (suc k) d lt =
     (λ j e less. subst (λ n. (get_or found j e).base < n) (sym (length-set schemes s.base (Some s))) (within (suc j) e (omega arith)))
     (λ i j e less under. apart (suc i) (suc j) e (omega arith) (omega arith)) k d (omega arith)
 
-some_of : (a b : Scheme) → Some a ≡ Some b → a ≡ b
+pub some_of : (a b : Scheme) → Some a ≡ Some b → a ≡ b
 some_of a b e = cc
 
 given_one : (object : Object) (count : ℕ) (schemes : List (Option Scheme)) (s : Scheme) → s.base < length schemes → IsGiven object count s → AreGiven object count schemes → AreGiven object count (with_scheme schemes s)

@@ -20,8 +20,9 @@ use Rattle.rt_table.specs.Lists.{AreGiven, HasGlobalsOf, IsGiven}
 use Rattle.rt_settle.specs.Groups.{AreSchemesOf, joined}
 use Rattle.rt_solve.specs.Solved.{AddsSchemesOf, AreSolved, HasSchemeOf, IsGroupSolved, with_scheme}
 use Rattle.rt_solve.proofs.Gathering.{All-joined, globals-joined}
-use Rattle.rt_solve.proofs.Linking.{AgreeFor, element_of, lines_same}
+use Rattle.rt_solve.proofs.Linking.{AgreeFor, lines_same}
 use Rattle.rt_solve.proofs.Setting.{elsewhere-with, given-with, length-with, there-with}
+use Rattle.rt_table.proofs.Framings.{element}
 
 -- what the schemes of a group's members are given for its lists
 module _ (order : Below) (group : List ℕ) (lines : List Line) (found : List Scheme) (are : AreSchemesOf order group lines found) where
@@ -128,7 +129,7 @@ module _ (object : Object) (roles : Roles) (order : Below) (procs : List Proc) (
       solved_here = record {
         bodies = adds.bodies;
         are_lines = lines_same object roles procs signatures (group_at groups k) old new adds.bodies (agree_for k (omega arith)) adds.are_lines;
-        solved = λ i within. has i within (element_of adds.found i (omega (arith, adds.are_schemes.one_each)));
+        solved = λ i within. has i within (element adds.found i (omega (arith, adds.are_schemes.one_each)));
       }
         where
           has : (i : ℕ) → i < length (group_at groups k) → Scheme

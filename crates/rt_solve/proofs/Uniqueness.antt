@@ -24,18 +24,11 @@ use Rattle.rt_solve.specs.Solved.{AreSolved, HasSchemeOf, IsGroupSolved}
 use Rattle.rt_solve.proofs.Linking.{AgreeFor, lines_same}
 use mathlib.Core.HLevel.{is_prop→PathP}
 use Rattle.std.proofs.Props.{props}
+use Rattle.rt_sigs.proofs.OneFile.{one_scheme}
 
 -- that lines are a scheme's has one proof
 scheme_lines-prop : (base : ℕ) (lines : List Line) → IsProp (AreSchemeLines base lines)
 scheme_lines-prop base lines = hlevel props
-
--- a scheme is its procedure's number and its lines
-one_scheme : (s t : Scheme) → s.base ≡ t.base → s.lines ≡ t.lines → s ≡ t
-one_scheme s t base lines = λ i. record {
-  base = base i;
-  lines = lines i;
-  bases = is_prop→PathP (λ j. AreSchemeLines (base j) (lines j)) (λ j. scheme_lines-prop (base j) (lines j)) s.bases t.bases i;
-}
 
 -- so a procedure has one, of lines
 one_scheme_of : OneChoice → (order : Below) (first second : List (Option Scheme)) (lines others : List Line) (number : ℕ) → lines ≡ others

@@ -18,7 +18,7 @@ use Rattle.rt_frame.specs.Told.{frame_of, frame_sites}
 use Rattle.rt_table.specs.declared.facts.Framed.{Framed}
 use Rattle.rt_table.specs.Facts.{AreKnown, IsKnown, Knowledge, knowledge_of}
 use Rattle.rt_table.specs.Framing.{AreFramed, AreReadings, IsFramed}
-use Rattle.rt_table.proofs.Looking.{is-get}
+use Rattle.std.proofs.lemmas.Option.{slice_get-get_or}
 
 -- what is known by a body, the calls of its sites and its frame
 abbrev pub known_by : Body → List (List Call) → Framed → Knowledge
@@ -47,14 +47,14 @@ pub knowledge-here : (bodies : List Body) (calls : List (List (List Call))) (fra
     → slice_get (knowledge_of bodies calls frames) q ≡ Some (known_by body here framed)
 knowledge-here bodies calls frames q body here d framed less c f body_is here_is framed_is =
     let known = known_by body here framed in
-    is-get (knowledge_of bodies calls frames) q known (omega (arith, length-knowledge bodies calls frames c f))
+    slice_get-get_or (knowledge_of bodies calls frames) q known (omega (arith, length-knowledge bodies calls frames c f))
     ∙ ap Some (knowledge-at bodies calls frames q known body framed less c f
     ∙ ap (λ b. known_by b (get_or calls q []) (get_or frames q framed)) (sym body_is)
     ∙ ap (λ h. known_by body h (get_or frames q framed)) (get_or_default calls q [] d (omega (arith, c)) ∙ sym here_is)
     ∙ ap (λ g. known_by body here g) (sym framed_is))
 
 -- an element of a list that has one at a place
-element : {X : Type 0} (xs : List X) (i : ℕ) → i < length xs → X
+pub element : {X : Type 0} (xs : List X) (i : ℕ) → i < length xs → X
 element [] i less = absurd (omega arith)
 element (x ∷ xs) i less = x
 
@@ -91,7 +91,7 @@ module _ (object : Object) (procs : List Proc) (bodies : List Body) (calls : Lis
             let here = framed.each q body frame within in
             subst (IsKnown program q (get_or procs q proc)) (sym (knowledge-at bodies calls frames q knowledge body frame within calls_each framed.one_each))
             (record {
-              reading = is-get (map reading_of bodies) q (reading_of body) (omega (arith, length-map bodies reading_of)) ∙ ap Some (get_or-map reading_of bodies q body (reading_of body) within);
+              reading = slice_get-get_or (map reading_of bodies) q (reading_of body) (omega (arith, length-map bodies reading_of)) ∙ ap Some (get_or-map reading_of bodies q body (reading_of body) within);
               calls = told.each q proc (omega (arith, calls_each));
               frame = here.frame;
               words_rising = here.words_rising;

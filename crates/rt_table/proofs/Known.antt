@@ -43,8 +43,9 @@ use Rattle.rt_table.specs.Naming.{AreRowsGiven}
 use Rattle.rt_table.specs.Table.{AreProcedureRows, Context, Linked, Target, Member, Scheme, Held, Unknown, linked_at, target_at}
 use Rattle.rt_table.proofs.Globals.{reading-addresses, reading-defs, reading-uses}
 use Rattle.rt_table.proofs.Instancing.{IsGoodBase, IsGoodLine, IsGoodTarget, procedure-good}
-use Rattle.rt_table.proofs.Looking.{get-is, get-within}
+use Rattle.rt_table.proofs.Looking.{get-within}
 use Rattle.rt_table.proofs.Sound.{HasHeldRegister, IsGood, IsRootIn, IsSound, any-sound}
+use Rattle.std.proofs.lemmas.Option.{get_or_from_slice_get}
 
 -- any number, and one below a count
 abbrev Any : ℕ → Type 0
@@ -238,10 +239,10 @@ module _ (program : Program) (known : List Knowledge) (schemes : List (Option sc
     reading_is : IsReading program.object (get_or program.procs number no_proc) context.reading
     reading_is =
         let within : number < length known = get-within known number is.knowledge is.is_known in
-        let at : get_or known number is.knowledge ≡ is.knowledge = get-is known number is.knowledge is.knowledge is.is_known in
+        let at : get_or known number is.knowledge ≡ is.knowledge = get_or_from_slice_get known number is.knowledge is.knowledge is.is_known in
         let here = are.each number no_proc is.knowledge within in
         let reading : get_or program.readings number context.reading ≡ context.reading =
-        get-is program.readings number (get_or known number is.knowledge).reading context.reading here.reading
+        get_or_from_slice_get program.readings number (get_or known number is.knowledge).reading context.reading here.reading
         ∙ ap (λ (k : Knowledge). k.reading) at ∙ sym is.reading
         in
         subst (IsReading program.object (get_or program.procs number no_proc)) reading

@@ -19,16 +19,6 @@ get-within [] i x e = cc
 get-within (y ∷ xs) zero x e = omega arith
 get-within (y ∷ xs) (suc i) x e = let less : i < length xs = get-within xs i x e in omega arith
 
-pub get-is : {X : Type 0} (xs : List X) (i : ℕ) (x d : X) → slice_get xs i ≡ Some x → get_or xs i d ≡ x
-get-is [] i x d e = cc
-get-is (y ∷ xs) zero x d e = cc
-get-is (y ∷ xs) (suc i) x d e = get-is xs i x d e
-
-pub is-get : {X : Type 0} (xs : List X) (i : ℕ) (d : X) → i < length xs → slice_get xs i ≡ Some (get_or xs i d)
-is-get [] i d less = absurd (omega arith)
-is-get (y ∷ xs) zero d less = refl
-is-get (y ∷ xs) (suc i) d less = is-get xs i d (omega arith)
-
 -- one port more, from the last on
 pub labels-more : (f g : ℕ → Option Label) (ports : List (Label × ℕ)) (i rest : ℕ) (d : Label × ℕ) → i + 1 ≡ rest → i < length ports
     → ((q : ℕ) → g q ≡ cond (nat_eq (get_or ports i d).1 q) (Some (get_or ports i d).0) (f q)) → ((n : ℕ) → f n ≡ label_at (drop rest ports) n)

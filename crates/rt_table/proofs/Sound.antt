@@ -105,7 +105,7 @@ IsRootIn context G (root.Named n) = IsNameWithin (length context.reading.actions
 abbrev pub IsTermIn : Context → (ℕ → Type 0) → Term → Type 0
 IsTermIn context G x = IsRootIn context G x.root × IsGroupTerm x
 
-along_side : (r : Root) (w letters : List Label) → IsTrue (is_group_side r w) → IsTrue (is_group_side r (w ++ letters))
+pub along_side : (r : Root) (w letters : List Label) → IsTrue (is_group_side r w) → IsTrue (is_group_side r (w ++ letters))
 along_side (root.Proc p) [] letters h = cc
 along_side (root.Proc p) (label.In l ∷ w) letters h = refl
 along_side (root.Proc p) (label.Out n ∷ w) letters h = refl
@@ -125,26 +125,26 @@ IsArgument other = ⊥
 abbrev IsArgumentRegister : ℕ → Type 0
 IsArgumentRegister register = 10 + (register - 10) < 32
 
-argument_registers : All IsArgumentRegister (10 ∷ 11 ∷ 12 ∷ 13 ∷ 14 ∷ 15 ∷ 16 ∷ 17 ∷ [])
+pub argument_registers : All IsArgumentRegister (10 ∷ 11 ∷ 12 ∷ 13 ∷ 14 ∷ 15 ∷ 16 ∷ 17 ∷ [])
 argument_registers =
     All-cons IsArgumentRegister 10 (11 ∷ 12 ∷ 13 ∷ 14 ∷ 15 ∷ 16 ∷ 17 ∷ []) (lit< tt) (All-cons IsArgumentRegister 11 (12 ∷ 13 ∷ 14 ∷ 15 ∷ 16 ∷ 17 ∷ []) (lit< tt) (All-cons IsArgumentRegister 12 (13 ∷ 14 ∷ 15 ∷ 16 ∷ 17 ∷ []) (lit< tt) (All-cons IsArgumentRegister 13 (14 ∷ 15 ∷ 16 ∷ 17 ∷ []) (lit< tt) (All-cons IsArgumentRegister 14 (15 ∷ 16 ∷ 17 ∷ []) (lit< tt) (All-cons IsArgumentRegister 15 (16 ∷ 17 ∷ []) (lit< tt) (All-cons IsArgumentRegister 16 (17 ∷ []) (lit< tt) (All-cons IsArgumentRegister 17 ([]) (lit< tt) (All-nil IsArgumentRegister))))))))
 
 abbrev IsArgumentNumber : ℕ → Type 0
 IsArgumentNumber n = 10 + n < 32
 
-argument_numbers : All IsArgumentNumber (0 ∷ 1 ∷ 2 ∷ 3 ∷ 4 ∷ 5 ∷ 6 ∷ 7 ∷ [])
+pub argument_numbers : All IsArgumentNumber (0 ∷ 1 ∷ 2 ∷ 3 ∷ 4 ∷ 5 ∷ 6 ∷ 7 ∷ [])
 argument_numbers =
     All-cons IsArgumentNumber 0 (1 ∷ 2 ∷ 3 ∷ 4 ∷ 5 ∷ 6 ∷ 7 ∷ []) (lit< tt) (All-cons IsArgumentNumber 1 (2 ∷ 3 ∷ 4 ∷ 5 ∷ 6 ∷ 7 ∷ []) (lit< tt) (All-cons IsArgumentNumber 2 (3 ∷ 4 ∷ 5 ∷ 6 ∷ 7 ∷ []) (lit< tt) (All-cons IsArgumentNumber 3 (4 ∷ 5 ∷ 6 ∷ 7 ∷ []) (lit< tt) (All-cons IsArgumentNumber 4 (5 ∷ 6 ∷ 7 ∷ []) (lit< tt) (All-cons IsArgumentNumber 5 (6 ∷ 7 ∷ []) (lit< tt) (All-cons IsArgumentNumber 6 (7 ∷ []) (lit< tt) (All-cons IsArgumentNumber 7 ([]) (lit< tt) (All-nil IsArgumentNumber))))))))
 
-register_labels : (call : Call) → All IsArgument (register_arguments call)
+pub register_labels : (call : Call) → All IsArgument (register_arguments call)
 register_labels call =
     All-map IsArgument (λ (register : ℕ). label.In (Arg (register - 10))) (taken_registers call)
     (λ k d less. All-filter (takes_register call) IsArgumentRegister (10 ∷ 11 ∷ 12 ∷ 13 ∷ 14 ∷ 15 ∷ 16 ∷ 17 ∷ []) argument_registers k d less)
 
-stack_labels : (words : List ℕ) → All IsArgument (stack_arguments words)
+pub stack_labels : (words : List ℕ) → All IsArgument (stack_arguments words)
 stack_labels words = All-map IsArgument (λ (k : ℕ). label.In (Stack k)) words (λ k d less. tt)
 
-port_labels : (ports : List (Label × ℕ)) (covered : Option ℕ) → All IsArgument (port_arguments ports covered)
+pub port_labels : (ports : List (Label × ℕ)) (covered : Option ℕ) → All IsArgument (port_arguments ports covered)
 port_labels ports covered =
     All-append IsArgument (map (λ (n : ℕ). label.In (Arg n)) (port_registers ports covered)) (stack_arguments (port_words ports))
     (All-map IsArgument (λ (n : ℕ). label.In (Arg n)) (port_registers ports covered)
@@ -626,7 +626,7 @@ module _ (context : Context) (G : ℕ → Type 0) (C : ℕ → Type 0) where
         (good-names x (All-head IsGoodItem (item.Told x) items h)))))
         h)
 
-any_value : (v : Value) → HasGlobal (λ _. Unit {0}) v
+pub any_value : (v : Value) → HasGlobal (λ _. Unit {0}) v
 any_value (value.Const n) = tt
 any_value (value.Sym g offset) = tt
 any_value (value.Frame k) = tt
@@ -634,11 +634,11 @@ any_value (value.Entry r offset) = tt
 any_value (value.At site r offset) = tt
 any_value value.Multi = tt
 
-any_address : (a : Address) → HasGlobalIn (λ _. Unit {0}) a
+pub any_address : (a : Address) → HasGlobalIn (λ _. Unit {0}) a
 any_address (address.Symbol g addend) = tt
 any_address (address.Register r k) = tt
 
-any_action : (act : Action) → HasGlobals (λ _. Unit {0}) act
+pub any_action : (act : Action) → HasGlobals (λ _. Unit {0}) act
 any_action (action.Load l to a) = any_address a
 any_action (action.Store w stored a) = any_address a
 any_action (action.Constant to v) = tt

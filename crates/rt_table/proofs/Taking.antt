@@ -5,7 +5,7 @@ use Rattle.std.specs.Int.{cast_unsigned, int_wrap, w32}
 use Rattle.std.specs.List.{list_any}
 use Rattle.std.specs.Ordering.{is_eq, nat_cmp}
 use Rattle.std.specs.BTreeSet.{BTreeSet, contains, Updates}
-use Rattle.std.proofs.lemmas.Bool.{cases_lt, false≢true}
+use Rattle.std.proofs.lemmas.Bool.{cases_lt, false≢true, and_parts, or_right, or_cases}
 use Rattle.std.proofs.lemmas.Bool.Decides.{nat_tests}
 use Rattle.std.proofs.lemmas.Cmp.{nat_cmp_total}
 use Rattle.std.proofs.lemmas.Int.{ints}
@@ -92,18 +92,6 @@ word_number k e = grind (arith, ints, nat_tests)
 pub word_loc : (k : ℤ) → is_stack_word k ≡ true → IsLoc (Stack (cast_unsigned w32 k))
 word_loc k e = (grind (arith, ints, nat_tests), grind (arith, ints, nat_tests))
 
-both_true : (b c : Bool) → (b && c) ≡ true → (b ≡ true) × (c ≡ true)
-both_true true c e = (refl, e)
-both_true false c e = cc
-
-either_true : (b c : Bool) → (b || c) ≡ true → (b ≡ true) ⊎ (c ≡ true)
-either_true true c e = inl refl
-either_true false c e = inr e
-
-right_true : (b c : Bool) → c ≡ true → (b || c) ≡ true
-right_true true c e = refl
-right_true false c e = e
-
 -- an access that goes to the frame itself goes there at its own offset
 spot_by : (saved : List ℤ) (k : ℤ) (o : Option ℤ) → is_location (spot_from saved k o) ≡ true → spot_from saved k o ≡ spot.Location k
 spot_by saved k None e = refl
@@ -134,7 +122,7 @@ module _ (frame : Frame) (site : ℕ) (k : ℤ) where
       record { byte = byte; is_byte = less; passed = (found.0, found.2, get_or_default defs found.0 Entry found.1 found.2 ∙ (found.3 ∙ same)) }
 
   word_passed : is_passed_word frame site k ≡ true → Passed
-  word_passed e = by_first (either_true (is_passed_byte frame site k 0) (is_passed_byte frame site k 1 || (is_passed_byte frame site k 2 || is_passed_byte frame site k 3)) e)
+  word_passed e = by_first (or_cases (is_passed_byte frame site k 0) (is_passed_byte frame site k 1 || (is_passed_byte frame site k 2 || is_passed_byte frame site k 3)) e)
     where
       by_third : (is_passed_byte frame site k 2 ≡ true) ⊎ (is_passed_byte frame site k 3 ≡ true) → Passed
       by_third (inl h) = byte_passed 2 (omega arith) h
@@ -142,11 +130,11 @@ module _ (frame : Frame) (site : ℕ) (k : ℤ) where
 
       by_second : (is_passed_byte frame site k 1 ≡ true) ⊎ ((is_passed_byte frame site k 2 || is_passed_byte frame site k 3) ≡ true) → Passed
       by_second (inl h) = byte_passed 1 (omega arith) h
-      by_second (inr h) = by_third (either_true (is_passed_byte frame site k 2) (is_passed_byte frame site k 3) h)
+      by_second (inr h) = by_third (or_cases (is_passed_byte frame site k 2) (is_passed_byte frame site k 3) h)
 
       by_first : (is_passed_byte frame site k 0 ≡ true) ⊎ ((is_passed_byte frame site k 1 || (is_passed_byte frame site k 2 || is_passed_byte frame site k 3)) ≡ true) → Passed
       by_first (inl h) = byte_passed 0 (omega arith) h
-      by_first (inr h) = by_second (either_true (is_passed_byte frame site k 1) (is_passed_byte frame site k 2 || is_passed_byte frame site k 3) h)
+      by_first (inr h) = by_second (or_cases (is_passed_byte frame site k 1) (is_passed_byte frame site k 2 || is_passed_byte frame site k 3) h)
 
   passed_byte : (byte : ℕ) → Contains (frame.reaching site (byte_at (k +ℤ pos byte))) Entry → is_passed_byte frame site k byte ≡ true
   passed_byte byte (i, less, at) =
@@ -156,16 +144,16 @@ module _ (frame : Frame) (site : ℕ) (k : ℤ) where
   passed_word : (byte : ℕ) → byte < 4 → Contains (frame.reaching site (byte_at (k +ℤ pos byte))) Entry → is_passed_word frame site k ≡ true
   passed_word zero less c = ap (λ b. b || (is_passed_byte frame site k 1 || (is_passed_byte frame site k 2 || is_passed_byte frame site k 3))) (passed_byte 0 c)
   passed_word (suc zero) less c =
-      right_true (is_passed_byte frame site k 0) (is_passed_byte frame site k 1 || (is_passed_byte frame site k 2 || is_passed_byte frame site k 3))
+      or_right (is_passed_byte frame site k 0) (is_passed_byte frame site k 1 || (is_passed_byte frame site k 2 || is_passed_byte frame site k 3))
       (ap (λ b. b || (is_passed_byte frame site k 2 || is_passed_byte frame site k 3)) (passed_byte 1 c))
   passed_word (suc (suc zero)) less c =
-      right_true (is_passed_byte frame site k 0) (is_passed_byte frame site k 1 || (is_passed_byte frame site k 2 || is_passed_byte frame site k 3))
-      (right_true (is_passed_byte frame site k 1) (is_passed_byte frame site k 2 || is_passed_byte frame site k 3)
+      or_right (is_passed_byte frame site k 0) (is_passed_byte frame site k 1 || (is_passed_byte frame site k 2 || is_passed_byte frame site k 3))
+      (or_right (is_passed_byte frame site k 1) (is_passed_byte frame site k 2 || is_passed_byte frame site k 3)
       (ap (λ b. b || is_passed_byte frame site k 3) (passed_byte 2 c)))
   passed_word (suc (suc (suc zero))) less c =
-      right_true (is_passed_byte frame site k 0) (is_passed_byte frame site k 1 || (is_passed_byte frame site k 2 || is_passed_byte frame site k 3))
-      (right_true (is_passed_byte frame site k 1) (is_passed_byte frame site k 2 || is_passed_byte frame site k 3)
-      (right_true (is_passed_byte frame site k 2) (is_passed_byte frame site k 3) (passed_byte 3 c)))
+      or_right (is_passed_byte frame site k 0) (is_passed_byte frame site k 1 || (is_passed_byte frame site k 2 || is_passed_byte frame site k 3))
+      (or_right (is_passed_byte frame site k 1) (is_passed_byte frame site k 2 || is_passed_byte frame site k 3)
+      (or_right (is_passed_byte frame site k 2) (is_passed_byte frame site k 3) (passed_byte 3 c)))
   passed_word (suc (suc (suc (suc byte)))) less c = absurd (omega arith)
 
 -- Sites.
@@ -178,7 +166,7 @@ record TakenAt (frame : Frame) (site : ℕ) (v : Value) (k : ℕ) : Type 0 where
 taken_frame : (frame : Frame) (site : ℕ) (a : ℤ) (k : ℕ) (b : Bool) → takes_at frame site a ≡ b → cond b (Some (cast_unsigned w32 a)) None ≡ Some k → TakenAt frame site (value.Frame a) k
 taken_frame frame site a k true takes e =
     let is : cast_unsigned w32 a ≡ k = cc in
-    let number : a ≡ pos k = sym (word_number a (both_true (is_stack_word a) (is_location (spot_at frame.layout a) && is_passed_word frame site a) takes).0) ∙ ap pos is in
+    let number : a ≡ pos k = sym (word_number a (and_parts (is_stack_word a) (is_location (spot_at frame.layout a) && is_passed_word frame site a) takes).0) ∙ ap pos is in
     record { there = ap value.Frame number; takes = subst (λ m. takes_at frame site m ≡ true) number takes }
 taken_frame frame site a k false takes e = cc
 
@@ -188,7 +176,7 @@ taken_value frame site v k e = absurd (cc)
 
 value_taken : (frame : Frame) (site : ℕ) (v : Value) (k : ℕ) → v ≡ value.Frame (pos k) → takes_at frame site (pos k) ≡ true → taken_at frame site v ≡ Some k
 value_taken frame site v k there takes =
-    let is_word : is_stack_word (pos k) ≡ true = (both_true (is_stack_word (pos k)) (is_location (spot_at frame.layout (pos k)) && is_passed_word frame site (pos k)) takes).0 in
+    let is_word : is_stack_word (pos k) ≡ true = (and_parts (is_stack_word (pos k)) (is_location (spot_at frame.layout (pos k)) && is_passed_word frame site (pos k)) takes).0 in
     let number : pos (cast_unsigned w32 (pos k)) ≡ pos k = word_number (pos k) is_word in
     let same : cast_unsigned w32 (pos k) ≡ k = cc in
     subst (λ w. taken_at frame site w ≡ Some k) (sym there)
@@ -206,8 +194,8 @@ module _ (reading : Reading) (frame : Frame) where
   word_taken : (k site : ℕ) (act : Action) → site < length reading.actions → action_at reading.actions site ≡ act → taken_by reading frame site act ≡ Some k → TakesWord reading frame k
   word_taken k site (action.Load loaded.Word to a) within is e =
       let t = taken_value frame site (address_value reading site a) k e in
-      let parts = both_true (is_stack_word (pos k)) (is_location (spot_at frame.layout (pos k)) && is_passed_word frame site (pos k)) t.takes in
-      let rest = both_true (is_location (spot_at frame.layout (pos k))) (is_passed_word frame site (pos k)) parts.1 in
+      let parts = and_parts (is_stack_word (pos k)) (is_location (spot_at frame.layout (pos k)) && is_passed_word frame site (pos k)) t.takes in
+      let rest = and_parts (is_location (spot_at frame.layout (pos k))) (is_passed_word frame site (pos k)) parts.1 in
       let p = word_passed frame site (pos k) rest.1 in
       record {
         is_word = parts.0;

@@ -29,10 +29,7 @@ use Rattle.rt_table.specs.Table.Writes.{ends, places, writes, opens}
 use Rattle.rt_table.specs.Facts.{Knowledge, TakesWord, IsKnown, AreKnown}
 use Rattle.rt_table.specs.Lists.{IsContext, AreRowsOf, AreLinesOf, linked_in}
 use Rattle.rt_table.specs.Laws.{OneList}
-
--- items are written in one way
-one_some : {X : Type 0} (o : Option X) (x y : X) → o ≡ Some x → o ≡ Some y → x ≡ y
-one_some o x y e f = same_Some x y (sym e ∙ f)
+use Rattle.rt_base.proofs.Options.{one_some}
 
 not_some : {X : Type 0} (o : Option X) (x : X) → o ≡ None → o ≡ Some x → ⊥
 not_some o x e f = none-some x (sym e ∙ f)

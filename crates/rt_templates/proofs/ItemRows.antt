@@ -66,6 +66,7 @@ use Rattle.rt_table.specs.Table.{side_of, site_items, site_rows, spot_flow, spot
 use Rattle.rt_table.specs.Table.{store_rows, store_through, stored_side, symbol_side, tail_result, tail_results, target_at, through, told}
 use Rattle.rt_table.specs.Table.{unknown_result, use_side, value_pointer, value_side, width_bits, word_defs, word_flow, written_by}
 use Rattle.rt_table.specs.Table.{written_side}
+use Rattle.rt_table.proofs.Sound.{global-plus, along_side, first-closed-of, any_value, any_address, any_action}
 
 -- whatever register, of the shape of an action
 abbrev Any : Type 0
@@ -137,14 +138,6 @@ pub record IsSound (context : Context) (G : ℕ → Type 0) (C : ℕ → Type 0)
   pub defs : (site r : ℕ) → Any → Any → All (λ d. HasGlobal G (def_value context.reading r d)) (context.reading.reaching site r)
   pub held : (site i : ℕ) → HasHeldRegister P (target_at (linked_at context site) i)
 
-pub global-plus : (G : ℕ → Type 0) (v : Value) (k : ℤ) → HasGlobal G v → HasGlobal G (plus v k)
-global-plus G (value.Const n) k h = tt
-global-plus G (value.Sym symbol offset) k h = h
-global-plus G (value.Frame offset) k h = tt
-global-plus G (value.Entry r offset) k h = tt
-global-plus G (value.At site r offset) k h = tt
-global-plus G value.Multi k h = tt
-
 -- a root is a procedure, such a global, or what stands for a merge of the procedure's registers at its sites or no merge
 abbrev pub IsRootIn : Context → (ℕ → Type 0) → (ℕ → Type 0) → Root → Type 0
 IsRootIn context G P (root.Proc p) = P p
@@ -156,17 +149,6 @@ IsRootIn context G P (root.Named n) = IsRowName (length context.reading.actions)
 abbrev pub IsTermIn : Context → (ℕ → Type 0) → (ℕ → Type 0) → Term → Type 0
 IsTermIn context G P x = IsRootIn context G P x.root × IsGroupTerm x
 
-along_side : (r : Root) (w letters : List Label) → IsTrue (is_group_side r w) → IsTrue (is_group_side r (w ++ letters))
-along_side (root.Proc p) [] letters h = cc
-along_side (root.Proc p) (label.In l ∷ w) letters h = refl
-along_side (root.Proc p) (label.Out n ∷ w) letters h = refl
-along_side (root.Proc p) (label.Load ∷ w) letters h = cc
-along_side (root.Proc p) (label.Store ∷ w) letters h = cc
-along_side (root.Proc p) (label.Field b k ∷ w) letters h = cc
-along_side (root.Global g) w letters h = refl
-along_side (root.Outer n) w letters h = cc
-along_side (root.Named n) w letters h = refl
-
 -- a label of an argument; its register is one of x0 to x31
 abbrev IsArgument : Label → Type 0
 IsArgument (label.In (Arg n)) = Any
@@ -176,12 +158,12 @@ IsArgument other = ⊥
 abbrev IsArgumentRegister : ℕ → Type 0
 IsArgumentRegister register = Any
 
+abbrev IsArgumentNumber : ℕ → Type 0
+IsArgumentNumber n = Any
+
 argument_registers : All IsArgumentRegister (10 ∷ 11 ∷ 12 ∷ 13 ∷ 14 ∷ 15 ∷ 16 ∷ 17 ∷ [])
 argument_registers =
     All-cons IsArgumentRegister 10 (11 ∷ 12 ∷ 13 ∷ 14 ∷ 15 ∷ 16 ∷ 17 ∷ []) tt (All-cons IsArgumentRegister 11 (12 ∷ 13 ∷ 14 ∷ 15 ∷ 16 ∷ 17 ∷ []) tt (All-cons IsArgumentRegister 12 (13 ∷ 14 ∷ 15 ∷ 16 ∷ 17 ∷ []) tt (All-cons IsArgumentRegister 13 (14 ∷ 15 ∷ 16 ∷ 17 ∷ []) tt (All-cons IsArgumentRegister 14 (15 ∷ 16 ∷ 17 ∷ []) tt (All-cons IsArgumentRegister 15 (16 ∷ 17 ∷ []) tt (All-cons IsArgumentRegister 16 (17 ∷ []) tt (All-cons IsArgumentRegister 17 ([]) tt (All-nil IsArgumentRegister))))))))
-
-abbrev IsArgumentNumber : ℕ → Type 0
-IsArgumentNumber n = Any
 
 argument_numbers : All IsArgumentNumber (0 ∷ 1 ∷ 2 ∷ 3 ∷ 4 ∷ 5 ∷ 6 ∷ 7 ∷ [])
 argument_numbers =
@@ -201,16 +183,6 @@ port_labels ports covered =
     (All-map IsArgument (λ (n : ℕ). label.In (Arg n)) (port_registers ports covered)
     (λ k d less. All-filter (λ (n : ℕ). has_port ports (label.In (Arg n)) || is_covered covered n) IsArgumentNumber (0 ∷ 1 ∷ 2 ∷ 3 ∷ 4 ∷ 5 ∷ 6 ∷ 7 ∷ []) argument_numbers k d less))
     (stack_labels (port_words ports))
-
--- the first closed merge among names is one of them
-pub first-closed-of : (P : Name → Type 0) (open_names names : List Name) (merge : Name) → first_closed open_names names ≡ Some merge → All P names → P merge
-first-closed-of P open_names [] merge e h = cc
-first-closed-of P open_names (x ∷ names) merge e h =
-    elim (is_closed open_names x) as (λ b. cond b (Some x) (first_closed open_names names) ≡ Some merge → P merge) [
-      | true ↦ λ (same : Some x ≡ Some merge). (let is : x ≡ merge = cc in subst P is (All-head P x names h))
-      | false ↦ λ (later : first_closed open_names names ≡ Some merge). first-closed-of P open_names names merge later (All-tail P x names h)
-    ]
-    e
 
 module _ (context : Context) (G : ℕ → Type 0) (C : ℕ → Type 0) (P : ℕ → Type 0) (own_proc : P context.procedure) where
   abbrev sites : ℕ
@@ -672,33 +644,6 @@ module _ (context : Context) (G : ℕ → Type 0) (C : ℕ → Type 0) (P : ℕ 
         (tells (merge_rows context merge) (good-merge merge (first-closed-of (IsRowName sites) open_names (row_names x) merge e
         (good-names x (All-head IsGoodItem (item.Told x) items h)))))
         h)
-
-any_value : (v : Value) → HasGlobal (λ _. Unit {0}) v
-any_value (value.Const n) = tt
-any_value (value.Sym g offset) = tt
-any_value (value.Frame k) = tt
-any_value (value.Entry r offset) = tt
-any_value (value.At site r offset) = tt
-any_value value.Multi = tt
-
-any_address : (a : Address) → HasGlobalIn (λ _. Unit {0}) a
-any_address (address.Symbol g addend) = tt
-any_address (address.Register r k) = tt
-
-any_action : (act : Action) → HasGlobals (λ _. Unit {0}) act
-any_action (action.Load l to a) = any_address a
-any_action (action.Store w stored a) = any_address a
-any_action (action.Constant to v) = tt
-any_action (action.Symbol to x a) = tt
-any_action (action.AddImmediate to from n) = tt
-any_action (action.Add to left right) = tt
-any_action (action.Compute o to left right) = tt
-any_action (action.Compare left right) = tt
-any_action (action.Write to) = tt
-any_action action.Pass = tt
-any_action (action.Call callee link) = tt
-any_action action.Return = tt
-any_action action.Stop = tt
 
 -- whatever globals and constants are named
 pub any-sound : (P : ℕ → Type 0) (context : Context) → ((site i : ℕ) → HasHeldRegister P (target_at (linked_at context site) i))

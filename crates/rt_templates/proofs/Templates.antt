@@ -45,6 +45,8 @@ use Rattle.rt_templates.specs.Tables.{IsTemplateOf, called_in, called_of, given_
 use Rattle.rt_templates.proofs.ItemRows.{HasHeldRegister, IsGood, IsGoodItem, IsRootIn, any-sound, good-items, good-written}
 use Rattle.std.proofs.lemmas.Bool.{eqb-true}
 use Rattle.rt_base.proofs.Lists.{list_any-at}
+use Rattle.rt_table.proofs.Looking.{get-within}
+use Rattle.std.proofs.lemmas.Option.{get_or_from_slice_get, slice_get-get_or}
 
 pub member-contains : (group : List ℕ) (q : ℕ) → is_member group q ≡ true → Contains group q
 member-contains group q e = let s = list_any-at (nat_eq q) group e in subst (Contains group) (sym (eqb-true q s.0 s.2)) s.1
@@ -194,21 +196,6 @@ module _ (program : Program) (schemes : List (Option Scheme)) (group : List ℕ)
         let s = called_in-source (slice_index_or (context_is.knowledge).calls site []) i q (sym (is.called_are site i) ∙ e) in
         true≢false (sym (member-has group q c) ∙ s.2.1)
 
-get-within : {X : Type 0} (xs : List X) (i : ℕ) (x : X) → slice_get xs i ≡ Some x → i < length xs
-get-within [] i x e = cc
-get-within (y ∷ xs) zero x e = omega arith
-get-within (y ∷ xs) (suc i) x e = let less : i < length xs = get-within xs i x e in omega arith
-
-get-is : {X : Type 0} (xs : List X) (i : ℕ) (x d : X) → slice_get xs i ≡ Some x → get_or xs i d ≡ x
-get-is [] i x d e = cc
-get-is (y ∷ xs) zero x d e = cc
-get-is (y ∷ xs) (suc i) x d e = get-is xs i x d e
-
-is-get : {X : Type 0} (xs : List X) (i : ℕ) (d : X) → i < length xs → slice_get xs i ≡ Some (get_or xs i d)
-is-get [] i d less = absurd (omega arith)
-is-get (y ∷ xs) zero d less = refl
-is-get (y ∷ xs) (suc i) d less = is-get xs i d (omega arith)
-
 -- what a list has at a place that is none of it
 pub some-within : (schemes : List (Option Scheme)) (q : ℕ) (s : Scheme) → slice_index_or schemes q None ≡ Some s → q < length schemes
 some-within [] q s e = cc
@@ -292,11 +279,11 @@ module _ (object : Object) (roles : Roles) (procs : List Proc) (signatures : Lis
       let p_known : p < length known = get-within known p knowledge (is.is_context).is_known in
       let p_within : p < length procs = subst (λ n. p < n) are_known.one_each p_known in
       let calls : AreCallsIn (program_of readings) p (get_or procs p no_proc) knowledge.calls =
-      subst (λ (k : Knowledge). AreCallsIn (program_of readings) p (get_or procs p no_proc) k.calls) (get-is known p knowledge knowledge (is.is_context).is_known)
+      subst (λ (k : Knowledge). AreCallsIn (program_of readings) p (get_or procs p no_proc) k.calls) (get_or_from_slice_get known p knowledge knowledge (is.is_context).is_known)
       (are_known.each p no_proc knowledge p_known).calls in
       let lead = callee-there (program_of readings) q p (get_or procs p no_proc) knowledge.calls calls site s.0 s.1 s.2.0 in
       let q_within : q < length procs = subst (λ n. q < n) one_each (some-within schemes q s.2.2 s.2.3) in
-      by s.2.1 (are_groups.may k within p q c (q_within, (get_or procs p no_proc, is-get procs p no_proc p_within, lead)))
+      by s.2.1 (are_groups.may k within p q c (q_within, (get_or procs p no_proc, slice_get-get_or procs p no_proc p_within, lead)))
     where
       by : is_member (get_or groups k []) q ≡ false → Contains (group_at groups k) q ⊎ IsAmongFirst groups k q → IsAmongFirst groups k q
       by f (inl d) = absurd (true≢false (sym (member-has (get_or groups k []) q d) ∙ f))

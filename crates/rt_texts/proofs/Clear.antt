@@ -1,5 +1,5 @@
 -- Bytes that do not stand in texts: dots in labels and bases, spaces in variables and constants.
-use Rattle.std.proofs.Common.{◌≡◌, ◌≢◌, ℕ, suc, ◌+◌, ◌<◌, ◌^◌, ◌%◌, ◌⊎◌, List, [], ◌∷◌, ◌++◌, Bool, true, false, ◌&&◌, nat_lt, refl, inl, inr, arith, codes, decimal, ℤ, pos, negsuc, FitsSigned, w32, All, length, slice_index_or}
+use Rattle.std.proofs.Common.{◌≡◌, ◌≢◌, ℕ, suc, ◌+◌, ◌<◌, ◌^◌, ◌%◌, ◌⊎◌, List, [], ◌∷◌, ◌++◌, Bool, true, false, ◌&&◌, nat_lt, refl, inl, inr, arith, codes, decimal, ℤ, pos, negsuc, FitsSigned, w32, All, length, slice_index_or, ◌≤◌}
 use Rattle.std.specs.Fmt.{signed_decimal}
 use Rattle.std.proofs.lemmas.Bool.{false≢true, ltb-true, and_parts}
 use Rattle.std.proofs.lemmas.Fmt.{decimal_by_steps}
@@ -91,3 +91,20 @@ pub HasNo-constant : (names : List (List ℕ)) (k : ℕ) → AreNames names → 
 HasNo-constant names k good h =
     let spelled : IsName (slice_index_or names k []) = good.spelled k [] h in
     (λ e. absurd (omega arith), HasNo-name_bytes (slice_index_or names k []) spelled.rest)
+
+-- each byte is greater
+abbrev pub AreAbove : ℕ → List ℕ → Type 0
+AreAbove low [] = Unit {0}
+AreAbove low (b ∷ bs) = (low < b) × AreAbove low bs
+
+pub AreAbove-append : (low : ℕ) (a b : List ℕ) → AreAbove low a → AreAbove low b → AreAbove low (a ++ b)
+AreAbove-append low [] b h k = k
+AreAbove-append low (x ∷ a) b (h, hs) k = (h, AreAbove-append low a b hs k)
+
+pub AreAbove-less : (low less : ℕ) (a : List ℕ) → less ≤ low → AreAbove low a → AreAbove less a
+AreAbove-less low less [] le h = tt
+AreAbove-less low less (x ∷ a) le (h, hs) = (omega arith, AreAbove-less low less a le hs)
+
+pub HasNo-above : (byte low : ℕ) (a : List ℕ) → byte ≤ low → AreAbove low a → HasNo byte a
+HasNo-above byte low [] le h = tt
+HasNo-above byte low (x ∷ a) le (h, hs) = (λ e. absurd (omega arith), HasNo-above byte low a le hs)

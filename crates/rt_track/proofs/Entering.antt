@@ -14,7 +14,8 @@ use Rattle.rt_track.specs.declared.ops.Ops.{Ops}
 use Rattle.rt_track.specs.declared.value.Value.{Value}
 use Rattle.rt_track.specs.Operations.{entries_of, number_in, op_in, ops_sites}
 use Rattle.rt_track.specs.Placed.{IsWithin, place_eq}
-use Rattle.rt_track.proofs.Operating.{all_at, place_itself, place_same}
+use Rattle.rt_track.proofs.Operating.{place_itself, place_same}
+use Rattle.rt_base.proofs.Lists.{All-at}
 
 key_at : (es : List ((ℕ × ℕ) × Op)) (n : ℕ) (d : (ℕ × ℕ) × Op) → slice_index_or (keys_of es) n d.0 ≡ (slice_index_or es n d).0
 key_at [] n d = refl
@@ -55,7 +56,7 @@ no_entry ops s r e = by (lookup (place_eq (s, r)) ops.given.entries) (sym (some_
 -- an operation that was given stands within sites and registers
 pub entry_within : (ops : Ops) (s r n : ℕ) → number_in ops s r ≡ Some n → IsWithin (ops_sites ops) ((s, r), op_in ops s r)
 unfolding entries_of ops_sites
-entry_within ops s r n e = all_at (IsWithin ops.sites) ops.given.entries n ((s, r), op_in ops s r) ops.within (entry_at ops s r n e)
+entry_within ops s r n e = All-at (IsWithin ops.sites) ops.given.entries n ((s, r), op_in ops s r) ops.within (entry_at ops s r n e)
 
 -- what definitions of lower numbers have
 abbrev pub upto : ℕ → (ℕ → Value) → Option ℕ → Option Value

@@ -4,7 +4,7 @@ use Rattle.std.specs.Prelude.{slice_get}
 use Rattle.std.proofs.lemmas.Bool.{cases_lt}
 use Rattle.std.proofs.lemmas.List.{length-append}
 use Rattle.std.proofs.lemmas.Option.{slice_get_within}
-use Rattle.rt_track.proofs.Using.{slice_get-front, slice_get-last}
+use Rattle.rt_base.proofs.Lists.{slice_get-front, slice_get-last}
 
 -- the items before one are made of those of a list, each in its place behind some others
 pub record IsMade {X Y : Type 0} (before : ℕ) (f : X → Y) (xs : List X) (k : ℕ) (ys : List Y) : Type 0 where

@@ -68,7 +68,3 @@ place_laws = record {
 -- a definition with an operation has the number at which it stands
 pub numbered : (es : List ((ℕ × ℕ) × Op)) (n : ℕ) (k : ℕ × ℕ) (op : Op) → IsDistinct place_eq (keys_of es) → slice_get es n ≡ Some (k, op) → position (place_eq k) (keys_of es) ≡ Some n
 numbered es n k op distinct at = index-first (place_eq k) es n (own_first place_eq place_laws es n k op distinct at)
-
--- what holds of each holds of one
-pub all_at : {X : Type 0} (P : X → Type 0) (xs : List X) (n : ℕ) (x : X) → All P xs → slice_get xs n ≡ Some x → P x
-all_at P xs n x all at = subst P (get_or_from_slice_get xs n x x at) (all n x (slice_get_within xs n x at))

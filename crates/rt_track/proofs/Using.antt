@@ -19,18 +19,7 @@ use Rattle.rt_track.specs.Operations.{entries_of}
 use Rattle.rt_track.proofs.Changing.{change_at-push}
 use Rattle.rt_flow.specs.Reaching.{sites_of}
 use Rattle.rt_flow.specs.Sources.{shared_count_of, shared_in, source_in}
-
--- what stood in a list stands in a longer one
-pub slice_get-front : {X : Type 0} (xs ys : List X) (j : ℕ) (p : X) → slice_get xs j ≡ Some p → slice_get (xs ++ ys) j ≡ Some p
-slice_get-front xs ys j p e =
-    let less = slice_get_within xs j p e in
-    let long : j < length (xs ++ ys) = omega (arith, less, length-append xs ys) in
-    slice_get-get_or (xs ++ ys) j p long ∙ ap Some (get_or_append_left xs ys p j less ∙ get_or_from_slice_get xs j p p e)
-
-pub slice_get-last : {X : Type 0} (xs : List X) (p : X) → slice_get (xs ++ p ∷ []) (length xs) ≡ Some p
-slice_get-last xs p =
-    let long : length xs < length (xs ++ p ∷ []) = omega (arith, length-append xs (p ∷ [])) in
-    slice_get-get_or (xs ++ p ∷ []) (length xs) p long ∙ ap Some (get_or_push xs p p (length xs) refl)
+use Rattle.rt_base.proofs.Lists.{slice_get-front, slice_get-last}
 
 pub keeps_itself : (joins : List (Input × Input)) → Keeps joins joins
 keeps_itself joins j p e = e

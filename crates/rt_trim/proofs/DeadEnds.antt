@@ -1,7 +1,7 @@
 -- Dead ends of inside existentials may become their shape.
 use Rattle.std.proofs.Common.{◌≡◌, ℕ, ◌⊎◌, inl, inr, List, ◌∷◌, ◌++◌, All, Contains, Bool, true, refl, sym, subst}
 use Rattle.std.proofs.lemmas.List.Elements.{Contains-append_cases, Contains-append_left, Contains-append_right, All-contains}
-use Rattle.rt_base.proofs.Lists.{Contains-here, Contains-there, Contains-cons_cases}
+use Rattle.rt_base.proofs.Lists.{Contains-here, Contains-there, Contains-cons_cases, Contains-middle, Contains-wider, Contains-middle_cases}
 use Rattle.rt_lines.specs.declared.variable.Base.{Base}
 use Rattle.rt_lines.specs.declared.variable.Base.TheVariants.{Exist}
 use Rattle.rt_lines.specs.declared.line.Line.{Line}
@@ -18,30 +18,6 @@ use Rattle.rt_trim.specs.Trims.Trims.{none_left, trims}
 use Rattle.rt_trim.specs.Laws.{TrimAlikeLaw, TrimsAlikeLaw}
 use Rattle.rt_trim.proofs.Ends.{AreKept, derived_without as by_line}
 use Rattle.rt_trim.proofs.BoundEnds.{derived_without as by_bound}
-
--- an element of a list is the one at the cut, or one of the others
-pub cut_cases : {X : Type 0} (before : List X) (x : X) (after : List X) (y : X) → Contains (before ++ x ∷ after) y →
-    (x ≡ y) ⊎ Contains (before ++ after) y
-cut_cases before x after y c = by (Contains-append_cases before (x ∷ after) y c)
-  where
-    behind : (x ≡ y) ⊎ Contains after y → (x ≡ y) ⊎ Contains (before ++ after) y
-    behind (inl e) = inl e
-    behind (inr c) = inr (Contains-append_right before after y c)
-
-    by : Contains before y ⊎ Contains (x ∷ after) y → (x ≡ y) ⊎ Contains (before ++ after) y
-    by (inl c) = inr (Contains-append_left before after y c)
-    by (inr c) = behind (Contains-cons_cases x after y c)
-
-pub cut_here : {X : Type 0} (before : List X) (x : X) (after : List X) → Contains (before ++ x ∷ after) x
-cut_here before x after = Contains-append_right before (x ∷ after) x (Contains-here x after)
-
-pub cut_other : {X : Type 0} (before : List X) (x : X) (after : List X) (y : X) → Contains (before ++ after) y →
-    Contains (before ++ x ∷ after) y
-cut_other before x after y c = by (Contains-append_cases before after y c)
-  where
-    by : Contains before y ⊎ Contains after y → Contains (before ++ x ∷ after) y
-    by (inl c) = Contains-append_left before (x ∷ after) y c
-    by (inr c) = Contains-append_right before (x ∷ after) y (Contains-there x after y c)
 
 -- a line of the outside isn't of an inside existential
 outside_apart : (inside : Base → Bool) (n : ℕ) → inside (Exist n) ≡ true → (l : Line) → IsOutside inside l → IsFlowOf n l → ⊥
@@ -63,7 +39,7 @@ module _ (order : Below) (inside : Base → Bool) (n : ℕ) (before : List Line)
 
     has_shape : Derivable order others (shape_of l)
     has_shape = given order others (shape_of l)
-        (Contains-append_left (before ++ shape_of l ∷ after) added (shape_of l) (cut_here before (shape_of l) after))
+        (Contains-append_left (before ++ shape_of l ∷ after) added (shape_of l) (Contains-middle before (shape_of l) after))
 
     are_kept : AreKept order with_end others n l
     are_kept k c = by (Contains-append_cases (before ++ l ∷ after) added k c)
@@ -72,11 +48,11 @@ module _ (order : Below) (inside : Base → Bool) (n : ℕ) (before : List Line)
         cut (inl e) = inl e
         cut (inr c) = inr (
           All-contains (λ m. IsFlowOf n m → ⊥) (before ++ after) k end.sole c,
-          given order others k (Contains-append_left (before ++ shape_of l ∷ after) added k (cut_other before (shape_of l) after k c)),
+          given order others k (Contains-append_left (before ++ shape_of l ∷ after) added k (Contains-wider before (shape_of l) after k c)),
         )
 
         by : Contains (before ++ l ∷ after) k ⊎ Contains added k → (l ≡ k) ⊎ ((IsFlowOf n k → ⊥) × Derivable order others k)
-        by (inl c) = cut (cut_cases before l after k c)
+        by (inl c) = cut (Contains-middle_cases before l after k c)
         by (inr c) = inr (
           outside_apart inside n inner k (All-contains (IsOutside inside) added k outside c),
           given order others k (Contains-append_right (before ++ shape_of l ∷ after) added k c),
@@ -109,11 +85,11 @@ shape_derives order lines (Up x k) c = named (Up x k) c refl
 back : (order : Below) (inside : Base → Bool) (before : List Line) (l : Line) (after : List Line) →
     Covers order inside (before ++ shape_of l ∷ after) (before ++ l ∷ after)
 back order inside before l after = covers_lines order inside (before ++ shape_of l ∷ after) (before ++ l ∷ after)
-    (λ k c. by k (cut_cases before (shape_of l) after k c))
+    (λ k c. by k (Contains-middle_cases before (shape_of l) after k c))
   where
     by : (k : Line) → (shape_of l ≡ k) ⊎ Contains (before ++ after) k → Derivable order (before ++ l ∷ after) k
-    by k (inl e) = subst (Derivable order (before ++ l ∷ after)) e (shape_derives order (before ++ l ∷ after) l (cut_here before l after))
-    by k (inr c) = given order (before ++ l ∷ after) k (cut_other before l after k c)
+    by k (inl e) = subst (Derivable order (before ++ l ∷ after)) e (shape_derives order (before ++ l ∷ after) l (Contains-middle before l after))
+    by k (inr c) = given order (before ++ l ∷ after) k (Contains-wider before l after k c)
 
 pub trim_alike_lem : TrimAlikeLaw
 trim_alike_lem order inside n before l after inner end =

@@ -10,7 +10,7 @@ use Rattle.rt_reduction.specs.Laws.{HasNoSelf}
 use Rattle.rt_trim.specs.Trims.{IsEndOf, shape_of, Trims}
 use Rattle.rt_trim.specs.Trims.Trims.{none_left, trims}
 use Rattle.rt_trim.specs.Laws.{TrimsNamesLaw, TrimsConstantsLaw, TrimsOfSchemeLaw, TrimsNoSelfLaw}
-use Rattle.rt_trim.proofs.DeadEnds.{cut_cases, cut_other, cut_here}
+use Rattle.rt_base.proofs.Lists.{Contains-middle, Contains-wider, Contains-middle_cases}
 
 side_of_shape : (l : Line) (x : Dtv) → HasSide (shape_of l) x → HasSide l x
 side_of_shape (Var y) x h = h
@@ -60,14 +60,14 @@ shape_same n (Up y j) x h e = cc
 -- a line of the list with the shape is the shape, or stands in the list with the dead end
 with_shape : (lines before : List Line) (l : Line) (after : List Line) → lines ≡ before ++ l ∷ after → (k : Line) →
     Contains (before ++ shape_of l ∷ after) k → (shape_of l ≡ k) ⊎ Contains lines k
-with_shape lines before l after e k c = by (cut_cases before (shape_of l) after k c)
+with_shape lines before l after e k c = by (Contains-middle_cases before (shape_of l) after k c)
   where
     by : (shape_of l ≡ k) ⊎ Contains (before ++ after) k → (shape_of l ≡ k) ⊎ Contains lines k
     by (inl f) = inl f
-    by (inr c) = inr (subst (λ ks. Contains ks k) (sym e) (cut_other before l after k c))
+    by (inr c) = inr (subst (λ ks. Contains ks k) (sym e) (Contains-wider before l after k c))
 
 stands : (lines before : List Line) (l : Line) (after : List Line) → lines ≡ before ++ l ∷ after → Contains lines l
-stands lines before l after e = subst (λ ks. Contains ks l) (sym e) (cut_here before l after)
+stands lines before l after e = subst (λ ks. Contains ks l) (sym e) (Contains-middle before l after)
 
 -- a side of the list with the shape is one of the list with the dead end
 source_of_side : (lines before : List Line) (l : Line) (after : List Line) → lines ≡ before ++ l ∷ after → (k : Line) (x : Dtv) →
@@ -80,11 +80,11 @@ source_of_side lines before l after e k x c h = by (with_shape lines before l af
 
 side_stays : (before : List Line) (l : Line) (after : List Line) (k : Line) (x : Dtv) → Contains (before ++ l ∷ after) k → HasSide k x →
     (m : Line) × Contains (before ++ shape_of l ∷ after) m × HasSide m x
-side_stays before l after k x c h = by (cut_cases before l after k c)
+side_stays before l after k x c h = by (Contains-middle_cases before l after k c)
   where
     by : (l ≡ k) ⊎ Contains (before ++ after) k → (m : Line) × Contains (before ++ shape_of l ∷ after) m × HasSide m x
-    by (inl f) = (shape_of l, cut_here before (shape_of l) after, side_in_shape l x (subst (λ m. HasSide m x) (sym f) h))
-    by (inr c) = (k, cut_other before (shape_of l) after k c, h)
+    by (inl f) = (shape_of l, Contains-middle before (shape_of l) after, side_in_shape l x (subst (λ m. HasSide m x) (sym f) h))
+    by (inr c) = (k, Contains-wider before (shape_of l) after k c, h)
 
 side_back : (left lines : List Line) → Trims left lines → (k : Line) (x : Dtv) → Contains left k → HasSide k x →
     (m : Line) × Contains lines m × HasSide m x

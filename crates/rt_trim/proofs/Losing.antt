@@ -10,8 +10,8 @@ use Rattle.rt_reduction.specs.Emits.{is_flow}
 use Rattle.rt_trim.specs.Trims.{IsFlowOf, shape_of, Trims}
 use Rattle.rt_trim.specs.Trims.Trims.{none_left, trims}
 use Rattle.rt_trim.specs.Laws.{TrimsFlowLaw, TrimsJoinedLaw, TrimsUnusedLaw}
-use Rattle.rt_trim.proofs.DeadEnds.{cut_cases, cut_other, cut_here}
 use Rattle.rt_trim.proofs.OneTrim.{shape_apart, comes_first}
+use Rattle.rt_base.proofs.Lists.{Contains-middle, Contains-wider, Contains-middle_cases}
 
 shape_no_flow : (l : Line) → is_flow (shape_of l) ≡ false
 shape_no_flow (Var x) = refl
@@ -30,20 +30,20 @@ flow_is n (Up x k) h = refl
 flow_back : (left lines : List Line) → Trims left lines → (k : Line) → Contains left k → is_flow k ≡ true → Contains lines k
 flow_back left lines (none_left none) k c flow = c
 flow_back left lines (trims now n before l after e end rest) k c flow =
-    by (cut_cases before (shape_of l) after k (flow_back left (before ++ shape_of l ∷ after) rest k c flow))
+    by (Contains-middle_cases before (shape_of l) after k (flow_back left (before ++ shape_of l ∷ after) rest k c flow))
   where
     by : (shape_of l ≡ k) ⊎ Contains (before ++ after) k → Contains now k
     by (inl f) =
         let g : is_flow k ≡ false = subst (λ m. is_flow m ≡ false) f (shape_no_flow l) in
         absurd (cc)
-    by (inr c) = subst (λ ks. Contains ks k) (sym e) (cut_other before l after k c)
+    by (inr c) = subst (λ ks. Contains ks k) (sym e) (Contains-wider before l after k c)
 
 pub trims_flow_lem : TrimsFlowLaw
 trims_flow_lem lines left t l c flow = flow_back left lines t l c flow
 
 pub trims_unused_lem : TrimsUnusedLaw
 trims_unused_lem lines left t n before l after e end k c flow =
-    by (cut_cases before (shape_of l) after k
+    by (Contains-middle_cases before (shape_of l) after k
     (flow_back left (before ++ shape_of l ∷ after) (comes_first left lines t n before l after e end) k c (flow_is n k flow)))
   where
     by : (shape_of l ≡ k) ⊎ Contains (before ++ after) k → ⊥
@@ -75,19 +75,19 @@ joined_by first second gives a b (joined_line {b = m} k c h rest) =
 
 joins_back : (before : List Line) (l : Line) (after : List Line) (k : Line) (a b : Base) → Contains (before ++ shape_of l ∷ after) k →
     Joins k a b → (m : Line) × Contains (before ++ l ∷ after) m × Joins m a b
-joins_back before l after k a b c h = by (cut_cases before (shape_of l) after k c)
+joins_back before l after k a b c h = by (Contains-middle_cases before (shape_of l) after k c)
   where
     by : (shape_of l ≡ k) ⊎ Contains (before ++ after) k → (m : Line) × Contains (before ++ l ∷ after) m × Joins m a b
-    by (inl f) = (l, cut_here before l after, shape_joins l a b (subst (λ m. Joins m a b) (sym f) h))
-    by (inr c) = (k, cut_other before l after k c, h)
+    by (inl f) = (l, Contains-middle before l after, shape_joins l a b (subst (λ m. Joins m a b) (sym f) h))
+    by (inr c) = (k, Contains-wider before l after k c, h)
 
 joins_forth : (before : List Line) (l : Line) (after : List Line) (k : Line) (a b : Base) → Contains (before ++ l ∷ after) k →
     Joins k a b → (m : Line) × Contains (before ++ shape_of l ∷ after) m × Joins m a b
-joins_forth before l after k a b c h = by (cut_cases before l after k c)
+joins_forth before l after k a b c h = by (Contains-middle_cases before l after k c)
   where
     by : (l ≡ k) ⊎ Contains (before ++ after) k → (m : Line) × Contains (before ++ shape_of l ∷ after) m × Joins m a b
-    by (inl f) = (shape_of l, cut_here before (shape_of l) after, joins_shape l a b (subst (λ m. Joins m a b) (sym f) h))
-    by (inr c) = (k, cut_other before (shape_of l) after k c, h)
+    by (inl f) = (shape_of l, Contains-middle before (shape_of l) after, joins_shape l a b (subst (λ m. Joins m a b) (sym f) h))
+    by (inr c) = (k, Contains-wider before (shape_of l) after k c, h)
 
 joined_back : (left lines : List Line) → Trims left lines → (a b : Base) → IsJoined left a b → IsJoined lines a b
 joined_back left lines (none_left none) a b j = j

@@ -1,13 +1,12 @@
 -- In whatever order dead ends become their shape, one list is left.
 use Rattle.std.proofs.Common.{◌≡◌, ℕ, ◌⊎◌, inl, inr, List, [], ◌∷◌, ◌++◌, Contains, refl, sym, ap, ◌∙◌, subst, append_assoc}
 use Rattle.std.proofs.lemmas.List.Elements.{All-contains}
-use Rattle.rt_base.proofs.Lists.{All-from_contains}
+use Rattle.rt_base.proofs.Lists.{All-from_contains, Contains-wider, Contains-middle_cases}
 use Rattle.rt_lines.specs.declared.line.Line.{Line}
 use Rattle.rt_lines.specs.declared.line.Line.TheVariants.{Var, Same, Sub, Low, Up}
 use Rattle.rt_trim.specs.Trims.{IsFlowOf, IsDeadEnd, shape_of, Trims}
 use Rattle.rt_trim.specs.Trims.Trims.{none_left, trims}
 use Rattle.rt_trim.specs.Laws.{OneTrimLaw}
-use Rattle.rt_trim.proofs.DeadEnds.{cut_cases, cut_other}
 
 -- two cuts of one list are at one place, or the one lies behind the other
 pub data Cuts {X : Type 0} (before : List X) (x : X) (after before' : List X) (x' : X) (after' : List X) : Type 0 where
@@ -72,11 +71,11 @@ first_still n before l between k after end = still_end n before (between ++ k �
         (shape_of k ≡ m) ⊎ Contains (before ++ (between ++ k ∷ after)) m
     back m (inl e) = inl e
     back m (inr c) = inr (subst (λ ks. Contains ks m) (append_assoc before between (k ∷ after))
-        (cut_other (before ++ between) k after m c))
+        (Contains-wider (before ++ between) k after m c))
 
     source : (m : Line) → Contains (before ++ (between ++ shape_of k ∷ after)) m →
         (shape_of k ≡ m) ⊎ Contains (before ++ (between ++ k ∷ after)) m
-    source m c = back m (cut_cases (before ++ between) (shape_of k) after m
+    source m c = back m (Contains-middle_cases (before ++ between) (shape_of k) after m
         (subst (λ ks. Contains ks m) (sym (append_assoc before between (shape_of k ∷ after))) c))
 
 second_still : (n : ℕ) (before : List Line) (k : Line) (between : List Line) (l : Line) (after : List Line) →
@@ -88,11 +87,11 @@ second_still n before k between l after end =
         (shape_of k ≡ m) ⊎ Contains ((before ++ k ∷ between) ++ after) m
     back m (inl e) = inl e
     back m (inr c) = inr (subst (λ ks. Contains ks m) (sym (append_assoc before (k ∷ between) after))
-        (cut_other before k (between ++ after) m c))
+        (Contains-wider before k (between ++ after) m c))
 
     source : (m : Line) → Contains ((before ++ shape_of k ∷ between) ++ after) m →
         (shape_of k ≡ m) ⊎ Contains ((before ++ k ∷ between) ++ after) m
-    source m c = back m (cut_cases before (shape_of k) (between ++ after) m
+    source m c = back m (Contains-middle_cases before (shape_of k) (between ++ after) m
         (subst (λ ks. Contains ks m) (append_assoc before (shape_of k ∷ between) after) c))
 
 -- another dead end than the one that came first may come first as well

@@ -4,7 +4,7 @@ use Rattle.std.proofs.Common.{[], ◌∷◌, ◌++◌, map, flat_map, Contains, 
 use Rattle.std.specs.List.{position_or_len}
 use Rattle.std.proofs.lemmas.Bool.{eqb-true}
 use Rattle.std.proofs.lemmas.Bool.Decides.{nat_tests}
-use Rattle.rt_base.proofs.Lists.{Contains-none, Contains-here, Contains-cons_cases, Contains-map_source}
+use Rattle.rt_base.proofs.Lists.{Contains-none, Contains-here, Contains-cons_cases, Contains-map_source, map-map}
 use Rattle.rt_base.proofs.Lists.{Contains-flat_map, position_or_len-one_to_one}
 use Rattle.rt_lines.specs.declared.label.Label.{Label}
 use Rattle.rt_lines.specs.declared.variable.Base.{Base}
@@ -38,7 +38,7 @@ use Rattle.rt_rows.specs.Terms.{HasRoot, NamesRoot}
 use Rattle.rt_unfold.specs.Instances.{IsInstancing, instance_by, instance_side, instance_variable}
 use Rattle.rt_unfold.specs.Unfolded.{new_name, new_row, new_term, rows_by}
 use Rattle.rt_unfold.proofs.Instances.{instance_law}
-use Rattle.rt_unfold.proofs.Mapping.{map-same, map-twice}
+use Rattle.rt_unfold.proofs.Mapping.{map-same}
 use Rattle.rt_unfold.proofs.NameNumbers.{number, number-one}
 
 -- Rows as lines, each existential with the number of its name.
@@ -243,8 +243,8 @@ module _ (procedure site i own : ℕ) (lines : List Line) where
 
   pub rows-are : map line_by (rows_by procedure site i own lines) ≡ instance_by own port new lines
   rows-are =
-      map-twice (new_row procedure site i ports) line_by (instance_lines own lines 0)
-      ∙ (map-twice (map_line (instanced own 0 order_of)) (λ l. line_by (new_row procedure site i ports l)) lines
+      map-map (new_row procedure site i ports) line_by (instance_lines own lines 0)
+      ∙ (map-map (map_line (instanced own 0 order_of)) (λ l. line_by (new_row procedure site i ports l)) lines
       ∙ map-same (λ l. line_by (new_row procedure site i ports (map_line (instanced own 0 order_of) l)))
       (map_line (instance_variable own port new)) lines (λ l c. line_at l (λ x h. side l x c h)))
 

@@ -4,7 +4,7 @@ use Rattle.std.proofs.Common.{unwrap_or, List, [], ◌∷◌, ◌++◌, map, fla
 use Rattle.std.proofs.lemmas.Bool.{eqb-true, and_parts}
 use Rattle.std.proofs.lemmas.List.{map-append}
 use Rattle.std.proofs.lemmas.List.Elements.{Contains-append_left, Contains-append_right, Contains-append_cases, All-contains, All-append}
-use Rattle.rt_base.proofs.Lists.{Contains-none, Contains-here, Contains-cons_cases, Contains-map_source}
+use Rattle.rt_base.proofs.Lists.{Contains-none, Contains-here, Contains-cons_cases, Contains-map_source, map-map}
 use Rattle.rt_base.proofs.Lists.{Contains-flat_map, Contains-flat_map_source}
 use Rattle.rt_lines.specs.declared.label.Label.{Label}
 use Rattle.rt_lines.specs.declared.label.Label.TheVariants.{In, Out, Load, Store, Field}
@@ -26,7 +26,7 @@ use Rattle.rt_scheme.specs.declared.interface.Interface.{Interface}
 use Rattle.rt_scheme.specs.Splitting.{IsSplitting, interface_of, interfaces_of, interfaces, split_line, split_variable, split_side}
 use Rattle.rt_unfold.specs.Instances.{IsInstancing, InstanceLaw, instance_by, instance_side, instance_variable}
 use Rattle.rt_unfold.proofs.Finding.{find, find-found, find-itself, find-nothing}
-use Rattle.rt_unfold.proofs.Mapping.{map-back, map-same, map-twice}
+use Rattle.rt_unfold.proofs.Mapping.{map-back, map-same}
 use Rattle.rt_unfold.proofs.Widening.{AreOwnLines, IsFresh, IsOwnBase, fresh, is_new_base}
 use Rattle.rt_unfold.proofs.Instancing.{instance_alike}
 
@@ -330,7 +330,7 @@ module _ (inside : Base → Bool) (own : ℕ) (port : Label → ℕ) (both rest 
 
     pub instance_is : map (splits own port labels) new_lines ≡ instance_by own port new lines
     instance_is =
-        map-twice (map_line (renamed (fresh new))) (splits own port labels) lines
+        map-map (map_line (renamed (fresh new))) (splits own port labels) lines
         ∙ map-same (λ l. splits own port labels (map_line (renamed (fresh new)) l)) (map_line (instance_variable own port new)) lines
         (λ l c. map_line-twice (split_variable (is_own own port labels) (place own port labels)) (renamed (fresh new)) l
         ∙ map_line-same (λ x. split_variable (is_own own port labels) (place own port labels) (renamed (fresh new) x))

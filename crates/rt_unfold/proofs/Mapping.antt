@@ -7,11 +7,6 @@ pub map-same : {X Y : Type 0} (f g : X → Y) (xs : List X) → ((x : X) → Con
 map-same f g [] h = refl
 map-same f g (x ∷ xs) h = λ t. h x (Contains-here x xs) t ∷ map-same f g xs (λ y c. h y (Contains-there x xs y c)) t
 
--- one map after another
-pub map-twice : {X Y Z : Type 0} (f : X → Y) (g : Y → Z) (xs : List X) → map g (map f xs) ≡ map (λ x. g (f x)) xs
-map-twice f g [] = refl
-map-twice f g (x ∷ xs) = ap (λ ys. g (f x) ∷ ys) (map-twice f g xs)
-
 -- a map there and one back
 pub map-back : {X Y : Type 0} (f : X → Y) (g : Y → X) (xs : List X) → ((x : X) → Contains xs x → g (f x) ≡ x) → map g (map f xs) ≡ xs
 map-back f g [] h = refl

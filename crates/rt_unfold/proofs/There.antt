@@ -5,7 +5,7 @@ use Rattle.std.specs.List.{list_any}
 use Rattle.std.proofs.lemmas.Bool.{eqb-true}
 use Rattle.std.proofs.lemmas.List.{get_or_default}
 use Rattle.std.proofs.lemmas.List.Elements.{Contains-get_or}
-use Rattle.rt_base.proofs.Lists.{list_any-at, list_any-from}
+use Rattle.rt_base.proofs.Lists.{list_any-at, list_any-from, found_to}
 use Rattle.rt_lines.specs.declared.line.Line.{Line}
 use Rattle.rt_scheme.specs.SplitExistentials.{split_for}
 use Rattle.rt_rows.specs.declared.row.Row.{Row}
@@ -44,13 +44,10 @@ abbrev group_of : List (List ℕ) → ℕ → List ℕ
 group_of [] p = []
 group_of (group ∷ groups) p = if list_any (nat_eq p) group then group else group_of groups p
 
-has_member : (group : List ℕ) (p : ℕ) → Contains group p → list_any (nat_eq p) group ≡ true
-has_member group p c = list_any-from (nat_eq p) group p c (eq-eqb p p refl)
-
 group_of-is : (groups : List (List ℕ)) (k p : ℕ) → k < length groups → Contains (get_or groups k []) p
     → ((j : ℕ) → j < k → Contains (get_or groups j []) p → ⊥) → group_of groups p ≡ get_or groups k []
 group_of-is [] k p within c first = absurd (omega arith)
-group_of-is (group ∷ groups) zero p within c first = ap (λ t. if t then group else group_of groups p) (has_member group p c)
+group_of-is (group ∷ groups) zero p within c first = ap (λ t. if t then group else group_of groups p) (found_to group p c)
 group_of-is (group ∷ groups) (suc k) p within c first =
     by (list_any (nat_eq p) group) refl (group_of-is groups k p (omega arith) c (λ j less d. first (suc j) (omega arith) d))
   where

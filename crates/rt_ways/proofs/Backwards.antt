@@ -1,6 +1,6 @@
 -- Rows turned one by one.
 use Rattle.std.proofs.Common.{◌≡◌, ℕ, ◌+◌, ◌<◌, ◌≤◌, ◌⊎◌, inl, inr, List, [], ◌∷◌, ◌++◌, Contains, length, get_or, take, refl, sym, subst, ◌∙◌, arith}
-use Rattle.std.proofs.lemmas.Bool.{cases_eq}
+use Rattle.std.proofs.lemmas.Bool.{cases_eq, cases_lt}
 use Rattle.std.proofs.lemmas.List.{get_or_default, get_or_past, take_all, take_more}
 use Rattle.std.proofs.lemmas.List.Elements.{Contains-append_left, Contains-push, Contains-push_cases}
 use Rattle.rt_base.proofs.Lists.{Contains-none}
@@ -22,10 +22,7 @@ turn_next row i n old mid new h m k =
 pub turn_whole : (row : List ℕ) (i n : ℕ) (old new : List (List ℕ)) → length row ≤ i → AreMore (λ v w. Contains (take i row) v × (w ≡ n)) old new → AreMore (λ v w. Contains row v × (w ≡ n)) old new
 turn_whole row i n old new h m = subst (λ xs. AreMore (λ v w. Contains xs v × (w ≡ n)) old new) (take_all i row h) m
 
-pub member : (row : List ℕ) (i : ℕ) → i < length row → Contains row (get_or row i 0)
-member row i h = (i, h, get_or_default row i (get_or row i 0) 0 h)
-
--- the rows below a count are turned
+-- the rows cases_lt a count are turned
 abbrev pub IsTurnedTo : List (List ℕ) → ℕ → ℕ → ℕ → Type 0
 IsTurnedTo rows count v w = (w < count) × IsInRow rows w v
 
@@ -44,13 +41,10 @@ turned_next rows i row old mid new e m n =
     at v w p (inl f) = inr (subst (λ xs. Contains xs v) (sym e) (subst (λ k. IsInRow rows k v) f p.1), f)
     at v w p (inr d) = inl (let h : w < i + 1 = p.0 in (omega (arith, h, d), p.1))
 
-below : (i n : ℕ) → (i < n) ⊎ (n ≤ i)
-below i n = grind arith
-
 pub turned_all : (rows empty back : List (List ℕ)) (i : ℕ) → length rows ≤ i → length empty ≡ length rows → ((v : ℕ) → get_or empty v [] ≡ []) → AreMore (IsTurnedTo rows i) empty back → AreTurned rows back
 turned_all rows empty back i h e none m = record {
   each = m.each ∙ e;
-  to = λ v w c. m.all w v (there v w c (below v (length rows)), c);
+  to = λ v w c. m.all w v (there v w c (cases_lt v (length rows)), c);
   from = λ v w c. (elim (m.only w v c) [ inl d ↦ absurd (Contains-none v (subst (λ xs. Contains xs v) (none w) d)) | inr p ↦ p.1 ]);
 }
   where

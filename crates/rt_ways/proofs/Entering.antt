@@ -4,8 +4,13 @@ use Rattle.std.proofs.Math.ListN.{length-set}
 use Rattle.std.proofs.lemmas.Bool.{cases_eq}
 use Rattle.std.proofs.lemmas.List.{get_or_default, take_all, take_more}
 use Rattle.std.proofs.lemmas.List.Elements.{Contains-append_left, Contains-push, Contains-push_cases}
-use Rattle.rt_base.proofs.Lists.{Contains-none}
+use Rattle.rt_base.proofs.Lists.{Contains-none, Contains-cons_cases}
+use Rattle.rt_lines.specs.declared.line.Line.{Line}
 use Rattle.rt_ways.specs.Arcs.{AreMore, IsAdded, IsInRow}
+
+-- a list of one line has that one
+pub one_line : (k x : Line) → Contains (k ∷ []) x → k ≡ x
+one_line k x c = elim (Contains-cons_cases k [] x c) [ inl e ↦ e | inr h ↦ absurd (Contains-none x h) ]
 
 module _ (from to : ℕ) (old : List (List ℕ)) (now : List ℕ) (room : from < length old) (grown : now ≡ get_or old from [] ++ to ∷ []) where
   here : get_or (set old from now) from [] ≡ get_or old from [] ++ to ∷ []

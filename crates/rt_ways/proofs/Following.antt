@@ -11,12 +11,7 @@ use Rattle.rt_base.proofs.Lists.{Contains-none, list_any-at, list_any-from}
 use Rattle.rt_components.specs.Groups.{Reaches}
 use Rattle.rt_components.specs.Groups.Reaches.{there, onward}
 use Rattle.rt_ways.specs.Arcs.{AreRows, IsLeft, IsReached, IsSpread}
-
-pub nat_same : (n m : ℕ) → nat_eq n m ≡ true → n ≡ m
-nat_same n m e = grind arith
-
-nat_itself : (n : ℕ) → nat_eq n n ≡ true
-nat_itself n = grind arith
+use Rattle.rt_base.proofs.Numbers.{nat_same, nat_itself}
 
 -- nothing is added
 pub left_none : (P : ℕ → Type 0) (keys new : List ℕ) → new ≡ keys → ((w : ℕ) → P w → Contains keys w) → IsLeft P keys new
@@ -118,18 +113,6 @@ module _ (Edge : ℕ → ℕ → Type 0) where
       all : {v w : ℕ} → Contains now v → Reaches Edge v w → Contains now w
       all c there = c
       all {v} {w} c (onward {b} e r) = all (are.done c.0 (omega (arith, h, c.1)) c.1 b (subst (λ u. Edge u b) (sym (get_or_default now c.0 0 v c.1 ∙ c.2)) e)) r
-
-pub found_from : (keys : List ℕ) (n : ℕ) → list_any (nat_eq n) keys ≡ true → Contains keys n
-found_from keys n e = let there : (x : ℕ) × Contains keys x × (nat_eq n x ≡ true) = list_any-at (nat_eq n) keys e in subst (Contains keys) (sym (nat_same n there.0 there.2)) there.1
-
-pub found_to : (keys : List ℕ) (n : ℕ) → Contains keys n → list_any (nat_eq n) keys ≡ true
-found_to keys n c = list_any-from (nat_eq n) keys n c (nat_itself n)
-
-pub past_end : (xs : List ℕ) (i : ℕ) → slice_get xs i ≡ None → length xs ≤ i
-past_end xs i e = elim (below i (length xs)) [ inl h ↦ absurd (let f : Some (get_or xs i 0) ≡ None = sym (slice_get-get_or xs i 0 h) ∙ e in cc) | inr h ↦ h ]
-  where
-    below : (i n : ℕ) → (i < n) ⊎ (n ≤ i)
-    below i n = grind arith
 
 -- of a list with a number alone only that one is found
 alone_only : (v : ℕ) (found : List ℕ) → IsLeft (λ (w : ℕ). v ≡ w) [] found → (w : ℕ) → Contains found w → v ≡ w

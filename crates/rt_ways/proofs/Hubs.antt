@@ -21,9 +21,11 @@ use Rattle.rt_ways.specs.declared.frame.Frame.{Frame}
 use Rattle.rt_ways.specs.Arcs.{AreMore, IsAdded, IsInRow}
 use Rattle.rt_ways.specs.Frames.{AreExchanged, AreFirst, IsAtHub, IsForHub, IsFrameOf, IsOfLine, IsPointee, IsReady, IsToHub, hub_of, or_else}
 use Rattle.rt_ways.specs.Pushes.{AreDistinct, IsMade, step_of, variable_at}
-use Rattle.rt_ways.proofs.Entering.{more_none}
+use Rattle.rt_ways.proofs.Entering.{more_none, one_line}
 use Rattle.rt_ways.proofs.Knowing.{flat_derives, no_order}
-use Rattle.rt_ways.proofs.Pushing.{made_one, no_base}
+use Rattle.rt_ways.proofs.Pushing.{made_one}
+use Rattle.rt_base.proofs.Options.{some_of, not_some}
+use Rattle.rt_named.proofs.Making.{no_base}
 
 -- one arc
 pub more_arc : (P : ℕ → ℕ → Type 0) (v w : ℕ) (old new : List (List ℕ)) → P v w → ((a b : ℕ) → P a b → (a ≡ v) × (b ≡ w)) → IsAdded v w old new → AreMore P old new
@@ -48,9 +50,6 @@ more_join P Q R old mid new cases left right m n = record {
 }
 
 -- arcs of lines
-one_line : (k x : Line) → Contains (k ∷ []) x → k ≡ x
-one_line k x c = elim (Contains-cons_cases k [] x c) [ inl e ↦ e | inr h ↦ absurd (Contains-none x h) ]
-
 pub line_arc : (named : List Dtv) (x y : Dtv) (v w : ℕ) (old new : List (List ℕ)) → AreDistinct named → slice_get named v ≡ Some x → slice_get named w ≡ Some y → IsAdded v w old new →
     AreMore (IsOfLine named (Sub x y ∷ [])) old new
 line_arc named x y v w old new distinct e f added = more_arc (IsOfLine named (Sub x y ∷ [])) v w old new here one added
@@ -107,9 +106,6 @@ hub_cases behind class f e = by (step_of behind class Load) refl e
     by None g h = inr h
     by (Some n) g h = inl (g ∙ h)
 
-not_some : IsSome {T = ℕ} None → ⊥
-not_some e = cc
-
 hub_some : (behind : List ((ℕ × Label) × ℕ)) (class : ℕ) (l : Label) → IsPointer l → IsSome (step_of behind class l) → IsSome (hub_of behind class)
 hub_some behind class l p s = by (step_of behind class Load) refl l p s
   where
@@ -120,10 +116,6 @@ hub_some behind class l p s = by (step_of behind class Load) refl l p s
     by None e (In k) p s = absurd p
     by None e (Out k) p s = absurd p
     by None e (Field k m) p s = absurd p
-
-taken : (o : Option ℕ) → IsSome o → (n : ℕ) × (o ≡ Some n)
-taken None h = absurd (not_some h)
-taken (Some n) h = (n, refl)
 
 pub class_one : (frame : Frame) (c d n : ℕ) → AreDistinct frame.named → IsPointee frame c n → IsPointee frame d n → c ≡ d
 class_one frame c d n distinct p q =
@@ -218,7 +210,7 @@ module _ (lines : List Line) (frame : Frame) (is : IsFrameOf lines frame) where
 
   hub_there : (class n : ℕ) → IsPointee frame class n → (f : ℕ) × (hub_of frame.behind.entries class ≡ Some f)
   hub_there class n p =
-      taken (hub_of frame.behind.entries class) (hub_some frame.behind.entries class p.letter p.pointer
+      some_of (hub_of frame.behind.entries class) (hub_some frame.behind.entries class p.letter p.pointer
       (subst (λ k. IsSome (step_of frame.behind.entries k p.letter)) p.of_class (is.behind.all n p.parent p.letter p.made.within p.made)))
 
   pub first_arcs : (empty mid arcs : List (List ℕ)) → length empty ≡ length frame.named → ((v : ℕ) → get_or empty v [] ≡ []) → AreMore (IsOfLine frame.named lines) empty mid →

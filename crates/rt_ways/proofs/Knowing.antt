@@ -1,7 +1,7 @@
 -- What is known of the variables that lines name, and of shapes of lines that say less.
 use Rattle.std.proofs.Common.{◌≡◌, ℕ, ◌<◌, ◌≤◌, ◌⊎◌, inl, inr, Bool, true, false, List, [], ◌∷◌, map, Contains, length, refl, sym, ap, subst, ◌∙◌, arith}
 use Rattle.std.specs.Prelude.{filter, flat_map, cond}
-use Rattle.std.proofs.lemmas.Bool.{cases_eq}
+use Rattle.std.proofs.lemmas.Bool.{cases_eq, cases_lt}
 use Rattle.std.proofs.lemmas.List.{get_or_default}
 use Rattle.std.proofs.lemmas.List.Elements.{Contains-append_left, Contains-append_right, Contains-append_cases}
 use Rattle.rt_base.proofs.Lists.{Contains-none, Contains-here, Contains-there, Contains-cons_cases, Contains-map, Contains-map_source}
@@ -23,12 +23,10 @@ use Rattle.rt_shape.specs.Graphs.{Graph}
 use Rattle.rt_shape.specs.Shapes.{IsShapeOf}
 use Rattle.rt_ways.specs.Frames.{HaveNodes, flattened_line}
 use Rattle.rt_ways.specs.Pushes.{AreDistinct, variable_at}
-
-below : (i n : ℕ) → (i < n) ⊎ (n ≤ i)
-below i n = grind arith
+use Rattle.rt_ways.proofs.Entering.{one_line}
 
 pub distinct_named : (lines : List Line) → AreDistinct (all_named lines [])
-distinct_named lines m n h k e = by (cases_eq m n) (below m n)
+distinct_named lines m n h k e = by (cases_eq m n) (cases_lt m n)
   where
     by : (m ≡ n) ⊎ (m ≡ n → ⊥) → (m < n) ⊎ (n ≤ m) → m ≡ n
     by (inl f) s = f
@@ -92,9 +90,6 @@ joined_source f (y ∷ xs) z c = elim (Contains-append_cases (f y) (flat_map f x
   | inr d ↦ let r : (x : Line) × Contains xs x × Contains (f x) z = joined_source f xs z d in (r.0, Contains-there y xs r.0 r.1, r.2)
 ]
 
-only_one : (k x : Line) → Contains (k ∷ []) x → k ≡ x
-only_one k x c = elim (Contains-cons_cases k [] x c) [ inl e ↦ e | inr h ↦ absurd (Contains-none x h) ]
-
 -- what the flat lines say, the lines say
 flat_given : (order : Below) (lines : List Line) (l : Line) → Contains (flat_lines lines) l → Derivable order lines l
 flat_given order lines l c = elim (Contains-append_cases (filter is_sub lines) (map (λ (x : Dtv). Var x) (all_named lines [])) l c) [
@@ -112,15 +107,15 @@ flat_var order lines x c =
     given order (flat_lines lines) (Var x) (Contains-append_right (filter is_sub lines) (map (λ (y : Dtv). Var y) (all_named lines [])) (Var x) (Contains-map (λ (y : Dtv). Var y) (all_named lines []) x c))
 
 flat_from : (order : Below) (lines : List Line) (k l : Line) → Contains lines k → Contains (flattened_line k) l → Derivable order (flat_lines lines) l
-flat_from order lines (Var x) l c d = subst (Derivable order (flat_lines lines)) (only_one (Var x) l d) (flat_var order lines x (sides_named lines (Var x) x c refl))
-flat_from order lines (Low k x) l c d = subst (Derivable order (flat_lines lines)) (only_one (Var x) l d) (flat_var order lines x (sides_named lines (Low k x) x c refl))
-flat_from order lines (Up x k) l c d = subst (Derivable order (flat_lines lines)) (only_one (Var x) l d) (flat_var order lines x (sides_named lines (Up x k) x c refl))
+flat_from order lines (Var x) l c d = subst (Derivable order (flat_lines lines)) (one_line (Var x) l d) (flat_var order lines x (sides_named lines (Var x) x c refl))
+flat_from order lines (Low k x) l c d = subst (Derivable order (flat_lines lines)) (one_line (Var x) l d) (flat_var order lines x (sides_named lines (Low k x) x c refl))
+flat_from order lines (Up x k) l c d = subst (Derivable order (flat_lines lines)) (one_line (Var x) l d) (flat_var order lines x (sides_named lines (Up x k) x c refl))
 flat_from order lines (Same x y) l c d = elim (Contains-cons_cases (Var x) (Var y ∷ []) l d) [
   | inl e ↦ subst (Derivable order (flat_lines lines)) e (flat_var order lines x (sides_named lines (Same x y) x c (inl refl)))
-  | inr h ↦ subst (Derivable order (flat_lines lines)) (only_one (Var y) l h) (flat_var order lines y (sides_named lines (Same x y) y c (inr refl)))
+  | inr h ↦ subst (Derivable order (flat_lines lines)) (one_line (Var y) l h) (flat_var order lines y (sides_named lines (Same x y) y c (inr refl)))
 ]
 flat_from order lines (Sub x y) l c d =
-    subst (Derivable order (flat_lines lines)) (only_one (Sub x y) l d) (given order (flat_lines lines) (Sub x y)
+    subst (Derivable order (flat_lines lines)) (one_line (Sub x y) l d) (given order (flat_lines lines) (Sub x y)
     (Contains-append_left (filter is_sub lines) (map (λ (z : Dtv). Var z) (all_named lines [])) (Sub x y) (filter_has is_sub lines (Sub x y) c refl)))
 
 module _ (order : Below) (lines : List Line) where

@@ -10,12 +10,10 @@ use Rattle.rt_ways.specs.Frames.{AreFirst, IsFrameOf}
 use Rattle.rt_ways.specs.Nets.{AreWaysOf, IsSized}
 use Rattle.rt_ways.specs.Pushes.{AreClosure}
 use Rattle.rt_ways.proofs.Meaning.{closure_right, flex, meaning}
-
-below : (i n : ℕ) → (i < n) ⊎ (n ≤ i)
-below i n = grind arith
+use Rattle.std.proofs.lemmas.Bool.{cases_lt}
 
 row_there : (rows : List (List ℕ)) (v w : ℕ) → IsInRow rows v w → v < length rows
-row_there rows v w c = elim (below v (length rows)) [ inl h ↦ h | inr h ↦ absurd (Contains-none w (subst (λ xs. Contains xs w) (get_or_past rows v [] h) c)) ]
+row_there rows v w c = elim (cases_lt v (length rows)) [ inl h ↦ h | inr h ↦ absurd (Contains-none w (subst (λ xs. Contains xs w) (get_or_past rows v [] h) c)) ]
 
 module _ (lines : List Line) (frame : Frame) (arcs above : List (List ℕ)) (is : IsFrameOf lines frame) (first : AreFirst lines frame arcs) (are : AreClosure frame.named (IsInRow arcs) above)
     (flexible_law : FlexibleLaw) (turned_law : TurnedLaw) where

@@ -14,7 +14,8 @@ use Rattle.rt_shape.proofs.Letters.{letter_equal, letter_self}
 use Rattle.rt_shape.proofs.Walks.{node_of-longer}
 use Rattle.rt_ways.specs.Frames.{AreBehind, AreNodes, flattened_line}
 use Rattle.rt_ways.specs.Pushes.{AreDistinct, AreSteps, IsMade, step_of, variable_at}
-use Rattle.rt_ways.proofs.Pushing.{made_one, no_base}
+use Rattle.rt_ways.proofs.Pushing.{made_one}
+use Rattle.rt_named.proofs.Making.{no_base}
 
 -- numbers one after another
 pub nodes_none : (graph : Graph) (named : List Dtv) (nodes : List ℕ) → nodes ≡ [] → AreNodes graph named 0 nodes

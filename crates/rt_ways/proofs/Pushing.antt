@@ -13,17 +13,7 @@ use Rattle.rt_bridge.proofs.Growing.{dv-vd, vd-longer}
 use Rattle.rt_ways.specs.Arcs.{IsInRow}
 use Rattle.rt_ways.specs.Pushes.{AreDistinct, AreSteps, IsClosed, IsClosedAt, IsGrown, IsMade, IsNoted, IsPair, IsPushed, step_of, variable_at}
 use Rattle.rt_ways.specs.Pushes.IsPushed.{co, contra}
-
--- a letter more is no base alone
-pub no_base : (x : Dtv) (l : Label) (b : Base) → longer x l ≡ record { base = b; word = [] } → ⊥
-no_base x l b e = let h : dot (vd x) l ≡ at b = sym (vd-longer x l) ∙ ap vd e in cc
-
-pub last_letter : (x y : Dtv) (l m : Label) → longer x l ≡ longer y m → (x ≡ y) × (l ≡ m)
-last_letter x y l m e =
-    let h : dot (vd x) l ≡ dot (vd y) m = sym (vd-longer x l) ∙ ap vd e ∙ vd-longer y m in
-    let p : vd x ≡ vd y = cc in
-    let q : l ≡ m = cc in
-    (sym (dv-vd x) ∙ ap dv p ∙ dv-vd y, q)
+use Rattle.rt_named.proofs.Making.{no_base, last_letter}
 
 -- what a number is made of is one
 pub made_one : (named : List Dtv) (n p q : ℕ) (l m : Label) → AreDistinct named → IsMade named n p l → IsMade named n q m → (p ≡ q) × (l ≡ m)

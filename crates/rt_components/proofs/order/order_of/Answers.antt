@@ -5,9 +5,9 @@ use Rattle.std.specs.declared.cmp.Ordering.TheVariants.{Less}
 use Rattle.std.proofs.lemmas.Bool.{cases_lt, false≢true}
 use Rattle.std.proofs.lemmas.List.Elements.{All-contains}
 use Rattle.rt_components.specs.Orders.{least_of, HaveCome, IsQueueOf}
-use Rattle.rt_components.proofs.Keys.{less_from}
 use Rattle.rt_components.proofs.Ending.{is_member, is_free, is_least, opened, all_in_order}
 use Rattle.rt_components.proofs.order.order_of.Goals as goal
+use Rattle.rt_base.proofs.Numbers.{nat_cmp-less}
 
 contains_all : (all : List ℕ) (count : ℕ) → length all ≡ count → ((k : ℕ) → k < count → slice_index all k ≡ k) → (k : ℕ) → k < count → Contains all k
 contains_all all count each same k less = let within : k < length all = omega arith in (k, within, get_or_default all k k 0 within ∙ same k less)
@@ -46,7 +46,7 @@ take-requires-clause-may c =
     record {
       queue = subst (λ x. IsQueueOf others members q.come.items q.order.items q.passed.items q.waiting.items keys (x ∷ [])) (sym k) queue;
       free = subst (HaveCome others q.come.items) (sym k) free;
-      first = λ b d. subst (λ x. least_of members x < b) (sym k) (subst (λ n. n < b) (sym least) (less_from a b (All-contains (λ y. nat_cmp a y ≡ Less) keys b c.in-Some.ensures.all_above d)));
+      first = λ b d. subst (λ x. least_of members x < b) (sym k) (subst (λ n. n < b) (sym least) (nat_cmp-less a b (All-contains (λ y. nat_cmp a y ≡ Less) keys b c.in-Some.ensures.all_above d)));
     }
 
 no_keys : (keys : List ℕ) → IsSome {T = ℕ} None ↔ (0 < length keys) → keys ≡ []

@@ -11,8 +11,8 @@ use Rattle.rt_frame.specs.Frames.{IsOfFrame}
 use Rattle.rt_frame.specs.Questions.{IsQuestionWithin}
 use Rattle.rt_frame.proofs.Asking.{questions_within}
 use Rattle.rt_frame.proofs.Gathered.{among_step, among_done}
-use Rattle.rt_frame.proofs.Within.{within_each}
 use Rattle.rt_frame.proofs.taken.take_site.Goals as goal
+use Rattle.rt_body.proofs.Within.{within_each}
 
 pub take_question-requires : goal.take_question-requires
 take_question-requires c =

@@ -1,8 +1,9 @@
 use Rattle.std.proofs.Common.{sym, subst}
 use Rattle.std.proofs.lemmas.Option.{get_or_from_slice_get, slice_get_within}
 use Rattle.rt_outline.specs.Arcs.{IsLeft, Leads}
-use Rattle.rt_outline.proofs.Following.{past_end, spreading_first, spreading_next, spreading_whole}
+use Rattle.rt_outline.proofs.Following.{spreading_first, spreading_next, spreading_whole}
 use Rattle.rt_outline.proofs.spreading.spread.Goals as goal
+use Rattle.rt_base.proofs.Lists.{past_end}
 
 pub loop-i-init : goal.loop-i-init
 loop-i-init c = spreading_first (Leads c.args.arcs.now c.args.stands.now c.args.pushed) c.args.found.now

@@ -2,9 +2,9 @@ use Rattle.std.proofs.Common.{◌≡◌, ℕ, true, None, get_or, refl, sym, sub
 use Rattle.std.proofs.lemmas.Option.{get_or_from_slice_get, slice_get_within}
 use Rattle.rt_outline.specs.Arcs.{IsLeft, Leads}
 use Rattle.rt_outline.specs.Sweeps.{IsNoted, end_of}
-use Rattle.rt_outline.proofs.Following.{past_end}
 use Rattle.rt_outline.proofs.Swept.{sweeping_first, sweeping_next, sweeping_whole}
 use Rattle.rt_outline.proofs.sweeping.sweep.Goals as goal
+use Rattle.rt_base.proofs.Lists.{past_end}
 
 pub loop-i-init : goal.loop-i-init
 loop-i-init c = record {

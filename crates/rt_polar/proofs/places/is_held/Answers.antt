@@ -1,8 +1,8 @@
 use Rattle.std.proofs.Common.{◌≡◌, Some, true, sym, ap, subst, ◌∙◌}
 use Rattle.rt_lines.specs.Equality.{line_eq}
 use Rattle.rt_lines.proofs.Equal.{line_equal}
-use Rattle.rt_polar.proofs.Settling.{line_self}
 use Rattle.rt_polar.proofs.places.is_held.Goals as goal
+use Rattle.rt_lines.proofs.Same.{line_self}
 
 pub returns-in-Some : goal.returns-in-Some
 returns-in-Some c = (

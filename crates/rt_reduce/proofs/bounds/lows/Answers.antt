@@ -1,13 +1,13 @@
 use Rattle.std.proofs.Common.{List, take, sym, subst}
 use Rattle.rt_lines.specs.declared.line.Line.{Line}
 use Rattle.rt_reduce.specs.Deciding.{AreAbove}
-use Rattle.rt_reduce.proofs.Firsts.{taken_more}
 use Rattle.rt_reduce.proofs.bounds.lows.Goals as goal
+use Rattle.rt_base.proofs.Lists.{take-next}
 
 pub loop-line-preserved : goal.loop-line-preserved
 loop-line-preserved c =
     let i = c.loop-line.line-index in
     let lines = c.args.lines.now in
     subst (λ (ls : List Line). AreAbove c.args.order.now ls c.args.k c.enter_low.new.found.items)
-    (sym (taken_more lines i c.line-item.result c.loop-line-test.true c.line-item.is))
+    (sym (take-next lines i c.line-item.result c.loop-line-test.true c.line-item.is))
     (c.in_ok-enter_low.ensures (take i lines) c.loop-line.invariant)

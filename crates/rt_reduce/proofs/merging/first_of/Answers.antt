@@ -2,9 +2,9 @@ use Rattle.std.proofs.Common.{List, take, sym, subst}
 use Rattle.std.proofs.lemmas.List.{take_all}
 use Rattle.rt_lines.specs.declared.variable.Dtv.{Dtv}
 use Rattle.rt_reduce.specs.Merging.{IsFirstAmong}
-use Rattle.rt_reduce.proofs.Firsts.{taken_more}
 use Rattle.rt_reduce.proofs.Numbering.{equal_iff}
 use Rattle.rt_reduce.proofs.merging.first_of.Goals as goal
+use Rattle.rt_base.proofs.Lists.{take-next}
 
 pub loop-i-preserved : goal.loop-i-preserved
 loop-i-preserved c = λ order lines alike.
@@ -12,7 +12,7 @@ loop-i-preserved c = λ order lines alike.
     let i = c.loop-i.i in
     let x = c.index-sides-i.result in
     subst (λ (seen : List Dtv). IsFirstAmong order lines c.args.existential seen c.in_ok-first.first)
-    (sym (taken_more all i x c.loop-i-test.true c.index-sides-i.is))
+    (sym (take-next all i x c.loop-i-test.true c.index-sides-i.is))
     (c.in_ok-first.ensures order lines (take i all)
     (equal_iff order lines c.args.existential all c.args.numbers.now c.args.own i x c.loop-i-test.true c.index-sides-i.is alike)
     (c.loop-i.invariant order lines alike))

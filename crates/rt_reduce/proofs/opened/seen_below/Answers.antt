@@ -3,8 +3,9 @@ use Rattle.rt_lines.specs.declared.line.Line.{Line}
 use Rattle.rt_lines.specs.declared.line.Line.TheVariants.{Sub}
 use Rattle.rt_rules.specs.Rules.{Derivable}
 use Rattle.rt_outline.specs.Lines.{HasBelow}
-use Rattle.rt_reduce.proofs.Opening.{apart, below_seen, first_in, given_named, no_of, pair_there, second_in, yes_of}
+use Rattle.rt_reduce.proofs.Opening.{apart, below_seen, given_named, no_of, pair_there, second_in, yes_of}
 use Rattle.rt_reduce.proofs.opened.seen_below.Goals as goal
+use Rattle.rt_sat.proofs.Below.{first_in}
 
 pub returns-then-not-are_one : goal.returns-then-not-are_one
 returns-then-not-are_one c = λ order.

@@ -2,8 +2,9 @@ use Rattle.std.proofs.Common.{inr, refl, arith}
 use Rattle.rt_scheme.specs.NameTexts.{name_text}
 use Rattle.rt_scheme.specs.NameReadings.{AreBytes}
 use Rattle.rt_reports.specs.Rows.{IsBegun, begun_text}
-use Rattle.rt_reports.proofs.RowParts.{other_fault, no_section, no_offset, large_section, no_begun_name}
+use Rattle.rt_reports.proofs.RowParts.{no_section, no_offset, large_section, no_begun_name}
 use Rattle.rt_reports.proofs.parts.read_begun.Goals as goal
+use Rattle.rt_texts.proofs.LineTexts.{fault_along}
 
 pub returns-in_default-number_before : goal.returns-in_default-number_before
 returns-in_default-number_before c = inr (refl, no_section _ _ _ c.in-Some.ensures c.in_default-number_before.ensures)
@@ -16,5 +17,5 @@ returns-in_default-try_from c = inr (refl, large_section _ _ _ _ _ c.in-Some.ens
 
 pub returns-in-Err : goal.returns-in-Err
 returns-in-Err c =
-    other_fault AreBytes name_text c.in-Some-number_before-2.escaped.now IsBegun begun_text c.args.text.now c.in-Err.fault
+    fault_along AreBytes name_text c.in-Some-number_before-2.escaped.now IsBegun begun_text c.args.text.now c.in-Err.fault
     (no_begun_name _ _ _ c.args.text.now c.in-Some.text.now c.in-Some-number_before.text.now c.in-Some-number_before-2.escaped.now c.in-Some.ensures c.in-Some-number_before.ensures c.in-Some-number_before-2.ensures) c.in-Err.ensures

@@ -4,9 +4,9 @@ use Rattle.rt_lines.specs.declared.variable.Base.{Base}
 use Rattle.rt_lines.specs.Equality.{base_eq}
 use Rattle.rt_lines.proofs.Equal.{base_equal}
 use Rattle.rt_shape.specs.Graphs.{Graph, base_of}
-use Rattle.rt_shape.proofs.Letters.{base_self}
 use Rattle.rt_shape.proofs.Mapped.{IsCarried-more, IsCarried-all}
 use Rattle.rt_shape.proofs.quotient.bases_of.Goals as goal
+use Rattle.rt_lines.proofs.Same.{base_self}
 
 -- one base has one node
 coherent : (graph : Graph) (number : List ℕ) (p q : Base) (m n : ℕ) → p ≡ q → base_of graph p ≡ Some m → base_of graph q ≡ Some n → slice_index number m ≡ slice_index number n

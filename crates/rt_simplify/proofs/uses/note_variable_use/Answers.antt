@@ -4,8 +4,8 @@ use Rattle.std.specs.Ordering.{nat_cmp}
 use Rattle.rt_reduction.specs.Twins.{Variable}
 use Rattle.rt_simplify.specs.Uses.{IsVariableUse}
 use Rattle.rt_simplify.proofs.Noting.{noted_none}
-use Rattle.rt_simplify.proofs.Owning.{peer_use}
 use Rattle.rt_simplify.proofs.uses.note_variable_use.Goals as goal
+use Rattle.rt_reduction.proofs.AllTwins.{peer_use}
 
 pub returns-in_default-owner : goal.returns-in_default-owner
 returns-in_default-owner c =

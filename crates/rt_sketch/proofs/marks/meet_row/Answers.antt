@@ -1,7 +1,8 @@
 use Rattle.std.proofs.Common.{◌≡◌, ◌+◌, ◌⊎◌, inl, inr, Contains, refl, take}
 use Rattle.rt_lattice.specs.Lattices.{IsBelow, size_of}
-use Rattle.rt_sketch.proofs.Joining.{first_none, itself, greatest_as, greatest_more, greatest_one, row_member, row_more, row_left, row_back, row_small, row_whole, take_here, transitive}
+use Rattle.rt_sketch.proofs.Joining.{first_none, itself, greatest_as, greatest_more, greatest_one, row_more, row_left, row_back, row_small, row_whole, take_here, transitive}
 use Rattle.rt_sketch.proofs.marks.meet_row.Goals as goal
+use Rattle.rt_base.proofs.Lists.{Contains-at}
 
 pub loop-bound-init : goal.loop-bound-init
 loop-bound-init c =
@@ -12,7 +13,7 @@ pub meet-mark-requires-clause-first : goal.meet-mark-requires-clause-first
 meet-mark-requires-clause-first c = c.loop-bound.invariant.within
 
 pub meet-mark-requires-clause-second : goal.meet-mark-requires-clause-second
-meet-mark-requires-clause-second c = c.requires.bounds _ (row_member c.args.row.now c.loop-bound.bound-index c.loop-bound-test.true)
+meet-mark-requires-clause-second c = c.requires.bounds _ (Contains-at c.args.row.now c.loop-bound.bound-index c.loop-bound-test.true)
 
 pub loop-bound-preserved : goal.loop-bound-preserved
 loop-bound-preserved c =
@@ -20,7 +21,7 @@ loop-bound-preserved c =
     let i = c.loop-bound.bound-index in
     greatest_more (IsBelow c.args.lattice.now) (size_of c.args.lattice.now) (transitive c.args.lattice.now c.requires.lattice) (itself c.args.lattice.now) (λ k. (k ≡ c.args.first) ⊎ Contains (take i row) k)
     (λ k. (k ≡ c.args.first) ⊎ Contains (take (i + 1) row) k) c.loop-bound.mark _ c.meet-mark.result (row_small (size_of c.args.lattice.now) c.args.first row i c.requires.first c.requires.bounds)
-    (c.requires.bounds _ (row_member row i c.loop-bound-test.true)) (row_more c.args.first row i c.loop-bound-test.true) (row_left c.args.first row i c.loop-bound-test.true) (inr (take_here row i c.loop-bound-test.true)) c.loop-bound.invariant c.meet-mark.ensures
+    (c.requires.bounds _ (Contains-at row i c.loop-bound-test.true)) (row_more c.args.first row i c.loop-bound-test.true) (row_left c.args.first row i c.loop-bound-test.true) (inr (take_here row i c.loop-bound-test.true)) c.loop-bound.invariant c.meet-mark.ensures
 
 pub returns : goal.returns
 returns c =

@@ -6,8 +6,8 @@ use Rattle.rt_track.specs.declared.nodes.Node.TheVariants.{Join}
 use Rattle.rt_track.specs.Inputs.{node_of, use_in}
 use Rattle.rt_track.specs.Operations.{entries_of}
 use Rattle.rt_track.proofs.Graphing.{made_none, made_more, made_all}
-use Rattle.rt_track.proofs.Using.{slice_get-front}
 use Rattle.rt_track.proofs.graph.nodes.Goals as goal
+use Rattle.rt_base.proofs.Lists.{slice_get-front}
 
 pub loop-number-preserved : goal.loop-number-preserved
 loop-number-preserved c =

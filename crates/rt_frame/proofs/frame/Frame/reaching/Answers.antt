@@ -4,8 +4,8 @@ use Rattle.rt_flow.specs.declared.def.Def.TheVariants.{At}
 use Rattle.rt_flow.specs.Sources.{defs_in}
 use Rattle.rt_frame.specs.Told.{frame_sites}
 use Rattle.rt_frame.proofs.Framed.{reaching_at}
-use Rattle.rt_frame.proofs.Within.{within_each}
 use Rattle.rt_frame.proofs.frame.Frame.reaching.Goals as goal
+use Rattle.rt_body.proofs.Within.{within_each}
 
 pub returns-clause-within : goal.returns-clause-within
 returns-clause-within c =

@@ -4,9 +4,7 @@ use Rattle.rt_polar.specs.Places.{Holds}
 use Rattle.rt_polar.proofs.Holding.{same_or_apart}
 use Rattle.rt_polar.proofs.Slots.{held_by, read_held, within}
 use Rattle.rt_polar.proofs.places.Places.find.Goals as goal
-
-or_from : (i from : ℕ) → (i < from) ⊎ (from ≤ i)
-or_from i from = grind arith
+use Rattle.std.proofs.lemmas.Bool.{cases_lt}
 
 pub returns-then-is_held : goal.returns-then-is_held
 returns-then-is_held c =
@@ -15,7 +13,7 @@ returns-then-is_held c =
     held_by slots c.in-Some.slot c.index.result.now c.args.row.now (within slots c.in-Some.slot s.0 s.1) (sym c.index.ensures ∙ c.is_held.ensures.0 c.if-is_held.true)
 
 pub loop-slot-preserved : goal.loop-slot-preserved
-loop-slot-preserved c = λ i lt h. by i lt h (or_from i c.loop-slot.from) (same_or_apart i c.in-Some.slot)
+loop-slot-preserved c = λ i lt h. by i lt h (cases_lt i c.loop-slot.from) (same_or_apart i c.in-Some.slot)
   where
     by : (i : ℕ) → i < c.in-Some.slot + 1 → Holds c.args.self.now.slots.items i c.args.row.now → (i < c.loop-slot.from) ⊎ (c.loop-slot.from ≤ i) → (i ≡ c.in-Some.slot) ⊎ (i ≢ c.in-Some.slot) → ⊥
     by i lt h (inl less) same = c.loop-slot.invariant i less h
@@ -31,7 +29,7 @@ loop-slot-preserved c = λ i lt h. by i lt h (or_from i c.loop-slot.from) (same_
         omega (arith, lt, apart, least)
 
 pub returns : goal.returns
-returns c = λ i h. by i h (or_from i c.loop-slot.from)
+returns c = λ i h. by i h (cases_lt i c.loop-slot.from)
   where
     by : (i : ℕ) → Holds c.args.self.now.slots.items i c.args.row.now → (i < c.loop-slot.from) ⊎ (c.loop-slot.from ≤ i) → ⊥
     by i h (inl less) = c.loop-slot.invariant i less h

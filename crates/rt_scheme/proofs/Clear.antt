@@ -1,8 +1,8 @@
--- No line end stands in a line or in the text of a name.
+-- Bytes that do not stand in lines and in the texts of names: line ends anywhere, spaces in numbers.
 use Rattle.std.proofs.Common.{◌≡◌, ℕ, suc, ◌+◌, ◌<◌, ◌≤◌, ◌^◌, ◌/◌, ◌%◌, ◌==◌, List, [], ◌∷◌, ◌++◌, Bool, true, false, ◌&&◌, nat_lt, if◌then◌else◌, refl, inl, inr, arith, codes, decimal, ℤ, pos, negsuc, FitsSigned, w32, All, length, slice_index_or}
 use Rattle.std.specs.Fmt.{signed_decimal}
 use Rattle.std.specs.List.{flat_map}
-use Rattle.std.proofs.lemmas.Bool.{ltb-true, and_parts}
+use Rattle.std.proofs.lemmas.Bool.{false≢true, ltb-true, and_parts}
 use Rattle.std.proofs.lemmas.Bool.Decides.{nat_tests}
 use Rattle.std.proofs.lemmas.Fmt.{decimal_by_steps}
 use Rattle.std.proofs.lemmas.List.Elements.{All-head, All-tail}
@@ -20,26 +20,10 @@ use Rattle.rt_texts.specs.Goods.{IsBase, IsWord, IsDtv, IsLine}
 use Rattle.rt_texts.specs.Texts.{field_front, label_text, base_text, word_text, dtv_text, constant_text, line_text}
 use Rattle.rt_texts.specs.Readings.{HasNo}
 use Rattle.rt_scheme.specs.NameTexts.{hexadecimal_digit, is_plain, byte_text, name_text}
-
--- each byte is greater
-abbrev pub AreAbove : ℕ → List ℕ → Type 0
-AreAbove low [] = Unit {0}
-AreAbove low (b ∷ bs) = (low < b) × AreAbove low bs
-
-AreAbove-append : (low : ℕ) (a b : List ℕ) → AreAbove low a → AreAbove low b → AreAbove low (a ++ b)
-AreAbove-append low [] b h k = k
-AreAbove-append low (x ∷ a) b (h, hs) k = (h, AreAbove-append low a b hs k)
-
-AreAbove-less : (low less : ℕ) (a : List ℕ) → less ≤ low → AreAbove low a → AreAbove less a
-AreAbove-less low less [] le h = tt
-AreAbove-less low less (x ∷ a) le (h, hs) = (omega arith, AreAbove-less low less a le hs)
-
-pub HasNo-above : (byte low : ℕ) (a : List ℕ) → byte ≤ low → AreAbove low a → HasNo byte a
-HasNo-above byte low [] le h = tt
-HasNo-above byte low (x ∷ a) le (h, hs) = (λ e. absurd (omega arith), HasNo-above byte low a le hs)
+use Rattle.rt_texts.proofs.Clear.{AreAbove, AreAbove-append, AreAbove-less, HasNo-above}
 
 -- digits are
-AreAbove-decimal : (n : ℕ) → n < 2 ^ 64 → AreAbove 47 (decimal n)
+pub AreAbove-decimal : (n : ℕ) → n < 2 ^ 64 → AreAbove 47 (decimal n)
 AreAbove-decimal n h =
     decimal_by_steps (λ n ds. AreAbove 47 ds)
     (λ n small. (omega arith, tt))
@@ -58,13 +42,13 @@ abbrev are_visible : List ℕ → Bool
 are_visible [] = true
 are_visible (x ∷ xs) = nat_lt 31 x && are_visible xs
 
-AreAbove-fixed : (front : List ℕ) → are_visible front ≡ true → AreAbove 31 front
+pub AreAbove-fixed : (front : List ℕ) → are_visible front ≡ true → AreAbove 31 front
 AreAbove-fixed [] h = tt
 AreAbove-fixed (x ∷ xs) h =
     let parts = and_parts (nat_lt 31 x) (are_visible xs) h in
     (ltb-true 31 x parts.0, AreAbove-fixed xs parts.1)
 
-AreAbove-numbered : (front : List ℕ) (n : ℕ) (rest : List ℕ) → are_visible front ≡ true → n < 2 ^ 64 → AreAbove 31 rest → AreAbove 31 (front ++ (decimal n ++ rest))
+pub AreAbove-numbered : (front : List ℕ) (n : ℕ) (rest : List ℕ) → are_visible front ≡ true → n < 2 ^ 64 → AreAbove 31 rest → AreAbove 31 (front ++ (decimal n ++ rest))
 AreAbove-numbered front n rest h small good =
     AreAbove-append 31 front (decimal n ++ rest) (AreAbove-fixed front h) (AreAbove-append 31 (decimal n) rest (AreAbove-number n small) good)
 
