@@ -4,19 +4,12 @@ use Rattle.std.specs.declared.cmp.Ordering.{Ordering}
 use Rattle.std.specs.declared.cmp.Ordering.TheVariants.{Less, Equal, Greater}
 use Rattle.std.specs.Ordering.{nat_cmp, ordering_then, is_lt, is_eq}
 use Rattle.std.proofs.lemmas.Bool.Decides.{nat_tests}
-use Rattle.std.proofs.lemmas.Bool.{cases_lt, cases_eq, eqb-true}
+use Rattle.std.proofs.lemmas.Bool.{cases_eq, eqb-true}
 use Rattle.std.proofs.lemmas.Map.Lookups.{exact_unsigned}
 use Rattle.std.specs.Prelude.{nat_eq}
 
 pub nat_cmp-less : (a b : ℕ) → nat_cmp a b ≡ Less → a < b
 nat_cmp-less a b e = grind (arith, nat_tests)
-
-pub cases_last : (i n : ℕ) → i < n + 1 → (i < n) ⊎ (i ≡ n)
-cases_last i n less = by (cases_lt i n)
-  where
-    by : (i < n) ⊎ (n ≤ i) → (i < n) ⊎ (i ≡ n)
-    by (inl h) = inl h
-    by (inr h) = inr (omega arith)
 
 pub nat_cmp-equal : (a b : ℕ) → nat_cmp a b ≡ Equal → a ≡ b
 nat_cmp-equal a b e = grind (arith, nat_tests)

@@ -6,7 +6,7 @@ use Rattle.rt_components.specs.declared.walk.State.{State}
 use Rattle.rt_components.specs.declared.walk.State.TheVariants.{Unseen, OnPath, InClass}
 use Rattle.rt_components.specs.Graphs.{successors}
 use Rattle.rt_components.specs.Walks.{state_of, IsMet, LeadsOn, IsSpent, IsPath, left}
-use Rattle.rt_base.proofs.Numbers.{cases_last}
+use Rattle.rt_base.proofs.Numbers.{before_or}
 
 pub advanced : (graph : List (List ℕ)) (state : List State) (followed path starts pending : List ℕ) → IsPath graph state followed path starts pending → (node edge to : ℕ) → node < length graph → (state_of state node ≡ Unseen → ⊥) →
     slice_index followed node ≡ edge → slice_index (successors graph node) edge ≡ to → ((g : ℕ) × (state_of state to ≡ InClass g)) ⊎ ((j : ℕ) × (state_of state to ≡ OnPath j) × ((s : ℕ) → Contains starts s → s ≤ j)) →
@@ -49,7 +49,7 @@ advanced graph state followed path starts pending was node edge to within seen n
 
     leads : (i a : ℕ) → LeadsOn graph state followed starts i a → (a ≡ node) ⊎ (a ≡ node → ⊥) → LeadsOn graph state (set followed node (edge + 1)) starts i a
     leads i a old (inr ne) = λ e f g. old e (subst (λ n. e < n) (other a ne) f) g
-    leads i a old (inl h) = λ e f g. by e g (cases_last e edge (subst (λ n. e < n) (ap (slice_index (set followed node (edge + 1))) h ∙ same) f))
+    leads i a old (inl h) = λ e f g. by e g (before_or edge e (subst (λ n. e < n) (ap (slice_index (set followed node (edge + 1))) h ∙ same) f))
       where
         by : (e : ℕ) → e < length (successors graph a) → (e < edge) ⊎ (e ≡ edge) → IsMet state starts i (slice_index (successors graph a) e)
         by e g (inl less) = old e (subst (λ n. e < n) (sym (ap (slice_index followed) h ∙ next)) less) g

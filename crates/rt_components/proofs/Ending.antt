@@ -3,7 +3,7 @@ use Rattle.std.proofs.Common.{◌≡◌, ℕ, zero, suc, ◌<◌, ◌⊎◌, inl
 use Rattle.rt_components.specs.Orders.{least_of, AreAllInOrder, AreLinked, HasCome, IsToCome, HaveCome, IsWaiting, IsQueueOf}
 use Rattle.rt_components.proofs.Numbers.{cons_here, cons_there, cons_cases}
 use Rattle.rt_components.proofs.Taking.{cases_come, not_both}
-use Rattle.rt_base.proofs.Numbers.{cases_last}
+use Rattle.rt_base.proofs.Numbers.{before_or}
 use Rattle.rt_base.proofs.Lists.{Contains-none}
 
 module _ (class : List ℕ) (members others : List (List ℕ)) (linked : AreLinked class members others) (come : List Bool) (order passed : List ℕ) (waiting : List (List ℕ)) where
@@ -67,7 +67,7 @@ module _ (class : List ℕ) (members others : List (List ℕ)) (linked : AreLink
 
     come_below : (n j : ℕ) → j < n → j < length others → HasCome come j
     come_below zero j less low = absurd (omega arith)
-    come_below (suc n) j less low = by (λ i l m. come_below n i l m) (cases_last j n (omega arith))
+    come_below (suc n) j less low = by (λ i l m. come_below n i l m) (before_or n j (omega arith))
       where
         by : ((i : ℕ) → i < n → i < length others → HasCome come i) → (j < n) ⊎ (j ≡ n) → HasCome come j
         by below (inl l) = below j l low

@@ -10,7 +10,7 @@ use Rattle.rt_components.specs.Groups.{Reaches}
 use Rattle.rt_components.specs.Groups.Reaches.{there}
 use Rattle.rt_components.specs.Walks.{state_of, IsNotBefore, IsMet, LeadsOn, IsSpent, IsPath, AreWhole}
 use Rattle.rt_components.proofs.Numbers.{push_old, push_last, Rises-push}
-use Rattle.rt_base.proofs.Numbers.{cases_last}
+use Rattle.rt_base.proofs.Numbers.{before_or}
 
 pub unseen_place : (i : ℕ) → Unseen ≡ OnPath i → ⊥
 unseen_place i e = cc
@@ -71,7 +71,7 @@ module _ (graph : List (List ℕ)) (state : List State) (followed path starts pe
       by a g (inr f) = f
 
   last_place : (i : ℕ) → i < length (path ++ node ∷ []) → (i < length path) ⊎ (i ≡ length path)
-  last_place i less = cases_last i (length path) (subst (λ n. i < n) (length_push path node) less)
+  last_place i less = before_or (length path) i (subst (λ n. i < n) (length_push path node) less)
 
   at_last : (i : ℕ) → i ≡ length path → slice_index (path ++ node ∷ []) i ≡ node
   at_last i e = ap (slice_index (path ++ node ∷ [])) e ∙ push_last path node

@@ -11,7 +11,7 @@ use Rattle.rt_components.specs.Walks.{state_of, IsLast, IsNotBefore, IsMet, Lead
 use Rattle.rt_components.proofs.Numbers.{place_in, push_old, push_last, rises_front, in_front, front_or_last, front_below, greatest_last}
 use Rattle.rt_components.proofs.Reaching.{reaches_closed}
 use Rattle.rt_components.proofs.Entering.{unseen_place, unseen_class, place_class, same_place, same_class}
-use Rattle.rt_base.proofs.Numbers.{cases_last}
+use Rattle.rt_base.proofs.Numbers.{before_or}
 
 pub on_path_of : (graph : List (List ℕ)) (state : List State) (followed path starts pending : List ℕ) → IsPath graph state followed path starts pending → AreOnPath state path
 on_path_of graph state followed path starts pending was = record {
@@ -202,7 +202,7 @@ module _ (graph : List (List ℕ)) (state : List State) (followed path starts pe
           (subst (λ p. p < length graph) at.1 (was.node_at i at.0).0, omega arith)
 
       some : (h : ℕ) → h < length more → state_of after (slice_index more h) ≡ InClass h
-      some h less = by (cases_last h (length heads) (subst (λ n. h < n) length_more less))
+      some h less = by (before_or (length heads) h (subst (λ n. h < n) length_more less))
         where
           by : (h < length heads) ⊎ (h ≡ length heads) → state_of after (slice_index more h) ≡ InClass h
           by (inl l) = ap (λ xs. state_of after (slice_index xs h)) more_is ∙ ap (state_of after) (push_old heads (slice_index path top) h l) ∙ closed.whole (slice_index heads h) h (whole.some h l)

@@ -8,7 +8,7 @@ use Rattle.rt_components.specs.Graphs.{HasEdge}
 use Rattle.rt_components.specs.Groups.{group_at}
 use Rattle.rt_components.specs.Classes.{AreMembers, AddsOthers, AreSuccessors}
 use Rattle.rt_components.proofs.Numbers.{contains_at, push_old, push_last}
-use Rattle.rt_base.proofs.Numbers.{cases_last}
+use Rattle.rt_base.proofs.Numbers.{before_or}
 use Rattle.rt_base.proofs.Lists.{Contains-none}
 
 -- no list of so many empty ones contains anything
@@ -28,7 +28,7 @@ set_cases lists k ys less j = by (cases_eq j k)
     by (inr ne) = inr (ne, get_or-set_other lists k j ys [] ne)
 
 increasing_push : (xs : List ℕ) (y : ℕ) → IsStrictlyIncreasing xs → ((x : ℕ) → Contains xs x → x < y) → IsStrictlyIncreasing (xs ++ y ∷ [])
-increasing_push xs y rises below k less = by (cases_last (k + 1) (length xs) (subst (λ n. k + 1 < n) (length_push xs y) less))
+increasing_push xs y rises below k less = by (before_or (length xs) (k + 1) (subst (λ n. k + 1 < n) (length_push xs y) less))
   where
     by : (k + 1 < length xs) ⊎ (k + 1 ≡ length xs) → slice_index (xs ++ y ∷ []) k < slice_index (xs ++ y ∷ []) (k + 1)
     by (inl h) =
@@ -58,7 +58,7 @@ pub members_more : (class : List ℕ) (count node : ℕ) (members : List (List �
     AreMembers class count (node + 1) (set members k ys)
 members_more class count node members are k is less ys pushed = record {
   each = length-set members k ys ∙ are.each;
-  found = λ a low. found a (cases_last a node low);
+  found = λ a low. found a (before_or node a low);
   only = λ j a c. only j a c (at j);
   rising = λ j. rising j (at j);
 }
@@ -149,7 +149,7 @@ pub successors_more : (graph : List (List ℕ)) (class : List ℕ) (count node :
     AreSuccessors graph class count (node + 1) (set others k ys)
 successors_more graph class count node others are k is less ys adds = record {
   each = length-set others k ys ∙ are.each;
-  found = λ a b low edge ne. found a b edge ne (cases_last a node low);
+  found = λ a b low edge ne. found a b edge ne (before_or node a low);
   only = λ j h c. only j h c (at j);
 }
   where

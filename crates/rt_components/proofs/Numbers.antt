@@ -6,7 +6,7 @@ use Rattle.std.proofs.lemmas.Option.{slice_get_within, slice_get-get_or, get_or_
 use Rattle.std.proofs.lemmas.List.{take_all, take_more, get_or_default, get_or_append_left, get_or_push, length_push}
 use Rattle.std.proofs.lemmas.List.Elements.{Contains-get_or, Contains-append_left, Contains-append_right, Contains-append_cases, Contains-push, Contains-push_cases}
 use Rattle.rt_components.specs.Walks.{Rises, IsLast}
-use Rattle.rt_base.proofs.Numbers.{cases_last}
+use Rattle.rt_base.proofs.Numbers.{before_or}
 use Rattle.rt_base.proofs.Lists.{Contains-none}
 
 -- the place of what a list contains
@@ -41,7 +41,7 @@ pub push_last : (xs : List ℕ) (y : ℕ) → slice_index (xs ++ y ∷ []) (leng
 push_last xs y = get_or_push xs y 0 (length xs) refl
 
 pub Rises-push : (xs : List ℕ) (y : ℕ) → Rises xs → ((x : ℕ) → Contains xs x → x < y) → Rises (xs ++ y ∷ [])
-Rises-push xs y rises below i j less within = by (cases_last j (length xs) (subst (λ n. j < n) (length_push xs y) within))
+Rises-push xs y rises below i j less within = by (before_or (length xs) j (subst (λ n. j < n) (length_push xs y) within))
   where
     by : (j < length xs) ⊎ (j ≡ length xs) → slice_index (xs ++ y ∷ []) i < slice_index (xs ++ y ∷ []) j
     by (inl h) =
@@ -125,7 +125,7 @@ last_greatest xs x y rises last c =
     let place = place_in xs y c in
     let less : place.0 < length xs = place.1 in
     let at : slice_index xs place.0 ≡ y = place.2 in
-    by place.0 at is (cases_last place.0 (length xs - 1) (omega arith))
+    by place.0 at is (before_or (length xs - 1) place.0 (omega arith))
   where
     by : (k : ℕ) → slice_index xs k ≡ y → slice_index xs (length xs - 1) ≡ x → (k < length xs - 1) ⊎ (k ≡ length xs - 1) → y ≤ x
     by k at is (inl h) = let rise : slice_index xs k < slice_index xs (length xs - 1) = rises k (length xs - 1) h (omega arith) in omega arith

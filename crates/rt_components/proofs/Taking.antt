@@ -8,7 +8,7 @@ use Rattle.rt_components.specs.Groups.{group_at}
 use Rattle.rt_components.specs.Orders.{least_of, IsBefore, IsFree, AreInOrder, HasCome, IsToCome, HaveCome, IsWaiting, IsQueueOf, left_to_come}
 use Rattle.rt_components.proofs.Numbers.{place_in, contains_at, cons_here, cons_cases, push_old, push_last}
 use Rattle.rt_components.proofs.Members.{set_cases}
-use Rattle.rt_base.proofs.Numbers.{cases_last}
+use Rattle.rt_base.proofs.Numbers.{before_or}
 use Rattle.rt_base.proofs.Lists.{Contains-none}
 
 -- whether a class has come
@@ -80,7 +80,7 @@ module _ (others members : List (List ℕ)) (come : List Bool) (order passed : L
   come_before i h le (j, less, e) = was.come_back h (subst (Contains order) e (contains_at order j (omega arith)))
 
   last_place : (i : ℕ) → i < length (order ++ k ∷ []) → (i < length order) ⊎ (i ≡ length order)
-  last_place i less = cases_last i (length order) (subst (λ n. i < n) (length_push order k) less)
+  last_place i less = before_or (length order) i (subst (λ n. i < n) (length_push order k) less)
 
   at_last : (i : ℕ) → i ≡ length order → slice_index (order ++ k ∷ []) i ≡ k
   at_last i e = ap (slice_index (order ++ k ∷ [])) e ∙ push_last order k

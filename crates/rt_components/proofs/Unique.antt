@@ -8,7 +8,7 @@ use Rattle.rt_components.specs.Groups.{AreTogether, AreGroups, IsAmongFirst, May
 use Rattle.rt_components.specs.Groups.Reaches.{there}
 use Rattle.rt_components.specs.Walks.{Rises}
 use Rattle.rt_components.proofs.Numbers.{place_in, contains_at, cons_here, cons_there, cons_cases}
-use Rattle.rt_base.proofs.Numbers.{cases_last}
+use Rattle.rt_base.proofs.Numbers.{before_or}
 use Rattle.rt_base.proofs.Lists.{Contains-none}
 
 rises : (xs : List ℕ) → IsStrictlyIncreasing xs → Rises xs
@@ -129,7 +129,7 @@ module _ (count : ℕ) (Edge : ℕ → ℕ → Type 0) where
 
   all_first : (xs ys : List (List ℕ)) → AreGroups count Edge xs → AreGroups count Edge ys → (k : ℕ) → k ≤ length xs → SameFirst xs ys k
   all_first xs ys p q zero le i less = absurd (omega arith)
-  all_first xs ys p q (suc k) le i less = by (all_first xs ys p q k (omega arith)) (cases_last i k (omega arith))
+  all_first xs ys p q (suc k) le i less = by (all_first xs ys p q k (omega arith)) (before_or k i (omega arith))
     where
       by : SameFirst xs ys k → (i < k) ⊎ (i ≡ k) → group_at xs i ≡ group_at ys i
       by same (inl low) = same i low

@@ -13,7 +13,7 @@ use Rattle.rt_erase.specs.Rows.{fields_of, label_of, row_at}
 use Rattle.rt_erase.specs.Erasures.{erased_step, rows_step, target_of}
 use Rattle.rt_erase.specs.Erasing.{IsErasing, KeepsBelow}
 use Rattle.rt_erase.proofs.Edging.{same_step, joined_at, joined_marks, joined_other}
-use Rattle.rt_base.proofs.Numbers.{cases_last}
+use Rattle.rt_base.proofs.Numbers.{before_or}
 use Rattle.rt_lines.proofs.Same.{label_self}
 use Rattle.rt_tree.proofs.Reaching.{joined_length, new_step}
 
@@ -138,7 +138,7 @@ pub erasing_next : (extremes : Extremes) (start : ℕ) (tree : Nodes) (n : ℕ) 
     IsErasing extremes start tree n (fields_of (node_at tree n)) graph → IsErasing extremes start tree (n + 1) [] graph
 erasing_next extremes start tree n graph less is = record {
   marks = is.marks;
-  before = λ k smaller l. before k l (cases_last k n smaller);
+  before = λ k smaller l. before k l (before_or n k smaller);
   here = λ inside l. is.after (n + 1) (omega arith) inside l ∙ sym (no_rows extremes start tree l);
   after = λ k greater inside l. is.after k (omega arith) inside l;
 }

@@ -3,6 +3,7 @@ use Rattle.std.proofs.Common.{◌≡◌, ◌+◌, ◌<◌, ◌≤◌, ◌⊎◌,
 use Rattle.std.specs.Prelude.{Contains, slice_index, slice_index_or}
 use Rattle.std.proofs.lemmas.Bool.{cases_eq, cases_lt}
 use Rattle.std.proofs.lemmas.List.Elements.{All-contains}
+use Rattle.rt_base.proofs.Numbers.{before_or}
 use Rattle.rt_flow.specs.declared.def.Def.{Def}
 use Rattle.rt_flow.specs.declared.def.Def.TheVariants.{Entry, At}
 use Rattle.rt_flow.specs.Bodies.{Body, IsBody, Steps, Defines, Reaches}
@@ -243,13 +244,6 @@ module _ (body : Body) (is_body : IsBody body) (block firsts : List ℕ) (are : 
 
       at_first : (x : Def) (t : ℕ) → first t ≡ t → Arrives targets lasts (slice_index block body.entry) x (slice_index block t) → Answers x t
       at_first x t head arrives = inl (λ k c low high. omega arith, arrives)
-
-      before_or : (sites_free : ℕ) (k : ℕ) → k < sites_free + 1 → (k < sites_free) ⊎ (k ≡ sites_free)
-      before_or n k less = by (cases_eq k n)
-        where
-          by : (k ≡ n) ⊎ (k ≡ n → ⊥) → (k < n) ⊎ (k ≡ n)
-          by (inl e) = inr e
-          by (inr other) = inl (omega arith)
 
       none_more : (from s : ℕ) → NoneWithin sites from s → (Contains sites s → ⊥) → NoneWithin sites from (s + 1)
       none_more from s none free k c low high = by (before_or s k high)
