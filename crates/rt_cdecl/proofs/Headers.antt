@@ -1,5 +1,5 @@
 -- Texts of headers that are read line by line.
-use Rattle.std.proofs.Common.{◌≡◌, ◌≢◌, ◌↔◌, IsTrue, ℕ, Bool, true, false, ◌+◌, ◌≤◌, ◌^◌, ◌⊎◌, inl, inr, List, [], ◌∷◌, ◌++◌, All, map, fold, length, refl, ap, sym, subst, ◌∙◌, arith, append_assoc, append-nil, length-append, Contains}
+use Rattle.std.proofs.Common.{◌≡◌, ◌≢◌, ◌↔◌, IsTrue, ℕ, suc, Bool, true, false, ◌+◌, ◌≤◌, ◌^◌, ◌⊎◌, inl, inr, List, [], ◌∷◌, ◌++◌, All, map, fold, length, refl, ap, sym, subst, ◌∙◌, arith, append_assoc, append-nil, length-append, Contains}
 use Rattle.std.specs.List.{flat_map}
 use Rattle.std.specs.Bool.{◌==◌}
 use Rattle.std.proofs.lemmas.Bool.{false≢true}
@@ -100,32 +100,35 @@ Accepts-push : (parts : Parts) (rows : List Row) (last : Parts) (row : Row) → 
 Accepts-push parts [] last row all fits = (subst (λ p. Fits p row) (sym all) fits, ap (λ p. with_row p row) all)
 Accepts-push parts (r ∷ rows) last row all fits = (all.0, Accepts-push (with_row parts r) rows last row all.1 fits)
 
--- lines stand before the rest of a text, which begins with the line of this number
-pub record IsRead (text : List ℕ) (parts : Parts) (rest : List ℕ) (number : ℕ) : Type 0 where
+-- lines stand before the rest of a text, which begins at this byte
+pub record IsRead (text : List ℕ) (parts : Parts) (rest : List ℕ) (place : ℕ) : Type 0 where
   pub rows : List Row
   pub fine : All IsRow rows
   pub accepted : Accepts no_parts rows parts
   pub joined : rows_text rows ++ rest ≡ text
-  pub counted : length rows + 1 ≡ number
+  pub placed : length (rows_text rows) ≡ place
 
-pub read_start : (text : List ℕ) → IsRead text no_parts text 1
-read_start text = record { rows = []; fine = All-nil IsRow; accepted = refl; joined = refl; counted = omega arith }
+pub read_start : (text : List ℕ) → IsRead text no_parts text 0
+read_start text = record { rows = []; fine = All-nil IsRow; accepted = refl; joined = refl; placed = refl }
 
 rows_text-push : (rows : List Row) (row : Row) (rest : List ℕ) → rows_text (rows ++ row ∷ []) ++ rest ≡ rows_text rows ++ (row_text row ++ 10 ∷ rest)
 rows_text-push rows row rest =
     ap (λ s. s ++ rest) (flat_map-append (λ (r : Row). row_text r ++ 10 ∷ []) rows (row ∷ []) ∙ ap (λ s. rows_text rows ++ s) (append-nil (row_text row ++ 10 ∷ [])))
     ∙ (append_assoc (rows_text rows) (row_text row ++ 10 ∷ []) rest ∙ ap (λ s. rows_text rows ++ s) (append_assoc (row_text row) (10 ∷ []) rest))
 
-pub read_more : (text : List ℕ) (parts : Parts) (rest : List ℕ) (number : ℕ) (row : Row) (line more : List ℕ) → IsRead text parts rest number → IsCut 10 rest line (10 ∷ more) → IsRow row → row_text row ≡ line → Fits parts row → IsRead text (with_row parts row) more (number + 1)
-read_more text parts rest number row line more read cut good is fits =
+pub read_more : (text : List ℕ) (parts : Parts) (rest : List ℕ) (place : ℕ) (row : Row) (line more : List ℕ) → IsRead text parts rest place → IsCut 10 rest line (10 ∷ more) → IsRow row → row_text row ≡ line → Fits parts row → IsRead text (with_row parts row) more (place + length line + 1)
+read_more text parts rest place row line more read cut good is fits =
     let here : row_text row ++ 10 ∷ more ≡ rest = ap (λ s. s ++ 10 ∷ more) is ∙ sym cut.joined in
-    let long : length (read.rows ++ row ∷ []) ≡ length read.rows + 1 = length-append read.rows (row ∷ []) in
+    let joined : rows_text (read.rows ++ row ∷ []) ++ more ≡ text = rows_text-push read.rows row more ∙ (ap (λ s. rows_text read.rows ++ s) here ∙ read.joined) in
+    let all : length (rows_text (read.rows ++ row ∷ [])) + length more ≡ length text = sym (length-append (rows_text (read.rows ++ row ∷ [])) more) ∙ ap length joined in
+    let old : length (rows_text read.rows) + length rest ≡ length text = sym (length-append (rows_text read.rows) rest) ∙ ap length read.joined in
+    let this : length rest ≡ length line + suc (length more) = ap length cut.joined ∙ length-append line (10 ∷ more) in
     record {
       rows = read.rows ++ row ∷ [];
       fine = All-push IsRow read.rows row read.fine good;
       accepted = Accepts-push no_parts read.rows parts row read.accepted fits;
-      joined = rows_text-push read.rows row more ∙ (ap (λ s. rows_text read.rows ++ s) here ∙ read.joined);
-      counted = omega (arith, long, read.counted);
+      joined = joined;
+      placed = omega (arith, all, old, this, read.placed);
     }
 
 -- a line with which a header's text goes on is that of a line that may follow
@@ -143,8 +146,8 @@ with_ends-push lines line rest =
     ap (λ s. s ++ rest) (flat_map-append (λ (l : List ℕ). l ++ 10 ∷ []) lines (line ∷ []) ∙ ap (λ s. with_ends lines ++ s) (append-nil (line ++ 10 ∷ [])))
     ∙ (append_assoc (with_ends lines) (line ++ 10 ∷ []) rest ∙ ap (λ s. with_ends lines ++ s) (append_assoc line (10 ∷ []) rest))
 
-front_allowed : (text : List ℕ) (parts : Parts) (rest : List ℕ) (number : ℕ) (line : List ℕ) (read : IsRead text parts rest number) → HasNo 10 line → IsFront (with_ends (map row_text read.rows ++ line ∷ [])) → IsAllowed parts line
-front_allowed text parts rest number line read clear front =
+front_allowed : (text : List ℕ) (parts : Parts) (rest : List ℕ) (place : ℕ) (line : List ℕ) (read : IsRead text parts rest place) → HasNo 10 line → IsFront (with_ends (map row_text read.rows ++ line ∷ [])) → IsAllowed parts line
+front_allowed text parts rest place line read clear front =
     let whole : rows_text read.rows ++ (line ++ 10 ∷ front.rest) ≡ rows_text (decls_rows front.decls) =
     ap (λ s. s ++ (line ++ 10 ∷ front.rest)) (sym (before_text read.rows)) ∙ (sym (with_ends-push (map row_text read.rows) line front.rest) ∙ front.joined) in
     let next = next_row read.rows (decls_rows front.decls) line front.rest read.fine (decls_rows-good front.decls front.good) clear whole in
@@ -153,55 +156,55 @@ front_allowed text parts rest number line read clear front =
     record { row = next.row; good = next.good; is = next.is; fits = subst (λ p. Fits p next.row) (Accepts-last no_parts read.rows parts read.accepted) fits }
 
 -- a line that is bad
-before_allowed : (text : List ℕ) (parts : Parts) (rest : List ℕ) (number : ℕ) (read : IsRead text parts rest number) → AreAllowed (map row_text read.rows)
-before_allowed text parts rest number read = record { rows = read.rows; good = read.fine; are = refl; parts = parts; accepted = read.accepted }
+before_allowed : (text : List ℕ) (parts : Parts) (rest : List ℕ) (place : ℕ) (read : IsRead text parts rest place) → AreAllowed (map row_text read.rows)
+before_allowed text parts rest place read = record { rows = read.rows; good = read.fine; are = refl; parts = parts; accepted = read.accepted }
 
-bad_line : (text : List ℕ) (parts : Parts) (rest : List ℕ) (number : ℕ) (line more : List ℕ) → IsRead text parts rest number → IsCut 10 rest line (10 ∷ more) → (IsAllowed parts line → ⊥) → IsBadLine text number
-bad_line text parts rest number line more read cut bad =
+bad_line : (text : List ℕ) (parts : Parts) (rest : List ℕ) (place : ℕ) (line more : List ℕ) → IsRead text parts rest place → IsCut 10 rest line (10 ∷ more) → (IsAllowed parts line → ⊥) → IsBadLine text place
+bad_line text parts rest place line more read cut bad =
     record {
       before = map row_text read.rows;
       rest = rest;
       each = All-map (HasNo 10) row_text read.rows (λ k d lt. row_clear _ (read.fine k d lt));
       joined = ap (λ s. s ++ rest) (before_text read.rows) ∙ read.joined;
-      counted = ap (λ n. n + 1) (length-map read.rows row_text) ∙ read.counted;
-      allowed = before_allowed text parts rest number read;
-      bad = inr (line, more, cut, λ front. bad (front_allowed text parts rest number line read cut.clear front));
+      placed = ap length (before_text read.rows) ∙ read.placed;
+      allowed = before_allowed text parts rest place read;
+      bad = inr (line, more, cut, λ front. bad (front_allowed text parts rest place line read cut.clear front));
     }
 
-pub unread_line : (text : List ℕ) (parts : Parts) (rest : List ℕ) (number : ℕ) (line more : List ℕ) → IsRead text parts rest number → IsCut 10 rest line (10 ∷ more) → IsNoText IsRow row_text line → IsBadLine text number
-unread_line text parts rest number line more read cut none =
-    bad_line text parts rest number line more read cut (λ (a : IsAllowed parts line). none a.row a.good a.is)
+pub unread_line : (text : List ℕ) (parts : Parts) (rest : List ℕ) (place : ℕ) (line more : List ℕ) → IsRead text parts rest place → IsCut 10 rest line (10 ∷ more) → IsNoText IsRow row_text line → IsBadLine text place
+unread_line text parts rest place line more read cut none =
+    bad_line text parts rest place line more read cut (λ (a : IsAllowed parts line). none a.row a.good a.is)
 
-pub refused_line : (text : List ℕ) (parts : Parts) (rest : List ℕ) (number : ℕ) (line more : List ℕ) (row : Row) → IsRead text parts rest number → IsCut 10 rest line (10 ∷ more) → IsRow row → row_text row ≡ line → (Fits parts row → ⊥) → IsBadLine text number
-refused_line text parts rest number line more row read cut good is refused =
-    bad_line text parts rest number line more read cut (λ (a : IsAllowed parts line). refused (subst (Fits parts) (one_row a.row row a.good good (a.is ∙ sym is)) a.fits))
+pub refused_line : (text : List ℕ) (parts : Parts) (rest : List ℕ) (place : ℕ) (line more : List ℕ) (row : Row) → IsRead text parts rest place → IsCut 10 rest line (10 ∷ more) → IsRow row → row_text row ≡ line → (Fits parts row → ⊥) → IsBadLine text place
+refused_line text parts rest place line more row read cut good is refused =
+    bad_line text parts rest place line more read cut (λ (a : IsAllowed parts line). refused (subst (Fits parts) (one_row a.row row a.good good (a.is ∙ sym is)) a.fits))
 
 -- a text whose end is bad
-ends_whole : (text : List ℕ) (parts : Parts) (rest : List ℕ) (number : ℕ) (decls : Decls) → IsRead text parts rest number → HasNo 10 rest → IsGoodDecls decls → decls_text decls ≡ text → (rest ≡ []) × IsWhole parts
-ends_whole text parts rest number decls read clear good is =
+ends_whole : (text : List ℕ) (parts : Parts) (rest : List ℕ) (place : ℕ) (decls : Decls) → IsRead text parts rest place → HasNo 10 rest → IsGoodDecls decls → decls_text decls ≡ text → (rest ≡ []) × IsWhole parts
+ends_whole text parts rest place decls read clear good is =
     let same = same_rows read.rows (decls_rows decls) rest read.fine (decls_rows-good decls good) clear (read.joined ∙ sym is) in
     let last : fold with_row no_parts (decls_rows decls) ≡ ended decls = Accepts-last no_parts (decls_rows decls) (ended decls) (accept_decls decls good) in
     let are : ended decls ≡ parts = sym last ∙ (ap (fold with_row no_parts) same.1 ∙ Accepts-last no_parts read.rows parts read.accepted) in
     let used : All (Contains (used_types decls.structs decls.functions)) decls.typedefs = All-from_contains (Contains (used_types decls.structs decls.functions)) decls.typedefs (λ t. (good.exact t).0) in
     (same.0, subst IsWhole are (refl, refl, used))
 
-bad_end : (text : List ℕ) (parts : Parts) (rest : List ℕ) (number : ℕ) → IsRead text parts rest number → HasNo 10 rest → ((rest ≡ []) × IsWhole parts → ⊥) → IsBadLine text number
-bad_end text parts rest number read clear bad =
+bad_end : (text : List ℕ) (parts : Parts) (rest : List ℕ) (place : ℕ) → IsRead text parts rest place → HasNo 10 rest → ((rest ≡ []) × IsWhole parts → ⊥) → IsBadLine text place
+bad_end text parts rest place read clear bad =
     record {
       before = map row_text read.rows;
       rest = rest;
       each = All-map (HasNo 10) row_text read.rows (λ k d lt. row_clear _ (read.fine k d lt));
       joined = ap (λ s. s ++ rest) (before_text read.rows) ∙ read.joined;
-      counted = ap (λ n. n + 1) (length-map read.rows row_text) ∙ read.counted;
-      allowed = before_allowed text parts rest number read;
-      bad = inl (clear, λ decls good is. bad (ends_whole text parts rest number decls read clear good is));
+      placed = ap length (before_text read.rows) ∙ read.placed;
+      allowed = before_allowed text parts rest place read;
+      bad = inl (clear, λ decls good is. bad (ends_whole text parts rest place decls read clear good is));
     }
 
-pub cut_line : (text : List ℕ) (parts : Parts) (rest : List ℕ) (number : ℕ) → IsRead text parts rest number → HasNo 10 rest → rest ≢ [] → IsBadLine text number
-cut_line text parts rest number read clear some = bad_end text parts rest number read clear (λ (w : (rest ≡ []) × IsWhole parts). some w.0)
+pub cut_line : (text : List ℕ) (parts : Parts) (rest : List ℕ) (place : ℕ) → IsRead text parts rest place → HasNo 10 rest → rest ≢ [] → IsBadLine text place
+cut_line text parts rest place read clear some = bad_end text parts rest place read clear (λ (w : (rest ≡ []) × IsWhole parts). some w.0)
 
-pub unfinished_text : (text : List ℕ) (parts : Parts) (rest : List ℕ) (number : ℕ) → IsRead text parts rest number → HasNo 10 rest → (IsWhole parts → ⊥) → IsBadLine text number
-unfinished_text text parts rest number read clear part = bad_end text parts rest number read clear (λ (w : (rest ≡ []) × IsWhole parts). part w.1)
+pub unfinished_text : (text : List ℕ) (parts : Parts) (rest : List ℕ) (place : ℕ) → IsRead text parts rest place → HasNo 10 rest → (IsWhole parts → ⊥) → IsBadLine text place
+unfinished_text text parts rest place read clear part = bad_end text parts rest place read clear (λ (w : (rest ≡ []) × IsWhole parts). part w.1)
 
 -- a text that was read to its end
 some_given : (row : Row) → IsRow row → GivesSome row
@@ -240,20 +243,20 @@ whole_rows ts named ss fs numbered count =
     ap (λ r. map Typedef ts ++ (map Named (entries (λ n. n) 0 named) ++ (flat_map struct_rows ss ++ r))) (append-nil (flat_map function_rows fs))
     ∙ ap (λ r. map Typedef ts ++ (r ++ (flat_map struct_rows ss ++ flat_map function_rows fs))) names
 
-whole_made : (text : List ℕ) (ts : List CType) (named : ℕ) (ss : List CStruct) (fs : List CFunction) (stage : Stage) (number : ℕ) → IsRead text (made ts named ss fs stage) [] number → IsWhole (made ts named ss fs stage) → IsGoodDecls (record { typedefs = ts; structs = ss; functions = fs }) × (decls_text (record { typedefs = ts; structs = ss; functions = fs }) ≡ text)
-whole_made text ts named ss fs stage number read whole =
+whole_made : (text : List ℕ) (ts : List CType) (named : ℕ) (ss : List CStruct) (fs : List CFunction) (stage : Stage) (place : ℕ) → IsRead text (made ts named ss fs stage) [] place → IsWhole (made ts named ss fs stage) → IsGoodDecls (record { typedefs = ts; structs = ss; functions = fs }) × (decls_text (record { typedefs = ts; structs = ss; functions = fs }) ≡ text)
+whole_made text ts named ss fs stage place read whole =
     let idle : Accepts no_parts read.rows (made ts named ss fs Idle) = subst (λ s. Accepts no_parts read.rows (made ts named ss fs s)) whole.0 read.accepted in
     let good : IsGood (made ts named ss fs Idle) = good_all no_parts read.rows (made ts named ss fs Idle) good_start read.fine idle in
     let rows : parts_rows (made ts named ss fs Idle) ≡ read.rows = accepted_rows no_parts read.rows (made ts named ss fs Idle) kept_start (all_given read.rows read.fine) idle in
     (whole_good ts named ss fs good whole.1 whole.2, ap rows_text (sym (whole_rows ts named ss fs good.numbered whole.1) ∙ rows) ∙ (sym (append-nil (rows_text read.rows)) ∙ read.joined))
 
-pub whole_text : (text : List ℕ) (parts : Parts) (rest : List ℕ) (number : ℕ) → IsRead text parts rest number → rest ≡ [] → IsWhole parts → IsGoodDecls (decls_of parts) × (decls_text (decls_of parts) ≡ text)
-whole_text text parts rest number read none whole =
-    whole_made text parts.typedefs parts.named parts.structs parts.functions parts.stage number (subst (λ r. IsRead text parts r number) none read) whole
+pub whole_text : (text : List ℕ) (parts : Parts) (rest : List ℕ) (place : ℕ) → IsRead text parts rest place → rest ≡ [] → IsWhole parts → IsGoodDecls (decls_of parts) × (decls_text (decls_of parts) ≡ text)
+whole_text text parts rest place read none whole =
+    whole_made text parts.typedefs parts.named parts.structs parts.functions parts.stage place (subst (λ r. IsRead text parts r place) none read) whole
 
 -- a text with a bad line is no header's
-pub no_header : (text : List ℕ) (number : ℕ) → IsBadLine text number → IsNoHeader text
-no_header text number bad = by bad.bad
+pub no_header : (text : List ℕ) (place : ℕ) → IsBadLine text place → IsNoHeader text
+no_header text place bad = by bad.bad
   where
     by : (HasNo 10 bad.rest × IsNoHeader text) ⊎ ((line more : List ℕ) × IsCut 10 bad.rest line (10 ∷ more) × (IsFront (with_ends (bad.before ++ line ∷ [])) → ⊥)) → IsNoHeader text
     by (inl end) = end.1

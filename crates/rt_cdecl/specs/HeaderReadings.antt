@@ -38,18 +38,18 @@ pub record AreAllowed (lines : List (List ℕ)) : Type 0 where
 abbrev pub NoneGoesOn : List (List ℕ) → List ℕ → Type 0
 NoneGoesOn before rest = (line more : List ℕ) × IsCut 10 rest line (10 ∷ more) × (IsFront (with_ends (before ++ line ∷ [])) → ⊥)
 
--- The lines before the one of this number may each follow those before them, and with it they begin no header's text. Where the
--- text has no more whole lines than these, its end counts as a line: the text is no header's.
-pub record IsBadLine (text : List ℕ) (number : ℕ) : Type 0 where
+-- The lines before the one that begins at this byte may each follow those before them, and with it they begin no header's text.
+-- Where the text has no more whole lines than these, its end counts as a line: the text is no header's.
+pub record IsBadLine (text : List ℕ) (place : ℕ) : Type 0 where
   pub before : List (List ℕ)
   pub rest : List ℕ
   pub each : All (HasNo 10) before
   pub joined : with_ends before ++ rest ≡ text
-  pub counted : length before + 1 ≡ number
+  pub placed : length (with_ends before) ≡ place
   pub allowed : AreAllowed before
   pub bad : (HasNo 10 rest × IsNoHeader text) ⊎ NoneGoesOn before rest
 
 -- why a text is no header's; memory may run out
 abbrev pub IsFault : List ℕ → TextFault → Type 0
-IsFault text (BadText number) = IsBadLine text number
+IsFault text (BadText place) = IsBadLine text place
 IsFault text Memory = Unit {0}

@@ -15,7 +15,7 @@ returns-in-Err-BadText-clause-refused c = inr (no_header _ _ (returns-in-Err-Bad
 
 pub returns-in-Ok-false-clause-place : goal.returns-in-Ok-false-clause-place
 returns-in-Ok-false-clause-place c =
-    refused_line c.args.text.now c.loop-line.draft c.loop-line.rest.now c.loop-line.number c.in-Some.line.now c.in-Some.more.now c.in-Ok.row c.loop-line.invariant c.in-Some.ensures c.in-Ok.ensures.0 c.in-Ok.ensures.1
+    refused_line c.args.text.now c.loop-line.draft c.loop-line.rest.now c.loop-line.place c.in-Some.line.now c.in-Some.more.now c.in-Ok.row c.loop-line.invariant c.in-Some.ensures c.in-Ok.ensures.0 c.in-Ok.ensures.1
     (told_no {P = Fits c.loop-line.draft c.in-Ok.row} c.in-Ok-false.field-0 c.in-Ok-false.field-0-test c.in-Ok-false.ensures)
 
 pub returns-in-Ok-false-clause-refused : goal.returns-in-Ok-false-clause-refused
@@ -23,15 +23,14 @@ returns-in-Ok-false-clause-refused c = inr (no_header _ _ (returns-in-Ok-false-c
 
 pub loop-line-preserved : goal.loop-line-preserved
 loop-line-preserved c =
-    let next : c.in-Some-checked_add.next ≡ c.loop-line.number + 1 = (c.in-Some-checked_add.ensures {u = tt}).1 in
-    subst (λ (p : Parts). IsRead c.args.text.now p c.in-Some.more.now c.in-Some-checked_add.next) (sym c.in-Ok-with.ensures)
-    (subst (IsRead c.args.text.now (with_row c.loop-line.draft c.in-Ok.row) c.in-Some.more.now) (sym next)
-    (read_more c.args.text.now c.loop-line.draft c.loop-line.rest.now c.loop-line.number c.in-Ok.row c.in-Some.line.now c.in-Some.more.now c.loop-line.invariant c.in-Some.ensures c.in-Ok.ensures.0 c.in-Ok.ensures.1
+    subst (λ (p : Parts). IsRead c.args.text.now p c.in-Some.more.now c.in-Some-place_after.next) (sym c.in-Ok-with.ensures)
+    (subst (IsRead c.args.text.now (with_row c.loop-line.draft c.in-Ok.row) c.in-Some.more.now) (sym c.in-Some-place_after.ensures)
+    (read_more c.args.text.now c.loop-line.draft c.loop-line.rest.now c.loop-line.place c.in-Ok.row c.in-Some.line.now c.in-Some.more.now c.loop-line.invariant c.in-Some.ensures c.in-Ok.ensures.0 c.in-Ok.ensures.1
     (told_yes {P = Fits c.loop-line.draft c.in-Ok.row} c.in-Ok-true.field-0 c.in-Ok-true.field-0-test c.in-Ok-true.ensures)))
 
 pub returns-then-not-is_empty-clause-place : goal.returns-then-not-is_empty-clause-place
 returns-then-not-is_empty-clause-place c =
-    cut_line c.args.text.now c.loop-line.draft c.loop-line.rest.now c.loop-line.number c.loop-line.invariant c.in_default.ensures (some_rest c.loop-line.rest.now c.if-not-is_empty.ensures)
+    cut_line c.args.text.now c.loop-line.draft c.loop-line.rest.now c.loop-line.place c.loop-line.invariant c.in_default.ensures (some_rest c.loop-line.rest.now c.if-not-is_empty.ensures)
 
 pub returns-then-not-is_empty-clause-refused : goal.returns-then-not-is_empty-clause-refused
 returns-then-not-is_empty-clause-refused c = inr (no_header _ _ (returns-then-not-is_empty-clause-place c))
@@ -39,11 +38,11 @@ returns-then-not-is_empty-clause-refused c = inr (no_header _ _ (returns-then-no
 pub returns-in-Some-finish-clause-read : goal.returns-in-Some-finish-clause-read
 returns-in-Some-finish-clause-read c =
     subst (λ (d : Decls). IsGoodDecls d × (decls_text d ≡ c.args.text.now)) (sym c.in-Some-finish.ensures.1)
-    (whole_text c.args.text.now c.loop-line.draft c.loop-line.rest.now c.loop-line.number c.loop-line.invariant (no_rest c.loop-line.rest.now c.if-not-is_empty.ensures) c.in-Some-finish.ensures.0)
+    (whole_text c.args.text.now c.loop-line.draft c.loop-line.rest.now c.loop-line.place c.loop-line.invariant (no_rest c.loop-line.rest.now c.if-not-is_empty.ensures) c.in-Some-finish.ensures.0)
 
 pub returns-in-None-clause-place : goal.returns-in-None-clause-place
 returns-in-None-clause-place c =
-    unfinished_text c.args.text.now c.loop-line.draft c.loop-line.rest.now c.loop-line.number c.loop-line.invariant c.in_default.ensures c.in-None.ensures
+    unfinished_text c.args.text.now c.loop-line.draft c.loop-line.rest.now c.loop-line.place c.loop-line.invariant c.in_default.ensures c.in-None.ensures
 
 pub returns-in-None-clause-refused : goal.returns-in-None-clause-refused
 returns-in-None-clause-refused c = inr (no_header _ _ (returns-in-None-clause-place c))
