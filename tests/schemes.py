@@ -1,7 +1,7 @@
 """Reduces lists of lines to schemes: a transcript of the definitions, by which a procedure has one scheme.
 
-It is written from crates/rt_polar/specs (Puts, Tidied), crates/rt_reduction/specs (Twins, Simplifies, Before, Emits, Merges,
-Drops, Rounds), crates/rt_scheme/specs (Schemes, SplitExistentials) and crates/rt_settle/specs (Chosen), step by step, and is
+It is written from crates/rt_polar/specs (Puts, Tidied), crates/rt_refine/specs (Refinements), crates/rt_reduction/specs (Twins,
+Simplifies, Before, Emits, Merges, Drops, Rounds), crates/rt_scheme/specs (Schemes, SplitExistentials) and crates/rt_settle/specs (Chosen), step by step, and is
 slow. Lines and variables are those of derivation.py.
 """
 import heapq
@@ -45,6 +45,49 @@ def tidied(lines):
     """Each line once, and none that puts a variable beside itself."""
     return list(dict.fromkeys(('var', line[1]) if line[0] in ('same', 'below') and line[1] == line[2] else line
                               for line in lines))
+
+# ------------------------------------------------------------------ classes of existentials
+
+
+def ends_of(classes, lines):
+    """The lines and bounds of each existential, the other sides by their classes, with its own class."""
+    def moved(x):
+        return (('class', classes[x[0][1]]),) + x[1:] if is_exist(x) else x
+
+    found = {number: set() for number in classes}
+    for line in lines:
+        if line[0] == 'below':
+            ends = ((line[1], ('left', moved(line[2]))), (line[2], ('right', moved(line[1]))))
+        elif line[0] == 'low':
+            ends = ((line[2], ('low', line[1])),)
+        elif line[0] == 'up':
+            ends = ((line[1], ('up', line[2])),)
+        else:
+            ends = ()
+        for x, end in ends:
+            if is_exist(x):
+                found[x[0][1]].add((x[1:], end))
+    return {number: (classes[number], frozenset(ends)) for number, ends in found.items()}
+
+
+def least_of(keys):
+    """For each existential the least one with the same key."""
+    least = {}
+    for number in sorted(keys):
+        least.setdefault(keys[number], number)
+    return {number: least[key] for number, key in keys.items()}
+
+
+def refined(lines):
+    """Existentials of one shape whose `<=` lines and bounds are the same but for classes become the least of their class, by
+    the coarsest such classes: those of one shape are split until no class is split any more."""
+    shape = Shape(lines)
+    classes = least_of({number: shape.node(exist(number)) for number in exists_of(lines)})
+    while True:
+        finer = least_of(ends_of(classes, lines))
+        if finer == classes:
+            return tidied(placed({number: exist(least) for number, least in classes.items()}, lines))
+        classes = finer
 
 # ------------------------------------------------------------------ putting
 
@@ -244,7 +287,7 @@ def is_done(lines):
 def reduced(lines, lattice):
     lines = tidied(lines)
     while True:
-        lines = dropped(merged(emitted(simplified(lines))), lattice)
+        lines = dropped(merged(emitted(simplified(refined(lines)))), lattice)
         if is_done(lines):
             return lines
 

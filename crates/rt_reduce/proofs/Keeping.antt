@@ -1,5 +1,5 @@
 -- What a round keeps: sides of schemes, and constants below a count.
-use Rattle.std.proofs.Common.{◌≡◌, ℕ, ◌⊎◌, inl, inr, List, ◌∷◌, ◌++◌, All, Contains, map, Bool, true, false, cond, sym, subst}
+use Rattle.std.proofs.Common.{◌≡◌, ℕ, ◌⊎◌, inl, inr, List, ◌∷◌, ◌++◌, All, Contains, map, Bool, true, false, cond, sym, ap, subst, ◌∙◌}
 use Rattle.std.proofs.lemmas.List.Elements.{All-contains, Contains-append_cases}
 use Rattle.rt_base.proofs.Lists.{All-from_contains, Contains-map_source, Contains-wider, Contains-middle_cases}
 use Rattle.rt_lines.specs.declared.variable.Base.TheVariants.{Exist}
@@ -13,15 +13,18 @@ use Rattle.rt_lines.proofs.LineSides.{HasConstantsBelow-map_line}
 use Rattle.rt_rules.specs.Alike.{map_line}
 use Rattle.rt_rules.specs.Laws.{NamesBase}
 use Rattle.rt_rules.specs.Put.{put_lines, put_each, use_of}
+use Rattle.rt_refine.specs.Refinements.{move, IsCoarsest, refined}
 use Rattle.rt_polar.specs.Puts.{Exchanges, Puts}
 use Rattle.rt_polar.specs.Puts.Exchanges.{goes, exists_still}
 use Rattle.rt_polar.specs.Puts.Puts.{none_left, puts}
 use Rattle.rt_polar.specs.Tidied.{tidied}
 use Rattle.rt_reduction.specs.Emits.{flow_lines, first_side, AreOfScheme, IsAnchored, IsEmitted, IsShapeLine}
 use Rattle.rt_reduction.specs.Simplifies.{Simplifies, simple, twins_go}
+use Rattle.rt_reduction.specs.Rounds.{Refines}
 use Rattle.rt_reduction.proofs.Anchoring.{keep_source}
 use Rattle.rt_reduction.proofs.Flow.{flow_source}
 use Rattle.rt_reduction.proofs.FromSides.{from_chain, from_put, from_scheme, from_self, from_simple, from_tidied}
+use Rattle.rt_reduction.proofs.Refined.{from_classes}
 use Rattle.rt_reduction.proofs.Simplifying.{twinned_lines}
 use Rattle.rt_reduce.specs.Merging.{IsSide}
 use Rattle.rt_reduce.proofs.Falling.{put-below, tidied-below}
@@ -32,6 +35,24 @@ put_scheme lines n z side h =
     from_scheme lines (tidied (put_lines n z lines))
     (from_chain lines (put_lines n z lines) (tidied (put_lines n z lines)) (from_put lines lines n z side (from_self lines))
     (from_tidied (put_lines n z lines))) h
+
+-- the least existential of each class in the place of the others
+abbrev pub IsLeast : List Line → List Line → Type 0
+IsLeast lines least = (class : ℕ → ℕ) × IsCoarsest lines class × (least ≡ refined class lines)
+
+pub least_of : (lines start read least : List Line) → start ≡ tidied lines → read ≡ start → IsLeast read least →
+    IsLeast (tidied lines) least
+least_of lines start read least e f is = subst (λ ls. IsLeast ls least) (f ∙ e) is
+
+pub least_scheme : (lines least : List Line) → IsLeast (tidied lines) least → AreOfScheme lines → AreOfScheme least
+least_scheme lines least (class, c, e) h =
+    subst AreOfScheme (sym e)
+    (from_scheme lines (refined class (tidied lines))
+    (from_chain lines (tidied lines) (refined class (tidied lines)) (from_tidied lines) (from_classes (tidied lines) class)) h)
+
+-- tidied, it is the first stage of a round
+pub least_refines : (lines least : List Line) → IsLeast lines least → Refines lines (tidied least)
+least_refines lines least (class, c, e) = (class, c, ap tidied e)
 
 pub simple_scheme : (lines left : List Line) → Simplifies left (tidied lines) → AreOfScheme lines → AreOfScheme left
 simple_scheme lines left s h =
@@ -88,6 +109,10 @@ module _ (count : ℕ) where
       simplified_below left (twinned_lines place between) rest
       (tidied-below count (map (map_line (put_each place)) between)
       (mapped_below (put_each place) between (puts_below between start p h)))
+
+  pub least_below : (lines least : List Line) → IsLeast (tidied lines) least → Are lines → Are least
+  least_below lines least (class, c, e) h =
+      subst Are (sym e) (mapped_below (move class) (tidied lines) (tidied-below count lines h))
 
   pub simple_below : (lines left : List Line) → Simplifies left (tidied lines) → Are lines → Are left
   simple_below lines left s h = simplified_below left (tidied lines) s (tidied-below count lines h)

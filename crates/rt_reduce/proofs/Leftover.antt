@@ -18,7 +18,8 @@ use Rattle.rt_polar.specs.Puts.Puts.{none_left, puts}
 use Rattle.rt_reduction.specs.Twins.{AreTwins, IsTwinOf}
 use Rattle.rt_reduction.specs.Simplifies.{Simplifies, simple, twins_go}
 use Rattle.rt_reduction.specs.Rounds.{IsUnfinished, of_candidate, of_twins, of_unused}
-use Rattle.rt_reduction.proofs.Losing.{IsSimple, Loses, simple_loses}
+use Rattle.rt_reduction.proofs.Losing.{IsSimple, simple_loses}
+use Rattle.rt_reduction.proofs.NamesFrom.{Loses}
 use Rattle.rt_simplify.specs.Uses.{AreOfLines}
 use Rattle.rt_reduce.specs.Settling.{AreUsed, HasMissing, HaveMissing, IsMissing, IsSimplified, IsUnused, IsUsedBy}
 use Rattle.rt_reduce.proofs.Firsts.{more_cases}

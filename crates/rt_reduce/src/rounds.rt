@@ -11,12 +11,14 @@ use crate::merging::merge_equal;
 use rt_base::Memory;
 use rt_emit::emit_shape;
 use rt_lines::{Lines, Order};
+use rt_polar::tidy;
+use rt_refine::refine;
 use rt_simplify::simplify;
 use std::alloc::Global;
 
-/// One round over the tidied lines: existentials give their places away and twins become one, the shape is written anew,
-/// existentials that equal a side give their places to it, and each line goes that the others derive. The error is want of
-/// memory.
+/// One round over the tidied lines: existentials that are used alike become the least of them, existentials give their
+/// places away and twins become one, the shape is written anew, existentials that equal a side give their places to it, and
+/// each line goes that the others derive. The error is want of memory.
 pub fn round(alloc: Global, lines: Lines, order: &Order) -> Result<Lines, Memory>
     requires scheme { AreOfScheme lines }
     requires constants { All (HasConstantsBelow order.now.count) lines }
@@ -25,7 +27,9 @@ pub fn round(alloc: Global, lines: Lines, order: &Order) -> Result<Lines, Memory
     ensures scheme { IfOk result (λ after. AreOfScheme after) }
     ensures constants { IfOk result (λ after. All (HasConstantsBelow order.now.count) after) }
 {
-    let simple = simplify(alloc, lines)?;
+    let start = tidy(alloc, lines)?;
+    let least = refine(alloc, start.items())?;
+    let simple = simplify(alloc, least)?;
     let emitted = emit_shape(alloc, simple.items())?;
     let merged = merge_equal(alloc, emitted.items(), order)?;
     let after = drop_derivable(alloc, merged.items(), order)?;

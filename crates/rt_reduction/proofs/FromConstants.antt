@@ -10,6 +10,7 @@ use Rattle.rt_lines.specs.Orders.{Below}
 use Rattle.rt_lines.proofs.Deduplicating.{deduplicated-source}
 use Rattle.rt_rules.specs.Alike.{map_line}
 use Rattle.rt_rules.specs.Put.{put, put_lines, put_each, use_of}
+use Rattle.rt_refine.specs.Refinements.{move, refined}
 use Rattle.rt_polar.specs.Puts.{Exchanges, Puts}
 use Rattle.rt_polar.specs.Puts.Exchanges.{goes, exists_still}
 use Rattle.rt_polar.specs.Puts.Puts.{none_left, puts}
@@ -19,7 +20,7 @@ use Rattle.rt_reduction.specs.Simplifies.{Simplifies, simple, twins_go}
 use Rattle.rt_reduction.specs.Merges.{Merges}
 use Rattle.rt_reduction.specs.Merges.Merges.{none_left as no_merge, merges}
 use Rattle.rt_reduction.specs.Emits.{flow_lines, first_side, IsShapeLine, IsAnchored, IsEmitted}
-use Rattle.rt_reduction.specs.Rounds.{IsRound, Reduces, done, again}
+use Rattle.rt_reduction.specs.Rounds.{Refines, IsRound, Reduces, done, again}
 use Rattle.rt_reduction.specs.Laws.{FormConstantsLaw}
 use Rattle.rt_reduction.proofs.Simplifying.{twinned_lines}
 use Rattle.rt_reduction.proofs.Flow.{flow_source}
@@ -117,10 +118,14 @@ module _ (k : ℕ) where
           let s : IsShapeLine order lines l = (e.are_shape.each l).0 d in
           absurd (no_shape s.variable s.word (variable_eq s.variable s.word) (subst (HasConstant k) s.line h))
 
+  of_refined : (lines left : List Line) → Refines lines left → Stand lines left
+  of_refined lines left (class, c, e) names =
+      mapped (move class) lines (of_tidied (refined class lines) (subst (λ ls. NamesConstant ls k) e names))
+
   of_round : (order : Below) (lines after : List Line) → IsRound order lines after → Stand lines after
   of_round order lines after r names =
-      of_simple r.simple lines r.is_simple (of_emitted order r.simple r.emitted r.is_emitted (of_merges order r.merged r.emitted r.is_merged
-      (fewer r.merged after (kept_lem order r.merged after r.is_dropped) names)))
+      of_refined lines r.refined r.is_refined (of_simple r.simple r.refined r.is_simple (of_emitted order r.simple r.emitted r.is_emitted
+      (of_merges order r.merged r.emitted r.is_merged (fewer r.merged after (kept_lem order r.merged after r.is_dropped) names))))
 
   of_reduced : (order : Below) (reduced start : List Line) → Reduces order reduced start → Stand start reduced
   of_reduced order reduced start (done _ r d) names = of_round order start reduced r names

@@ -13,9 +13,10 @@ pub mod Anchoring
 pub mod Ascending
 pub mod Naming
 pub mod Emitting
+pub mod NamesFrom
+pub mod Refined
 pub mod Rounds
 pub mod FromConstants
 pub mod Renumbering
 pub mod Reordering
-pub mod NamesFrom
 pub mod Losing

@@ -37,16 +37,15 @@ use Rattle.rt_reduction.proofs.Simplifying.{twinned_lines}
 use Rattle.rt_reduction.proofs.Flow.{flow_source}
 use Rattle.rt_reduction.proofs.Anchoring.{keep_source}
 use Rattle.rt_reduction.proofs.Emitting.{emits_used_lem, emits_joined_lem}
-use Rattle.rt_reduction.proofs.NamesFrom.{NamesFrom, named_from, names_chain, names_tidied, put_source, IsTwinnedSide, own_is_side}
-use Rattle.rt_reduction.proofs.NamesFrom.{cut_own, names_puts, twinned_source, names_simple, names_emitted, names_after, names_round}
+use Rattle.rt_reduction.proofs.Refined.{names_refines, refines_lose}
+use Rattle.rt_reduction.proofs.NamesFrom.{NamesFrom, Loses, named_from, names_chain, names_tidied, put_source, IsTwinnedSide, own_is_side}
+use Rattle.rt_reduction.proofs.NamesFrom.{cut_own, names_puts, twinned_source, names_simple, names_emitted, names_after, names_rest}
 use Rattle.rt_base.proofs.Lists.{Contains-middle_cases}
 
 pub round_names_lem : RoundNamesLaw
-round_names_lem order lines after r b names = named_from lines after (names_round order lines after r) b names
-
--- an existential that is named before and not after
-abbrev pub Loses : List Line → List Line → Type 0
-Loses lines after = (n : ℕ) × NamesBase lines (Exist n) × (NamesBase after (Exist n) → ⊥)
+round_names_lem order lines after r b names =
+    named_from lines after
+    (names_chain lines r.refined after (names_refines lines r.refined r.is_refined) (names_rest order lines after r)) b names
 
 pub loses_before : (first second third : List Line) → Loses first second → NamesFrom second third → Loses first third
 loses_before first second third (n, names, gone) from = (n, names, λ h. gone (named_from second third from (Exist n) h))
@@ -241,15 +240,23 @@ module _ (order : Below) (lines : List Line) where
     emitted_loses scheme s (of_unjoined n names unjoined) = (n, names, unjoined_gone n unjoined)
 
 pub round_loses_lem : RoundLosesLaw
-round_loses_lem order lines after scheme r left = by (simple_loses r.simple lines r.is_simple)
+round_loses_lem order lines after scheme r left = by (refines_lose lines r.refined r.is_tidied r.is_refined)
   where
     rest : NamesFrom r.emitted after
     rest = names_after order lines after r
 
-    by : ((lines ≡ r.simple) × IsSimple r.simple) ⊎ Loses lines r.simple → Loses lines after
-    by (inr h) = loses_before lines r.simple after h
+    simple_rest : AreOfScheme r.refined → IsUnfinished r.refined → ((r.refined ≡ r.simple) × IsSimple r.simple) ⊎ Loses r.refined r.simple →
+        Loses r.refined after
+    simple_rest scheme left (inr h) =
+        loses_before r.refined r.simple after h
         (names_chain r.simple r.emitted after (names_emitted order r.simple r.emitted r.is_emitted) rest)
-    by (inl (e, s)) =
-        loses_before lines r.emitted after
+    simple_rest scheme left (inl (e, s)) =
+        loses_before r.refined r.emitted after
         (subst (λ ls. Loses ls r.emitted) (sym e)
         (emitted_loses order r.simple r.emitted r.is_emitted (subst AreOfScheme e scheme) s (subst IsUnfinished e left))) rest
+
+    by : (lines ≡ r.refined) ⊎ Loses lines r.refined → Loses lines after
+    by (inr h) = loses_before lines r.refined after h (names_rest order lines after r)
+    by (inl e) =
+        subst (λ ls. Loses ls after) (sym e)
+        (simple_rest (subst AreOfScheme e scheme) (subst IsUnfinished e left) (simple_loses r.simple r.refined r.is_simple))

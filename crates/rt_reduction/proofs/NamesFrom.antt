@@ -203,12 +203,16 @@ names_emitted order lines emitted e x s = by (emitted_base order lines emitted e
     by (inl t) = names_side lines x t
     by (inr kept) = kept_names order lines x.base kept
 
+-- an existential that is named before and not after
+abbrev pub Loses : List Line → List Line → Type 0
+Loses lines after = (n : ℕ) × NamesBase lines (Exist n) × (NamesBase after (Exist n) → ⊥)
+
 pub names_after : (order : Below) (lines after : List Line) (r : IsRound order lines after) → NamesFrom r.emitted after
 names_after order lines after r =
     names_chain r.emitted r.merged after (names_merges order r.merged r.emitted r.is_merged)
     (names_fewer r.merged after (kept_lem order r.merged after r.is_dropped))
 
-pub names_round : (order : Below) (lines after : List Line) → IsRound order lines after → NamesFrom lines after
-names_round order lines after r =
-    names_chain lines r.simple after (names_simple r.simple lines r.is_simple)
+pub names_rest : (order : Below) (lines after : List Line) (r : IsRound order lines after) → NamesFrom r.refined after
+names_rest order lines after r =
+    names_chain r.refined r.simple after (names_simple r.simple r.refined r.is_simple)
     (names_chain r.simple r.emitted after (names_emitted order r.simple r.emitted r.is_emitted) (names_after order lines after r))

@@ -1,5 +1,5 @@
 -- Rounds of what reduces lines, until nothing is left to do.
-use Rattle.std.specs.Prelude.{ℕ, ◌<◌, ◌⊎◌, List, [], Contains}
+use Rattle.std.specs.Prelude.{◌≡◌, ℕ, ◌<◌, ◌⊎◌, List, [], Contains}
 use Rattle.rt_lines.specs.declared.label.Variance.{Variance}
 use Rattle.rt_lines.specs.declared.label.Variance.TheVariants.{Co, Contra}
 use Rattle.rt_lines.specs.declared.variable.Base.TheVariants.{Exist}
@@ -7,6 +7,7 @@ use Rattle.rt_lines.specs.declared.line.Line.{Line}
 use Rattle.rt_lines.specs.Orders.{Below}
 use Rattle.rt_rules.specs.Laws.{NamesBase}
 use Rattle.rt_rules.specs.Put.{HasUse}
+use Rattle.rt_refine.specs.Refinements.{IsCoarsest, refined}
 use Rattle.rt_polar.specs.Polar.{HasCandidate}
 use Rattle.rt_polar.specs.Tidied.{tidied}
 use Rattle.rt_reduction.specs.Drops.{Drops}
@@ -15,12 +16,20 @@ use Rattle.rt_reduction.specs.Merges.{Merges}
 use Rattle.rt_reduction.specs.Simplifies.{HasNoTwins, Simplifies}
 use Rattle.rt_reduction.specs.Twins.{AreTwins}
 
--- one round: places are given away, the shape is written anew, equals become one, and what the other lines derive is dropped
+-- existentials of one shape whose lines are the same but for classes become the least of their class, and the lines are tidied
+abbrev pub Refines : List Line → List Line → Type 0
+Refines lines left = (class : ℕ → ℕ) × IsCoarsest lines class × (left ≡ tidied (refined class lines))
+
+-- one round over tidied lines: existentials that are used alike become one, places are given away, the shape is written anew, equals
+-- become one, and what the other lines derive is dropped
 pub record IsRound (order : Below) (lines after : List Line) : Type 0 where
+  pub is_tidied : tidied lines ≡ lines
+  pub refined : List Line
   pub simple : List Line
   pub emitted : List Line
   pub merged : List Line
-  pub is_simple : Simplifies simple lines
+  pub is_refined : Refines lines refined
+  pub is_simple : Simplifies simple refined
   pub is_emitted : IsEmitted order simple emitted
   pub is_merged : Merges order merged emitted
   pub is_dropped : Drops order [] merged after

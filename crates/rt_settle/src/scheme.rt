@@ -17,12 +17,13 @@ use std::alloc::Global;
 /// is taken from them: lines that tell the outside of every procedure the same under the order, with no constant and no
 /// base more that is no existential.
 ///
-/// The lines are reduced, in rounds, until nothing is left to do: existentials give their places away, and those that are
-/// defined or consumed by the same become one; the shape of all variables is written anew; existentials that equal another
-/// variable give their places to it; and each line goes that the others derive. The existentials are numbered from 0 in the
-/// order in which they first stand in these lines, and then the lines are sorted by the bytes of their texts, with the names
-/// of the standard lattice whatever lattice the program works with: a constant numbered 12 or more stands as its number, of
-/// at least three digits. The error is out of memory.
+/// The lines are reduced, in rounds, until nothing is left to do: existentials of one shape whose lines are the same, but for
+/// such existentials, become one; existentials give their places away, and those that are defined or consumed by the same
+/// become one; the shape of all variables is written anew; existentials that equal another variable give their places to it;
+/// and each line goes that the others derive. The existentials are numbered from 0 in the order in which they first stand in
+/// these lines, and then the lines are sorted by the bytes of their texts, with the names of the standard lattice whatever
+/// lattice the program works with: a constant numbered 12 or more stands as its number, of at least three digits. The error
+/// is out of memory.
 pub fn settle(alloc: Global, lines: Lines, order: &Order) -> Result<Lines, Memory>
     requires scheme { AreOfScheme lines }
     requires constants { All (HasConstantsBelow order.now.count) lines }

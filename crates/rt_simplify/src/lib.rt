@@ -1,5 +1,5 @@
-//! Existentials that give their places away, and twins that become one, in turn (PLDI 2016, section 5): the first part of
-//! what reduces schemes.
+//! Existentials that give their places away, and twins that become one, in turn (PLDI 2016, section 5): a part of what
+//! reduces schemes.
 #![tactic(auto)]
 
 pub mod laws;
