@@ -1,6 +1,6 @@
 -- What states that are made denote.
 use Rattle.std.proofs.Common.{◌≡◌, ℕ, ◌<◌, Bool, true, false, Option, Some, None, IsSome, List, [], Contains, length, refl, sym, ap, subst, ◌∙◌}
-use Rattle.std.specs.Prelude.{MatchOption, slice_get}
+use Rattle.std.specs.Prelude.{MatchOption, slice_get, slice_index_or}
 use Rattle.std.proofs.lemmas.Option.{get_or_from_slice_get, slice_get_within}
 use Rattle.rt_lines.specs.declared.label.Label.{Label}
 use Rattle.rt_lines.specs.declared.label.Variance.{Variance}
@@ -20,14 +20,18 @@ use Rattle.rt_loose.specs.Sets.{AreLed, IsNext}
 use Rattle.rt_loose.specs.Laws.{IsExchange}
 use Rattle.rt_loose.specs.Ways.{Way, Every}
 use Rattle.rt_loose.proofs.Lawful.{start_law, step_law}
-use Rattle.rt_shape.specs.Graphs.{bare, node_of, IsReadWrite}
+use Rattle.rt_shape.specs.Graphs.{bare, node_of, step_of, IsReadWrite}
 use Rattle.rt_shape.proofs.ReadWrite.{read_write_lem}
+use Rattle.rt_shape.proofs.Walks.{node_of-longer}
 use Rattle.rt_ways.specs.Arcs.{IsInRow}
 use Rattle.rt_ways.specs.Nets.{Net, class_at}
 use Rattle.rt_ways.specs.Pushes.{variable_at}
 use Rattle.rt_ways.proofs.Knowing.{at_named}
 use Rattle.rt_sketch.specs.declared.machine.Machine.{Machine}
 use Rattle.rt_sketch.specs.declared.state.State.{State}
+use Rattle.rt_sketch.specs.Growths.{HasNextRows}
+use Rattle.rt_sketch.specs.Letters.{HasNext}
+use Rattle.rt_sketch.specs.Rows.{AreRows}
 use Rattle.rt_sketch.specs.States.{AreNumbers, AreSetsOf, Denotes, IsMachineOf, members, sets_of}
 use Rattle.rt_sketch.specs.Steps.{AreAll, IsBehindOf, IsFor, IsLed, hub_in, next_class}
 use Rattle.rt_sketch.proofs.Leading.{flips_over, led_co, led_contra, led_hub, led_none, led_nowhere, led_start, way_same}
@@ -155,6 +159,15 @@ module _ (lines : List Line) (machine : Machine) (is : IsMachineOf lines machine
 pub no_step : (lines : List Line) (machine : Machine) (state : State) (l : Label) → IsMachineOf lines machine → (x : Dtv) → Denotes lines machine state x → node_of machine.shape (longer x l) ≡ None →
     (order : Below) → Derivable order lines (Var (longer x l)) → ⊥
 no_step lines machine state l is x d e order v = (let h : false ≡ true = subst IsSome e ((is.shape.there order (longer x l)).1 v) in cc)
+
+-- what is behind a state is behind a letter of its node
+pub next_rows : (lines : List Line) (machine : Machine) (letters : List Label) (rows : List (List Label)) → IsMachineOf lines machine → HasNext lines letters → AreRows machine.shape letters rows →
+    HasNextRows lines machine rows
+next_rows lines machine letters rows is next are order s x l d v = by (step_of machine.shape s.node l) refl
+  where
+    by : (o : Option ℕ) → step_of machine.shape s.node l ≡ o → Contains (slice_index_or rows s.node []) l
+    by None e = absurd (no_step lines machine s l is x d (node_of-longer machine.shape x l s.node d.node ∙ e) order v)
+    by (Some m) e = are.all s.node l m e (next order x l v)
 
 -- nor is a base there that has no node
 pub no_start : (lines : List Line) (machine : Machine) (b : Base) → IsMachineOf lines machine → node_of machine.shape (bare b) ≡ None → (order : Below) → Derivable order lines (Var (bare b)) → ⊥

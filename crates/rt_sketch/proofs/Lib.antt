@@ -6,6 +6,7 @@ pub mod Numbered
 pub mod Bounding
 pub mod Marking
 pub mod Occurring
+pub mod Entering
 pub mod Whole
 pub mod Printing
 pub mod Edging

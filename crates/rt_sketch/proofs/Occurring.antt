@@ -93,14 +93,14 @@ module _ (order : Below) (lines : List Line) (letters : List Label) (has : (line
   next_letter x l d = last x l (spelled d)
 
 -- letters added one after another
-insert_keeps : (ks : List Label) (k x : Label) → Contains ks x → Contains (insert_key label_eq ks k) x
+pub insert_keeps : (ks : List Label) (k x : Label) → Contains ks x → Contains (insert_key label_eq ks k) x
 insert_keeps ks k x h = by (list_any (label_eq k) ks) refl
   where
     by : (b : Bool) → list_any (label_eq k) ks ≡ b → Contains (insert_key label_eq ks k) x
     by true e = rw e h
     by false e = rw e (Contains-append_left ks (k ∷ []) x h)
 
-insert_good : (ks : List Label) (k : Label) → IsLabel k → All IsLabel ks → All IsLabel (insert_key label_eq ks k)
+pub insert_good : (ks : List Label) (k : Label) → IsLabel k → All IsLabel ks → All IsLabel (insert_key label_eq ks k)
 insert_good ks k good all = by (list_any (label_eq k) ks) refl
   where
     by : (b : Bool) → list_any (label_eq k) ks ≡ b → All IsLabel (insert_key label_eq ks k)

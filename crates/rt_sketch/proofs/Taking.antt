@@ -17,8 +17,7 @@ use Rattle.rt_rules.specs.Rules.{longer, Derivable}
 use Rattle.rt_tree.specs.Trees.{Nodes, step_of}
 use Rattle.rt_sketch.specs.declared.machine.Machine.{Machine}
 use Rattle.rt_sketch.specs.declared.state.State.{State}
-use Rattle.rt_sketch.specs.Growths.{HasMarks, HasTaken, IsGrown, IsGrowing, IsMore, IsOnWay, IsStep, IsTaken}
-use Rattle.rt_sketch.specs.Letters.{HasNext}
+use Rattle.rt_sketch.specs.Growths.{HasMarks, HasNextAt, HasTaken, IsGrown, IsGrowing, IsMore, IsOnWay, IsStep, IsTaken}
 use Rattle.rt_sketch.specs.States.{Denotes}
 use Rattle.rt_lines.proofs.Same.{label_self}
 
@@ -105,13 +104,13 @@ taken_all number letters states tree taken = record { each = taken.each; rest = 
     wider n l (inr h) = let e = h.0 in omega arith
 
 module _ (order : Below) (lines : List Line) (machine : Machine) (number : ℕ) (letters : List Label) (states : List State) (tree : Nodes)
-    (taken : HasTaken number letters states tree) (next : HasNext lines letters) (way : IsOnWay order lines machine number letters states tree) where
+    (taken : HasTaken number letters states tree) (next : HasNextAt lines machine states number letters) (way : IsOnWay order lines machine number letters states tree) where
   last_step : (l : Label) → Contains letters l ⊎ (Contains letters l → ⊥) → IsStep lines machine states tree number l
   last_step l (inl c) s x e d = way.steps number l (inr (refl, c)) s x e d
   last_step l (inr not) s x e d =
       let none : step_of tree number l ≡ None = taken.rest number l untaken in
       subst (λ o. MatchOption o ((order : Below) → Derivable order lines (Var (longer x l)) → ⊥) (λ m. (t : State) × (slice_get states m ≡ Some t) × Denotes lines machine t (longer x l))) (sym none)
-      (λ other h. not (next other x l h))
+      (λ other h. not (next other s x l e d h))
     where
       untaken : IsTaken number letters number l → ⊥
       untaken (inl less) = omega arith
@@ -130,18 +129,29 @@ module _ (order : Below) (lines : List Line) (machine : Machine) (number : ℕ) 
         | inr e ↦ subst (λ i. IsStep lines machine states tree i l) (sym e) (last_step l (contained letters l))
       ]
 
+-- states stay, and so does what is behind one of them
+pub next_later : (lines : List Line) (machine : Machine) (old states : List State) (number : ℕ) (letters : List Label) → number < length old →
+    ((n : ℕ) (s : State) → slice_get old n ≡ Some s → slice_get states n ≡ Some s) → HasNextAt lines machine old number letters → HasNextAt lines machine states number letters
+next_later lines machine old states number letters less kept next order s x l e d v =
+    elim (slice_get_cases old number).1 [
+      | inl r ↦ (let same : Some r.0 ≡ Some s = sym (kept number r.0 r.2) ∙ e in
+          let is : slice_get old number ≡ Some s = r.2 ∙ same in
+          next order s x l is d v)
+      | inr r ↦ absurd (let past = r.0 in omega arith)
+    ]
+
 -- what is kept while letters are gone through
 pub record IsExpanding (number : ℕ) (gone : List Label) (states : List State) (after : List State) (new : Nodes) : Type 0 where
   pub taken : HasTaken number gone after new
   pub inside : number < length new
-  pub kept : (s : State) → slice_get states 0 ≡ Some s → slice_get after 0 ≡ Some s
+  pub kept : (n : ℕ) (s : State) → slice_get states n ≡ Some s → slice_get after n ≡ Some s
 
 pub expanding_next : (number : ℕ) (items : List Label) (i : ℕ) (d : Label) (first states : List State) (tree : Nodes) (after : List State) (new : Nodes) → i < length items →
     IsExpanding number (take i items) first states tree → IsMore number (get_or items i d) states tree after new → IsExpanding number (take (i + 1) items) first after new
 expanding_next number items i d first states tree after new less was more = record {
   taken = subst (λ gone. HasTaken number gone after new) (sym (take_more items i d less)) (taken_next number (take i items) (get_or items i d) states tree after new was.taken more);
   inside = let a = was.inside in let b = more.long in omega arith;
-  kept = λ s e. more.kept 0 s (was.kept s e);
+  kept = λ n s e. more.kept n s (was.kept n s e);
 }
 
 pub free_next : (number : ℕ) (letters items : List Label) (i : ℕ) (d : Label) (states : List State) (tree : Nodes) → items ≡ letters → i < length items → IsDistinct label_eq letters → HasTaken number (take i items) states tree →

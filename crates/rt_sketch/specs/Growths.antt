@@ -1,5 +1,5 @@
 -- Trees of states, on the way and whole.
-use Rattle.std.specs.Prelude.{◌≡◌, ℕ, ◌<◌, ◌≤◌, ◌⊎◌, Contains, List, None, MatchOption, Some, length, slice_get}
+use Rattle.std.specs.Prelude.{◌≡◌, ℕ, ◌<◌, ◌≤◌, ◌⊎◌, Contains, List, [], None, MatchOption, Some, length, slice_get, slice_index_or}
 use Rattle.rt_lines.specs.declared.label.Label.{Label}
 use Rattle.rt_lines.specs.declared.variable.Dtv.{Dtv}
 use Rattle.rt_lines.specs.declared.line.Line.{Line}
@@ -31,6 +31,16 @@ pub record IsGrown (order : Below) (lines : List Line) (machine : Machine) (firs
   pub states : List State
   pub begins : slice_get states 0 ≡ Some first
   pub growing : IsGrowing order lines machine states tree (length states)
+
+-- what is behind the state of a number is behind one of the letters
+abbrev pub HasNextAt : List Line → Machine → List State → ℕ → List Label → Type 0
+HasNextAt lines machine states n letters = (order : Below) (s : State) (x : Dtv) (l : Label) → slice_get states n ≡ Some s →
+    Denotes lines machine s x → Derivable order lines (Var (longer x l)) → Contains letters l
+
+-- what is behind a state is behind one of the letters of its node
+abbrev pub HasNextRows : List Line → Machine → List (List Label) → Type 0
+HasNextRows lines machine rows = (order : Below) (s : State) (x : Dtv) (l : Label) → Denotes lines machine s x →
+    Derivable order lines (Var (longer x l)) → Contains (slice_index_or rows s.node []) l
 
 -- the steps that were taken: those of the nodes below a count by all letters, that of the node of the count by these letters
 abbrev pub IsTaken : ℕ → List Label → ℕ → Label → Type 0

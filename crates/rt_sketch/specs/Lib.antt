@@ -3,6 +3,7 @@ pub mod States
 pub mod Steps
 pub mod Bounds
 pub mod Letters
+pub mod Rows
 pub mod Growths
 pub mod Unfoldings
 pub mod Texts

@@ -1,5 +1,5 @@
 // The tree of the states of lines.
-ghost use Rattle.std.specs.Prelude.{◌≡◌, ◌+◌, ◌<◌, All, IfOk, List, None, OnOk, Some, [], length, slice_get};
+ghost use Rattle.std.specs.Prelude.{◌≡◌, ℕ, ◌+◌, ◌<◌, All, IfOk, List, None, OnOk, Some, [], length, slice_get, slice_index_or};
 ghost use Rattle.rt_lines.specs.declared.line.Line.{Line as Given};
 ghost use Rattle.rt_lines.specs.Lines.{HasConstantsBelow};
 ghost use Rattle.rt_lines.specs.OrderFacts.{IsOrder};
@@ -7,11 +7,12 @@ ghost use Rattle.rt_lines.specs.Words.{IsLabel};
 ghost use Rattle.rt_lattice.specs.Lattices.{IsLattice, size_of};
 ghost use Rattle.rt_tree.specs.Trees.{step_of};
 ghost use Rattle.rt_sketch.specs.Bounds.{AreBelow};
-ghost use Rattle.rt_sketch.specs.Growths.{HasMarks, HasTaken, IsGrown, IsMarkedBy, IsMore, IsOnWay, IsStep, LeadsFrom};
-ghost use Rattle.rt_sketch.specs.Letters.{HasNext};
+ghost use Rattle.rt_sketch.specs.Growths.{HasMarks, HasNextAt, HasNextRows, HasTaken, IsGrown, IsMarkedBy, IsMore, IsOnWay, IsStep, LeadsFrom};
 ghost use Rattle.rt_sketch.specs.States.{IsMachineOf};
+ghost use Rattle.rt_sketch.specs.declared.machine.Machine.{Machine as Steps};
 
 use crate::machine::Machine;
+use crate::rows::Rows;
 use crate::state::State;
 use indexmap::IndexSet;
 use rt_base::Memory;
@@ -118,7 +119,7 @@ impl Growth {
         }
     }
 
-    // Takes the steps of a state by all letters.
+    // Takes the steps of a state by letters.
     fn expand(
         &mut self,
         alloc: Global,
@@ -138,7 +139,8 @@ impl Growth {
         ensures long { OnOk result (number < length self.new.tree) }
         ensures kept { OnOk result ((s : Place) → slice_get self.old.states.keys 0 ≡ Some s → slice_get self.new.states.keys 0 ≡ Some s) }
         ensures way { OnOk result ((lines : List Given) → IsMachineOf lines machine.now →
-            All (HasConstantsBelow (size_of lattice.now)) lines → HasNext lines letters.now.keys →
+            All (HasConstantsBelow (size_of lattice.now)) lines →
+            HasNextAt lines machine.now self.old.states.keys number letters.now.keys →
             IsOnWay lattice.now.order lines machine.now number [] self.old.states.keys self.old.tree →
             IsOnWay lattice.now.order lines machine.now (number + 1) [] self.new.states.keys self.new.tree) }
     {
@@ -149,21 +151,34 @@ impl Growth {
     }
 }
 
+// The letters of the node of the state of a number.
+fn letters_at<'a>(states: &IndexSet<State>, rows: &'a Rows, number: u32) -> &'a IndexSet<Label>
+    ensures next { (lines : List Given) (machine : Steps) → HasNextRows lines machine rows.now →
+        HasNextAt lines machine states.now.keys number result.now.keys }
+    ensures good { ((n : ℕ) → All IsLabel (slice_index_or rows.now n [])) → All IsLabel result.now.keys }
+{
+    match states.get_index(number as usize) {
+        Some(state) => rows.at(state.node),
+        None => rows.none(),
+    }
+}
+
 // The tree that a state unfolds to. The error is want of memory, or of numbers of 32 bits.
 pub(crate) fn grown(
     alloc: Global,
     machine: &Machine,
     lattice: &Lattice,
-    letters: &IndexSet<Label>,
+    rows: &Rows,
     first: State,
 ) -> Result<Tree, Memory>
     requires lattice { IsLattice lattice.now }
     requires order { IsOrder lattice.now.order }
     requires lows { AreBelow (size_of lattice.now) machine.now.lows.items }
     requires ups { AreBelow (size_of lattice.now) machine.now.ups.items }
-    requires labels { All IsLabel letters.now.keys }
+    requires labels { (n : ℕ) → All IsLabel (slice_index_or rows.now n []) }
     ensures { IfOk result (λ tree. (lines : List Given) → IsMachineOf lines machine.now →
-        All (HasConstantsBelow (size_of lattice.now)) lines → HasNext lines letters.now.keys →
+        All (HasConstantsBelow (size_of lattice.now)) lines →
+        HasNextRows lines machine.now rows.now →
         IsGrown lattice.now.order lines machine.now first tree) }
 {
     let mut growth = Growth::new(alloc, machine, lattice, first)?;
@@ -171,6 +186,7 @@ pub(crate) fn grown(
         if number == growth.tree.size() {
             return Ok(growth.tree);
         }
+        let letters = letters_at(&growth.states, rows, number);
         growth.expand(alloc, machine, lattice, letters, number)?;
     }
     Err(AllocError)

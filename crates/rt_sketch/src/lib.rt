@@ -9,6 +9,7 @@ mod letters;
 mod machine;
 mod making;
 mod marks;
+mod rows;
 mod sketch;
 mod state;
 mod stepping;

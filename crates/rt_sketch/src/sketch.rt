@@ -1,14 +1,19 @@
 // Sketches.
-ghost use Rattle.std.specs.Prelude.{◌≡◌, ℕ, ◌<◌, All, IfOk, Some, length};
+ghost use Rattle.std.specs.Prelude.{◌≡◌, ℕ, ◌<◌, [], All, IfOk, Some, length, slice_index_or};
 ghost use Rattle.rt_lines.specs.Lines.{HasConstantsBelow};
+ghost use Rattle.rt_lines.specs.Words.{IsLabel};
 ghost use Rattle.rt_lattice.specs.Lattices.{size_of};
 ghost use Rattle.rt_tree.specs.Trees.{marks_of, node_at, step_of};
+ghost use Rattle.rt_sketch.specs.Growths.{HasNextRows, IsGrown};
 ghost use Rattle.rt_sketch.specs.Sketches.{HasOneEnd, IsSketchOf};
+ghost use Rattle.rt_sketch.specs.States.{IsMachineOf};
 ghost use Rattle.rt_sketch.specs.Unfoldings.{IsUnfolded};
 
 use crate::growth::grown;
 use crate::letters::letters_of;
 use crate::machine::Machine;
+use crate::rows::Rows;
+use crate::state::State;
 use rt_base::Memory;
 use rt_lattice::Lattice;
 use rt_lines::{Base, Label, Line};
@@ -79,12 +84,27 @@ fn unfolded(alloc: Global, own: u32, lines: &[Line], lattice: &Lattice) -> Resul
     requires { All (HasConstantsBelow (size_of lattice.now)) lines.now }
     ensures { IfOk result (IsUnfolded lattice.now.order own lines.now) }
 {
-    let _count = lattice.order().count();
     let machine = Machine::of(alloc, lines)?;
+    let tree = started(alloc, own, &machine, lines, lattice)?;
+    Ok(tree)
+}
+
+// The same with the machine of the lines.
+fn started(
+    alloc: Global,
+    own: u32,
+    machine: &Machine,
+    lines: &[Line],
+    lattice: &Lattice,
+) -> Result<Tree, Memory>
+    requires machine { IsMachineOf lines.now machine.now }
+    requires constants { All (HasConstantsBelow (size_of lattice.now)) lines.now }
+    ensures { IfOk result (IsUnfolded lattice.now.order own lines.now) }
+{
+    let _count = lattice.order().count();
     match machine.start(alloc, Base::Proc(own))? {
         Some(first) => {
-            let letters = letters_of(alloc, lines)?;
-            let tree = grown(alloc, &machine, lattice, &letters, first)?;
+            let tree = tree_of(alloc, machine, lines, lattice, first)?;
             Ok(tree)
         }
         None => {
@@ -92,4 +112,32 @@ fn unfolded(alloc: Global, own: u32, lines: &[Line], lattice: &Lattice) -> Resul
             Ok(tree)
         }
     }
+}
+
+// The tree of what a state leads to.
+fn tree_of(
+    alloc: Global,
+    machine: &Machine,
+    lines: &[Line],
+    lattice: &Lattice,
+    first: State,
+) -> Result<Tree, Memory>
+    requires machine { IsMachineOf lines.now machine.now }
+    requires constants { All (HasConstantsBelow (size_of lattice.now)) lines.now }
+    ensures { IfOk result (IsGrown lattice.now.order lines.now machine.now first) }
+{
+    let _count = lattice.order().count();
+    let rows = rows_of(alloc, machine, lines)?;
+    let tree = grown(alloc, machine, lattice, &rows, first)?;
+    Ok(tree)
+}
+
+// For each node of the machine of lines the letters by which they go on behind its states.
+fn rows_of(alloc: Global, machine: &Machine, lines: &[Line]) -> Result<Rows, Memory>
+    ensures next { IfOk result (λ rows. IsMachineOf lines.now machine.now → HasNextRows lines.now machine.now rows) }
+    ensures good { IfOk result (λ rows. (n : ℕ) → All IsLabel (slice_index_or rows n [])) }
+{
+    let letters = letters_of(alloc, lines)?;
+    let rows = Rows::of(alloc, &machine.shape, &letters)?;
+    Ok(rows)
 }

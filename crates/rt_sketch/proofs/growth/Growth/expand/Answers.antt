@@ -1,10 +1,10 @@
-use Rattle.std.proofs.Common.{List, All, ◌∙◌, sym, subst}
+use Rattle.std.proofs.Common.{List, All, ◌∙◌, sym, subst, arith}
 use Rattle.std.proofs.lemmas.List.{take_all}
 use Rattle.std.proofs.lemmas.List.Elements.{All-get_or}
 use Rattle.rt_lines.specs.declared.label.Label.{Label}
 use Rattle.rt_lines.specs.Words.{IsLabel}
 use Rattle.rt_sketch.specs.Growths.{HasTaken, IsOnWay}
-use Rattle.rt_sketch.proofs.Taking.{expanding_next, free_next, way_all, way_expanded}
+use Rattle.rt_sketch.proofs.Taking.{expanding_next, free_next, next_later, way_all, way_expanded}
 use Rattle.rt_sketch.proofs.growth.Growth.expand.Goals as goal
 
 pub follow-requires-clause-free : goal.follow-requires-clause-free
@@ -34,5 +34,7 @@ returns-clause-way c = λ lines is constants next was.
     let tree = c.loop-label.self.tree in
     let whole = take_all c.loop-label.label-index items c.loop-label-test.false ∙ c.as_slice-label-items.ensures.keys in
     way_all c.args.lattice.now.order lines c.args.machine.now c.args.number c.args.letters.now.keys keys tree
-    (subst (λ (gone : List Label). HasTaken c.args.number gone keys tree) whole c.loop-label.invariant.expanding.taken) next
+    (subst (λ (gone : List Label). HasTaken c.args.number gone keys tree) whole c.loop-label.invariant.expanding.taken)
+    (next_later lines c.args.machine.now c.args.self.now.states.keys keys c.args.number c.args.letters.now.keys
+    (let each = c.requires.taken.each in let from = c.requires.from in omega arith) c.loop-label.invariant.expanding.kept next)
     (subst (λ (gone : List Label). IsOnWay c.args.lattice.now.order lines c.args.machine.now c.args.number gone keys tree) whole (c.loop-label.invariant.way lines is constants was))
