@@ -1,28 +1,31 @@
 -- Texts of headers that are read line by line.
-use Rattle.std.proofs.Common.{◌≡◌, ◌≢◌, ◌↔◌, IsTrue, ℕ, suc, Bool, true, false, ◌+◌, ◌≤◌, ◌^◌, ◌⊎◌, inl, inr, List, [], ◌∷◌, ◌++◌, All, map, fold, length, refl, ap, sym, subst, ◌∙◌, arith, append_assoc, append-nil, length-append, Contains}
+use Rattle.std.proofs.Common.{◌≡◌, ◌≢◌, ◌↔◌, IsTrue, ℕ, suc, Bool, true, false, ◌+◌, ◌*◌, ◌<◌, ◌≤◌, ◌^◌, ◌⊎◌, inl, inr, List, [], ◌∷◌, ◌++◌, All, map, fold, length, refl, ap, sym, subst, ◌∙◌, arith, append_assoc, append-nil, length-append, Contains}
 use Rattle.std.specs.List.{flat_map}
 use Rattle.std.specs.Bool.{◌==◌}
 use Rattle.std.proofs.lemmas.Bool.{false≢true}
 use Rattle.std.proofs.lemmas.Bool.Decides.{nat_tests}
 use Rattle.std.proofs.lemmas.Grind.{flat_map-append}
-use Rattle.std.proofs.lemmas.List.{append_cancel_left, length-map}
+use Rattle.std.proofs.lemmas.List.{append_cancel_left, length_push}
 use Rattle.std.proofs.lemmas.List.Folds.{flat_map-map}
-use Rattle.std.proofs.lemmas.List.Elements.{All-nil, All-head, All-tail, All-map, All-push, All-contains}
+use Rattle.std.proofs.lemmas.List.Elements.{All-nil, All-head, All-tail, All-map, All-push, All-append, All-contains}
 use Rattle.rt_base.specs.First.{entries}
-use Rattle.rt_base.proofs.Lists.{All-from_contains, map-map}
+use Rattle.rt_base.proofs.Lists.{All-from_contains, All-back, map-map}
 use Rattle.rt_texts.specs.declared.fault.TextFault.{TextFault}
 use Rattle.rt_texts.specs.declared.fault.TextFault.TheVariants.{BadText, Memory}
 use Rattle.rt_texts.specs.Readings.{IsNoText, HasNo, IsCut}
 use Rattle.rt_texts.proofs.Cuts.{one_cut}
 use Rattle.rt_cdecl.specs.declared.declarations.CType.{CType}
+use Rattle.rt_cdecl.specs.declared.declarations.CType.TheVariants.{Unused, Scalar, Pointer}
+use Rattle.rt_cdecl.specs.Types.{IsTypedef}
 use Rattle.rt_cdecl.specs.declared.declarations.CStruct.{CStruct}
 use Rattle.rt_cdecl.specs.declared.declarations.CFunction.{CFunction}
 use Rattle.rt_cdecl.specs.declared.declarations.Decls.{Decls}
-use Rattle.rt_cdecl.specs.Rows.{Row, Typedef, Named, Opened, Gap, Member, Closed, Pair, Half, Stated, Nothing, Value, Both, row_text, rows_text}
+use Rattle.rt_cdecl.specs.Rows.{Row, Typedef, Named, Opened, Gap, Member, Closed, Pair, Half, Stated, Nothing, Value, Both, row_text, rows_text, typedef_text}
 use Rattle.rt_cdecl.specs.Texts.{struct_rows, function_rows, decls_rows, decls_text}
 use Rattle.rt_cdecl.specs.GoodDecls.{IsGoodDecls, IsStruct, IsFunction, used_types, struct_numbers, function_numbers}
 use Rattle.rt_cdecl.specs.GoodRows.{IsRow}
-use Rattle.rt_cdecl.specs.HeaderReadings.{with_ends, IsFront, IsNoHeader, AreAllowed, IsBadLine}
+use Rattle.rt_cdecl.specs.HeaderReadings.{with_ends, IsFront, IsNoHeader, IsBadLine}
+use Rattle.rt_cdecl.specs.Endings.{CanEnd, IsReached}
 use Rattle.rt_cdecl.specs.Drafts.{Stage, Idle, Parts, no_parts, with_row, Fits, IsWhole, decls_of, Accepts}
 use Rattle.rt_cdecl.proofs.Clear.{row_clear}
 use Rattle.rt_cdecl.proofs.OneRow.{one_row}
@@ -100,24 +103,36 @@ Accepts-push : (parts : Parts) (rows : List Row) (last : Parts) (row : Row) → 
 Accepts-push parts [] last row all fits = (subst (λ p. Fits p row) (sym all) fits, ap (λ p. with_row p row) all)
 Accepts-push parts (r ∷ rows) last row all fits = (all.0, Accepts-push (with_row parts r) rows last row all.1 fits)
 
--- lines stand before the rest of a text, which begins at this byte
+Accepts-rest : (parts : Parts) (first : List Row) (row : Row) (more : List Row) (last : Parts) → Accepts parts (first ++ row ∷ more) last → Accepts (with_row (fold with_row parts first) row) more last
+Accepts-rest parts [] row more last all = all.1
+Accepts-rest parts (r ∷ first) row more last all = Accepts-rest (with_row parts r) first row more last all.1
+
+Accepts-append : (parts : Parts) (first : List Row) (mid : Parts) (rows : List Row) (last : Parts) → Accepts parts first mid → Accepts mid rows last → Accepts parts (first ++ rows) last
+Accepts-append parts [] mid rows last all more = subst (λ p. Accepts p rows last) (sym all) more
+Accepts-append parts (r ∷ first) mid rows last all more = (all.0, Accepts-append (with_row parts r) first mid rows last all.1 more)
+
+-- lines stand before the rest of a text, which begins at this byte, and can be ended
 pub record IsRead (text : List ℕ) (parts : Parts) (rest : List ℕ) (place : ℕ) : Type 0 where
   pub rows : List Row
   pub fine : All IsRow rows
   pub accepted : Accepts no_parts rows parts
+  pub can : CanEnd parts
   pub joined : rows_text rows ++ rest ≡ text
   pub placed : length (rows_text rows) ≡ place
 
+can_whole : (parts : Parts) → IsWhole parts → CanEnd parts
+can_whole parts whole = record { rows = []; good = All-nil IsRow; last = parts; accepted = refl; whole = whole }
+
 pub read_start : (text : List ℕ) → IsRead text no_parts text 0
-read_start text = record { rows = []; fine = All-nil IsRow; accepted = refl; joined = refl; placed = refl }
+read_start text = record { rows = []; fine = All-nil IsRow; accepted = refl; can = can_whole no_parts (refl, refl, All-nil (Contains [])); joined = refl; placed = refl }
 
 rows_text-push : (rows : List Row) (row : Row) (rest : List ℕ) → rows_text (rows ++ row ∷ []) ++ rest ≡ rows_text rows ++ (row_text row ++ 10 ∷ rest)
 rows_text-push rows row rest =
     ap (λ s. s ++ rest) (flat_map-append (λ (r : Row). row_text r ++ 10 ∷ []) rows (row ∷ []) ∙ ap (λ s. rows_text rows ++ s) (append-nil (row_text row ++ 10 ∷ [])))
     ∙ (append_assoc (rows_text rows) (row_text row ++ 10 ∷ []) rest ∙ ap (λ s. rows_text rows ++ s) (append_assoc (row_text row) (10 ∷ []) rest))
 
-pub read_more : (text : List ℕ) (parts : Parts) (rest : List ℕ) (place : ℕ) (row : Row) (line more : List ℕ) → IsRead text parts rest place → IsCut 10 rest line (10 ∷ more) → IsRow row → row_text row ≡ line → Fits parts row → IsRead text (with_row parts row) more (place + length line + 1)
-read_more text parts rest place row line more read cut good is fits =
+pub read_more : (text : List ℕ) (parts : Parts) (rest : List ℕ) (place : ℕ) (row : Row) (line more : List ℕ) → IsRead text parts rest place → IsCut 10 rest line (10 ∷ more) → IsRow row → row_text row ≡ line → Fits parts row → CanEnd (with_row parts row) → IsRead text (with_row parts row) more (place + length line + 1)
+read_more text parts rest place row line more read cut good is fits can =
     let here : row_text row ++ 10 ∷ more ≡ rest = ap (λ s. s ++ 10 ∷ more) is ∙ sym cut.joined in
     let joined : rows_text (read.rows ++ row ∷ []) ++ more ≡ text = rows_text-push read.rows row more ∙ (ap (λ s. rows_text read.rows ++ s) here ∙ read.joined) in
     let all : length (rows_text (read.rows ++ row ∷ [])) + length more ≡ length text = sym (length-append (rows_text (read.rows ++ row ∷ [])) more) ∙ ap length joined in
@@ -127,9 +142,51 @@ read_more text parts rest place row line more read cut good is fits =
       rows = read.rows ++ row ∷ [];
       fine = All-push IsRow read.rows row read.fine good;
       accepted = Accepts-push no_parts read.rows parts row read.accepted fits;
+      can = can;
       joined = joined;
       placed = omega (arith, all, old, this, read.placed);
     }
+
+-- the parts that lines make, with a line more
+pub reached_now : (text : List ℕ) (parts : Parts) (rest : List ℕ) (place : ℕ) → IsRead text parts rest place → IsReached parts
+reached_now text parts rest place read = record { rows = read.rows; good = read.fine; accepted = read.accepted }
+
+pub reached_more : (text : List ℕ) (parts : Parts) (rest : List ℕ) (place : ℕ) (row : Row) → IsRead text parts rest place → IsRow row → Fits parts row → IsReached (with_row parts row)
+reached_more text parts rest place row read good fits =
+    record { rows = read.rows ++ row ∷ []; good = All-push IsRow read.rows row read.fine good; accepted = Accepts-push no_parts read.rows parts row read.accepted fits }
+
+-- the line of a type is longer than 3 bytes, so there are less than 2^30 types where the place is a u32
+typedef_long : (t : CType) → IsTypedef t → 4 ≤ length (typedef_text t ++ 10 ∷ [])
+typedef_long Unused good = omega arith
+typedef_long (Pointer n) good = absurd good
+typedef_long (Scalar name bits) good = omega arith
+
+types_few : (parts : Parts) (row : Row) → IsRow row → 4 * length (with_row parts row).typedefs ≤ 4 * length parts.typedefs + length (row_text row ++ 10 ∷ [])
+types_few parts (Typedef t) good = let long = typedef_long t good in let more : length (parts.typedefs ++ t ∷ []) ≡ length parts.typedefs + 1 = length_push parts.typedefs t in omega (arith, long, more)
+types_few parts (Named n) good = omega arith
+types_few parts (Opened n) good = omega arith
+types_few parts (Gap k n) good = omega arith
+types_few parts (Member field) good = omega arith
+types_few parts Closed good = omega arith
+types_few parts (Pair n) good = omega arith
+types_few parts (Half r t) good = omega arith
+types_few parts (Stated returns n args) good = omega arith
+
+all_few : (parts : Parts) (rows : List Row) (last : Parts) → All IsRow rows → Accepts parts rows last → 4 * length last.typedefs ≤ 4 * length parts.typedefs + length (rows_text rows)
+all_few parts [] last good all = let same : length parts.typedefs ≡ length last.typedefs = ap (λ (p : Parts). length p.typedefs) all in omega (arith, same)
+all_few parts (row ∷ rows) last good all =
+    let here = types_few parts row (All-head IsRow row rows good) in
+    let rest = all_few (with_row parts row) rows last (All-tail IsRow row rows good) all.1 in
+    let whole : length (rows_text (row ∷ rows)) ≡ length (row_text row ++ 10 ∷ []) + length (rows_text rows) = length-append (row_text row ++ 10 ∷ []) (rows_text rows) in
+    omega (arith, here, rest, whole)
+
+pub few_more : (text : List ℕ) (parts : Parts) (rest : List ℕ) (place : ℕ) (row : Row) (line : List ℕ) (next : ℕ) → IsRead text parts rest place → IsRow row → row_text row ≡ line → next ≡ place + length line + 1 → next < 2 ^ 32 → length (with_row parts row).typedefs ≤ 2 ^ 30
+few_more text parts rest place row line next read good is at small =
+    let here = types_few parts row good in
+    let before = all_few no_parts read.rows parts read.fine read.accepted in
+    let placed : length (rows_text read.rows) ≡ place = read.placed in
+    let long : length (row_text row ++ 10 ∷ []) ≡ length line + 1 = length_push (row_text row) 10 ∙ ap (λ l. length l + 1) is in
+    omega (arith, here, before, placed, long, at, small)
 
 -- a line with which a header's text goes on is that of a line that may follow
 record IsAllowed (parts : Parts) (line : List ℕ) : Type 0 where
@@ -137,6 +194,11 @@ record IsAllowed (parts : Parts) (line : List ℕ) : Type 0 where
   good : IsRow row
   is : row_text row ≡ line
   fits : Fits parts row
+  can : CanEnd (with_row parts row)
+
+-- the parts that declarations end with are whole
+ended_whole : (decls : Decls) → IsGoodDecls decls → IsWhole (ended decls)
+ended_whole decls good = (refl, refl, All-from_contains (Contains (used_types decls.structs decls.functions)) decls.typedefs (λ t. (good.exact t).0))
 
 before_text : (rows : List Row) → with_ends (map row_text rows) ≡ rows_text rows
 before_text rows = flat_map-map (λ (line : List ℕ). line ++ 10 ∷ []) row_text rows
@@ -153,58 +215,22 @@ front_allowed text parts rest place line read clear front =
     let next = next_row read.rows (decls_rows front.decls) line front.rest read.fine (decls_rows-good front.decls front.good) clear whole in
     let all = subst (λ rows. Accepts no_parts rows (ended front.decls)) next.whole (accept_decls front.decls front.good) in
     let fits : Fits (fold with_row no_parts read.rows) next.row = Accepts-row no_parts read.rows next.row next.more (ended front.decls) all in
-    record { row = next.row; good = next.good; is = next.is; fits = subst (λ p. Fits p next.row) (Accepts-last no_parts read.rows parts read.accepted) fits }
-
--- a line that is bad
-before_allowed : (text : List ℕ) (parts : Parts) (rest : List ℕ) (place : ℕ) (read : IsRead text parts rest place) → AreAllowed (map row_text read.rows)
-before_allowed text parts rest place read = record { rows = read.rows; good = read.fine; are = refl; parts = parts; accepted = read.accepted }
-
-bad_line : (text : List ℕ) (parts : Parts) (rest : List ℕ) (place : ℕ) (line more : List ℕ) → IsRead text parts rest place → IsCut 10 rest line (10 ∷ more) → (IsAllowed parts line → ⊥) → IsBadLine text place
-bad_line text parts rest place line more read cut bad =
+    let more : Accepts (with_row (fold with_row no_parts read.rows) next.row) next.more (ended front.decls) = Accepts-rest no_parts read.rows next.row next.more (ended front.decls) all in
+    let goods : All IsRow (next.row ∷ next.more) = All-back IsRow read.rows (next.row ∷ next.more) (subst (All IsRow) next.whole (decls_rows-good front.decls front.good)) in
+    let at : fold with_row no_parts read.rows ≡ parts = Accepts-last no_parts read.rows parts read.accepted in
     record {
-      before = map row_text read.rows;
-      rest = rest;
-      each = All-map (HasNo 10) row_text read.rows (λ k d lt. row_clear _ (read.fine k d lt));
-      joined = ap (λ s. s ++ rest) (before_text read.rows) ∙ read.joined;
-      placed = ap length (before_text read.rows) ∙ read.placed;
-      allowed = before_allowed text parts rest place read;
-      bad = inr (line, more, cut, λ front. bad (front_allowed text parts rest place line read cut.clear front));
+      row = next.row;
+      good = next.good;
+      is = next.is;
+      fits = subst (λ p. Fits p next.row) at fits;
+      can = record {
+        rows = next.more;
+        good = All-tail IsRow next.row next.more goods;
+        last = ended front.decls;
+        accepted = subst (λ p. Accepts (with_row p next.row) next.more (ended front.decls)) at more;
+        whole = ended_whole front.decls front.good;
+      };
     }
-
-pub unread_line : (text : List ℕ) (parts : Parts) (rest : List ℕ) (place : ℕ) (line more : List ℕ) → IsRead text parts rest place → IsCut 10 rest line (10 ∷ more) → IsNoText IsRow row_text line → IsBadLine text place
-unread_line text parts rest place line more read cut none =
-    bad_line text parts rest place line more read cut (λ (a : IsAllowed parts line). none a.row a.good a.is)
-
-pub refused_line : (text : List ℕ) (parts : Parts) (rest : List ℕ) (place : ℕ) (line more : List ℕ) (row : Row) → IsRead text parts rest place → IsCut 10 rest line (10 ∷ more) → IsRow row → row_text row ≡ line → (Fits parts row → ⊥) → IsBadLine text place
-refused_line text parts rest place line more row read cut good is refused =
-    bad_line text parts rest place line more read cut (λ (a : IsAllowed parts line). refused (subst (Fits parts) (one_row a.row row a.good good (a.is ∙ sym is)) a.fits))
-
--- a text whose end is bad
-ends_whole : (text : List ℕ) (parts : Parts) (rest : List ℕ) (place : ℕ) (decls : Decls) → IsRead text parts rest place → HasNo 10 rest → IsGoodDecls decls → decls_text decls ≡ text → (rest ≡ []) × IsWhole parts
-ends_whole text parts rest place decls read clear good is =
-    let same = same_rows read.rows (decls_rows decls) rest read.fine (decls_rows-good decls good) clear (read.joined ∙ sym is) in
-    let last : fold with_row no_parts (decls_rows decls) ≡ ended decls = Accepts-last no_parts (decls_rows decls) (ended decls) (accept_decls decls good) in
-    let are : ended decls ≡ parts = sym last ∙ (ap (fold with_row no_parts) same.1 ∙ Accepts-last no_parts read.rows parts read.accepted) in
-    let used : All (Contains (used_types decls.structs decls.functions)) decls.typedefs = All-from_contains (Contains (used_types decls.structs decls.functions)) decls.typedefs (λ t. (good.exact t).0) in
-    (same.0, subst IsWhole are (refl, refl, used))
-
-bad_end : (text : List ℕ) (parts : Parts) (rest : List ℕ) (place : ℕ) → IsRead text parts rest place → HasNo 10 rest → ((rest ≡ []) × IsWhole parts → ⊥) → IsBadLine text place
-bad_end text parts rest place read clear bad =
-    record {
-      before = map row_text read.rows;
-      rest = rest;
-      each = All-map (HasNo 10) row_text read.rows (λ k d lt. row_clear _ (read.fine k d lt));
-      joined = ap (λ s. s ++ rest) (before_text read.rows) ∙ read.joined;
-      placed = ap length (before_text read.rows) ∙ read.placed;
-      allowed = before_allowed text parts rest place read;
-      bad = inl (clear, λ decls good is. bad (ends_whole text parts rest place decls read clear good is));
-    }
-
-pub cut_line : (text : List ℕ) (parts : Parts) (rest : List ℕ) (place : ℕ) → IsRead text parts rest place → HasNo 10 rest → rest ≢ [] → IsBadLine text place
-cut_line text parts rest place read clear some = bad_end text parts rest place read clear (λ (w : (rest ≡ []) × IsWhole parts). some w.0)
-
-pub unfinished_text : (text : List ℕ) (parts : Parts) (rest : List ℕ) (place : ℕ) → IsRead text parts rest place → HasNo 10 rest → (IsWhole parts → ⊥) → IsBadLine text place
-unfinished_text text parts rest place read clear part = bad_end text parts rest place read clear (λ (w : (rest ≡ []) × IsWhole parts). part w.1)
 
 -- a text that was read to its end
 some_given : (row : Row) → IsRow row → GivesSome row
@@ -253,6 +279,78 @@ whole_made text ts named ss fs stage place read whole =
 pub whole_text : (text : List ℕ) (parts : Parts) (rest : List ℕ) (place : ℕ) → IsRead text parts rest place → rest ≡ [] → IsWhole parts → IsGoodDecls (decls_of parts) × (decls_text (decls_of parts) ≡ text)
 whole_text text parts rest place read none whole =
     whole_made text parts.typedefs parts.named parts.structs parts.functions parts.stage place (subst (λ r. IsRead text parts r place) none read) whole
+
+-- lines that can be ended begin a header's text
+front_read : (text : List ℕ) (parts : Parts) (rest : List ℕ) (place : ℕ) (read : IsRead text parts rest place) → IsFront (with_ends (map row_text read.rows))
+front_read text parts rest place read =
+    let can = read.can in
+    let rows : List Row = read.rows ++ can.rows in
+    let all : IsRead (rows_text rows) can.last [] (length (rows_text rows)) = record {
+      rows = rows;
+      fine = All-append IsRow read.rows can.rows read.fine can.good;
+      accepted = Accepts-append no_parts read.rows parts can.rows can.last read.accepted can.accepted;
+      can = can_whole can.last can.whole;
+      joined = append-nil (rows_text rows);
+      placed = refl;
+    } in
+    let made = whole_text (rows_text rows) can.last [] (length (rows_text rows)) all refl can.whole in
+    record {
+      decls = decls_of can.last;
+      good = made.0;
+      rest = rows_text can.rows;
+      joined = ap (λ s. s ++ rows_text can.rows) (before_text read.rows) ∙ (sym (flat_map-append (λ (r : Row). row_text r ++ 10 ∷ []) read.rows can.rows) ∙ sym made.1);
+    }
+
+-- a line that is bad
+bad_line : (text : List ℕ) (parts : Parts) (rest : List ℕ) (place : ℕ) (line more : List ℕ) → IsRead text parts rest place → IsCut 10 rest line (10 ∷ more) → (IsAllowed parts line → ⊥) → IsBadLine text place
+bad_line text parts rest place line more read cut bad =
+    record {
+      before = map row_text read.rows;
+      rest = rest;
+      each = All-map (HasNo 10) row_text read.rows (λ k d lt. row_clear _ (read.fine k d lt));
+      joined = ap (λ s. s ++ rest) (before_text read.rows) ∙ read.joined;
+      placed = ap length (before_text read.rows) ∙ read.placed;
+      begins = front_read text parts rest place read;
+      bad = inr (line, more, cut, λ front. bad (front_allowed text parts rest place line read cut.clear front));
+    }
+
+pub unread_line : (text : List ℕ) (parts : Parts) (rest : List ℕ) (place : ℕ) (line more : List ℕ) → IsRead text parts rest place → IsCut 10 rest line (10 ∷ more) → IsNoText IsRow row_text line → IsBadLine text place
+unread_line text parts rest place line more read cut none =
+    bad_line text parts rest place line more read cut (λ (a : IsAllowed parts line). none a.row a.good a.is)
+
+pub refused_line : (text : List ℕ) (parts : Parts) (rest : List ℕ) (place : ℕ) (line more : List ℕ) (row : Row) → IsRead text parts rest place → IsCut 10 rest line (10 ∷ more) → IsRow row → row_text row ≡ line → (Fits parts row → ⊥) → IsBadLine text place
+refused_line text parts rest place line more row read cut good is refused =
+    bad_line text parts rest place line more read cut (λ (a : IsAllowed parts line). refused (subst (Fits parts) (one_row a.row row a.good good (a.is ∙ sym is)) a.fits))
+
+pub unended_line : (text : List ℕ) (parts : Parts) (rest : List ℕ) (place : ℕ) (line more : List ℕ) (row : Row) → IsRead text parts rest place → IsCut 10 rest line (10 ∷ more) → IsRow row → row_text row ≡ line → (CanEnd (with_row parts row) → ⊥) → IsBadLine text place
+unended_line text parts rest place line more row read cut good is never =
+    bad_line text parts rest place line more read cut (λ (a : IsAllowed parts line). never (subst (λ r. CanEnd (with_row parts r)) (one_row a.row row a.good good (a.is ∙ sym is)) a.can))
+
+-- a text whose end is bad
+ends_whole : (text : List ℕ) (parts : Parts) (rest : List ℕ) (place : ℕ) (decls : Decls) → IsRead text parts rest place → HasNo 10 rest → IsGoodDecls decls → decls_text decls ≡ text → (rest ≡ []) × IsWhole parts
+ends_whole text parts rest place decls read clear good is =
+    let same = same_rows read.rows (decls_rows decls) rest read.fine (decls_rows-good decls good) clear (read.joined ∙ sym is) in
+    let last : fold with_row no_parts (decls_rows decls) ≡ ended decls = Accepts-last no_parts (decls_rows decls) (ended decls) (accept_decls decls good) in
+    let are : ended decls ≡ parts = sym last ∙ (ap (fold with_row no_parts) same.1 ∙ Accepts-last no_parts read.rows parts read.accepted) in
+    (same.0, subst IsWhole are (ended_whole decls good))
+
+bad_end : (text : List ℕ) (parts : Parts) (rest : List ℕ) (place : ℕ) → IsRead text parts rest place → HasNo 10 rest → ((rest ≡ []) × IsWhole parts → ⊥) → IsBadLine text place
+bad_end text parts rest place read clear bad =
+    record {
+      before = map row_text read.rows;
+      rest = rest;
+      each = All-map (HasNo 10) row_text read.rows (λ k d lt. row_clear _ (read.fine k d lt));
+      joined = ap (λ s. s ++ rest) (before_text read.rows) ∙ read.joined;
+      placed = ap length (before_text read.rows) ∙ read.placed;
+      begins = front_read text parts rest place read;
+      bad = inl (clear, λ decls good is. bad (ends_whole text parts rest place decls read clear good is));
+    }
+
+pub cut_line : (text : List ℕ) (parts : Parts) (rest : List ℕ) (place : ℕ) → IsRead text parts rest place → HasNo 10 rest → rest ≢ [] → IsBadLine text place
+cut_line text parts rest place read clear some = bad_end text parts rest place read clear (λ (w : (rest ≡ []) × IsWhole parts). some w.0)
+
+pub unfinished_text : (text : List ℕ) (parts : Parts) (rest : List ℕ) (place : ℕ) → IsRead text parts rest place → HasNo 10 rest → (IsWhole parts → ⊥) → IsBadLine text place
+unfinished_text text parts rest place read clear part = bad_end text parts rest place read clear (λ (w : (rest ≡ []) × IsWhole parts). part w.1)
 
 -- a text with a bad line is no header's
 pub no_header : (text : List ℕ) (place : ℕ) → IsBadLine text place → IsNoHeader text

@@ -26,7 +26,7 @@ abbrev AreListed : List CType → ℕ → CType → Type 0
 AreListed ts named t = All (Contains ts) (named_types t) × LeadsBelow named t
 
 -- what is still to be ended is well formed
-abbrev IsGoodStage : List CType → ℕ → List CStruct → List CFunction → Stage → Type 0
+abbrev pub IsGoodStage : List CType → ℕ → List CStruct → List CFunction → Stage → Type 0
 IsGoodStage ts named ss fs Idle = Unit {0}
 IsGoodStage ts named ss fs (InStruct fields from gapped) =
     IsStruct named (record { number = 0; fields = fields }) × (end_after 0 fields ≤ from) × All (Contains ts) (flat_map (λ (f : CField). named_types f.kind) fields) × (length ss < named)

@@ -81,7 +81,7 @@ module _ {K : Type 0} (bytes : K → List ℕ) where
       subst (λ n. IsAdded names n (map bytes more)) is (subst (λ ns. IsAdded ns (bytes v) (map bytes more)) view here)
 
 -- a set of types has a type where its part for the width has the name
-abbrev PartOf : Bool → List (List ℕ) → List (List ℕ) → List (List ℕ) → CType → Type 0
+abbrev pub PartOf : Bool → List (List ℕ) → List (List ℕ) → List (List ℕ) → CType → Type 0
 PartOf unused chars shorts ints Unused = IsTrue unused
 PartOf unused chars shorts ints (Scalar name bits) = (Contains chars name × (bits ≡ 8)) ⊎ ((Contains shorts name × (bits ≡ 16)) ⊎ (Contains ints name × (bits ≡ 32)))
 PartOf unused chars shorts ints (Pointer n) = ⊥

@@ -10,7 +10,13 @@ pub mod Rising
 pub mod Runs
 pub mod Sound
 pub mod Kept
-pub mod Headers
 pub mod KindSets
 pub mod Drafting
+pub mod Phases
+pub mod Weights
+pub mod Needing
+pub mod Ending
+pub mod Endings
+pub mod Left
+pub mod Headers
 pub mod Moved

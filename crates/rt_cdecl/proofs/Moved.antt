@@ -1,5 +1,5 @@
 -- What was read, with a line more, by its parts.
-use Rattle.std.proofs.Common.{◌≡◌, ℕ, ◌+◌, Bool, false, ◌↔◌, IsTrue, List, [], ◌∷◌, ◌++◌, All, Contains, get_or, length, refl, ap, sym, subst, ◌∙◌, append-nil}
+use Rattle.std.proofs.Common.{◌≡◌, ℕ, ◌+◌, Bool, false, ◌↔◌, IsTrue, List, [], ◌∷◌, ◌++◌, All, length, refl, ap, sym, subst, ◌∙◌}
 use Rattle.rt_lines.specs.declared.label.Loc.{Loc}
 use Rattle.rt_cdecl.specs.declared.declarations.CType.{CType}
 use Rattle.rt_cdecl.specs.declared.declarations.CField.{CField}
@@ -7,9 +7,11 @@ use Rattle.rt_cdecl.specs.declared.declarations.CStruct.{CStruct}
 use Rattle.rt_cdecl.specs.declared.declarations.CFunction.{CFunction}
 use Rattle.rt_cdecl.specs.declared.declarations.Decls.{Decls}
 use Rattle.rt_cdecl.specs.Rows.{Row, Typedef, Named, Opened, Gap, Member, Closed, Pair, Half, Stated, Returns}
-use Rattle.rt_cdecl.specs.GoodDecls.{arg_types, used_types}
-use Rattle.rt_cdecl.specs.Drafts.{Stage, Idle, InStruct, InPair, Parts, with_row, Fits, IsListed, MayHalf, MayReturn, IsWhole, decls_of, stated_of, closed_structs, closed_stage, gapped_of, member_of, half_of, stage_types, AreNoted}
+use Rattle.rt_cdecl.specs.GoodDecls.{arg_types}
+use Rattle.rt_cdecl.specs.Drafts.{Stage, Idle, InStruct, InPair, Parts, with_row, Fits, IsListed, MayHalf, MayReturn, IsWhole, decls_of, stated_of, closed_structs, closed_stage, gapped_of, member_of, half_of}
+use Rattle.rt_cdecl.specs.Endings.{AreLeft}
 use Rattle.rt_cdecl.proofs.Sound.{made}
+use Rattle.rt_cdecl.proofs.Left.{none_left_used}
 
 module _ (parts : Parts) (ts : List CType) (named : ℕ) (ss : List CStruct) (fs : List CFunction) (stage : Stage) (is : made ts named ss fs stage ≡ parts) where
   -- whether a line may follow, by the parts
@@ -47,15 +49,10 @@ module _ (parts : Parts) (ts : List CType) (named : ℕ) (ss : List CStruct) (fs
       subst (λ p. made ts named ss more Idle ≡ with_row p (Stated returns n args)) is (λ i. made ts named ss ((grown ∙ ap (λ g. fs ++ g ∷ []) same) i) Idle)
 
   -- what was read is whole
-  pub whole_is : (used : List CType) (all : Bool) → stage ≡ Idle → length ss ≡ named → AreNoted used ss fs stage → IsTrue all ↔ All (Contains used) ts → IsTrue all ↔ IsWhole parts
-  whole_is used all idle count noted test =
-      subst (λ p. IsTrue all ↔ IsWhole p) is (
-        λ h. (idle, count, λ k d lt. subst (λ us. Contains us (get_or ts k d)) (sym none) ((noted (get_or ts k d)).0 (test.0 h k d lt))),
-        λ w. test.1 (λ k d lt. (noted (get_or ts k d)).1 (subst (λ us. Contains us (get_or ts k d)) none (w.2 k d lt))),
-      )
-    where
-      none : used_types ss fs ≡ used_types ss fs ++ stage_types stage
-      none = sym (ap (λ s. used_types ss fs ++ stage_types s) idle ∙ append-nil (used_types ss fs))
+  pub whole_is : (left : List CType) (none : Bool) → stage ≡ Idle → length ss ≡ named → AreLeft left (made ts named ss fs stage) → IsTrue none ↔ (left ≡ []) → IsTrue none ↔ IsWhole parts
+  whole_is left none idle count leaves test =
+      let used = none_left_used left (made ts named ss fs stage) leaves idle in
+      subst (λ p. IsTrue none ↔ IsWhole p) is (λ h. (idle, count, used.0 (test.0 h)), λ w. test.1 (used.1 w.2))
 
   pub decls_is : (list : List CType) (functions : List CFunction) → list ≡ ts → functions ≡ fs → ◌≡◌ {A = Decls} (record { typedefs = list; structs = ss; functions = functions }) (decls_of parts)
   decls_is list functions a b =

@@ -1,15 +1,12 @@
--- Declarations read from headers, and a line at which no header's text goes on.
-use Rattle.std.specs.Prelude.{◌≡◌, ℕ, ◌+◌, ◌⊎◌, List, [], ◌∷◌, ◌++◌, All, map, length}
+-- Declarations read from headers, and the first line at which no header's text goes on.
+use Rattle.std.specs.Prelude.{◌≡◌, ℕ, ◌+◌, ◌⊎◌, List, [], ◌∷◌, ◌++◌, All, length}
 use Rattle.std.specs.List.{flat_map}
 use Rattle.rt_texts.specs.declared.fault.TextFault.{TextFault}
 use Rattle.rt_texts.specs.declared.fault.TextFault.TheVariants.{BadText, Memory}
 use Rattle.rt_texts.specs.Readings.{IsNoText, HasNo, IsCut}
 use Rattle.rt_cdecl.specs.declared.declarations.Decls.{Decls}
-use Rattle.rt_cdecl.specs.Rows.{Row, row_text}
 use Rattle.rt_cdecl.specs.Texts.{decls_text}
 use Rattle.rt_cdecl.specs.GoodDecls.{IsGoodDecls}
-use Rattle.rt_cdecl.specs.GoodRows.{IsRow}
-use Rattle.rt_cdecl.specs.Drafts.{Parts, no_parts, Accepts}
 
 -- lines, each with its line end
 abbrev pub with_ends : List (List ℕ) → List ℕ
@@ -26,27 +23,19 @@ pub record IsFront (front : List ℕ) : Type 0 where
 abbrev pub IsNoHeader : List ℕ → Type 0
 IsNoHeader text = IsNoText IsGoodDecls decls_text text
 
--- lines that may each follow those before them
-pub record AreAllowed (lines : List (List ℕ)) : Type 0 where
-  pub rows : List Row
-  pub good : All IsRow rows
-  pub are : map row_text rows ≡ lines
-  pub parts : Parts
-  pub accepted : Accepts no_parts rows parts
-
 -- the rest begins with a whole line, and no header's text begins with the lines before and this one
 abbrev pub NoneGoesOn : List (List ℕ) → List ℕ → Type 0
 NoneGoesOn before rest = (line more : List ℕ) × IsCut 10 rest line (10 ∷ more) × (IsFront (with_ends (before ++ line ∷ [])) → ⊥)
 
--- The lines before the one that begins at this byte may each follow those before them, and with it they begin no header's text.
--- Where the text has no more whole lines than these, its end counts as a line: the text is no header's.
+-- The lines before the one that begins at this byte begin some header's text, and with it they begin none. Where the text has no more
+-- whole lines than these, its end counts as a line: the text is no header's.
 pub record IsBadLine (text : List ℕ) (place : ℕ) : Type 0 where
   pub before : List (List ℕ)
   pub rest : List ℕ
   pub each : All (HasNo 10) before
   pub joined : with_ends before ++ rest ≡ text
   pub placed : length (with_ends before) ≡ place
-  pub allowed : AreAllowed before
+  pub begins : IsFront (with_ends before)
   pub bad : (HasNo 10 rest × IsNoHeader text) ⊎ NoneGoesOn before rest
 
 -- why a text is no header's; memory may run out

@@ -6,6 +6,7 @@ pub mod GoodRows
 pub mod HeaderWords
 pub mod Guesses
 pub mod Drafts
+pub mod Endings
 pub mod Laws
 pub mod Lines
 pub mod HeaderReadings

@@ -1,15 +1,17 @@
 // Headers that are read in part.
-ghost use Rattle.std.specs.Prelude.{◌≡◌, ◌↔◌, All, IsTrue, IfOk, OnOk, MatchOption};
+ghost use Rattle.std.specs.Prelude.{◌≡◌, ◌↔◌, ◌<◌, ◌≤◌, ◌^◌, All, Contains, IsTrue, IfOk, OnOk, MatchOption, length};
 ghost use Rattle.rt_cdecl.specs.Types.{IsField, IsTypedef, IsWide};
 ghost use Rattle.rt_cdecl.specs.Rows.{Typedef, Named, Opened, Gap, Member, Pair, Half, Stated};
 ghost use Rattle.rt_cdecl.specs.GoodDecls.{IsArgument, arg_types};
 ghost use Rattle.rt_cdecl.specs.GoodRows.{IsReturned, IsRow};
-ghost use Rattle.rt_cdecl.specs.Drafts.{Adds, Fits, IsListed, IsWhole, MayReturn, MayState};
+ghost use Rattle.rt_cdecl.specs.declared.declarations.CType.{CType};
+ghost use Rattle.rt_cdecl.specs.Endings.{CanEnd, Drops, FitFunctions, FitStruct, HasPresent, HasRoom, IsFew, IsReached, all_used};
+ghost use Rattle.rt_cdecl.specs.Drafts.{Fits, IsListed, IsWhole, MayReturn, MayState};
 ghost use Rattle.rt_cdecl.specs.Drafts.{closed_stage, closed_structs, decls_of, line_types, no_parts, stated_of, with_row};
 
 use crate::declarations::{CArgs, CField, CFields, CFunction, CStruct, CStructs, CType, Decls};
-use crate::kinds::Kinds;
-use crate::listed::{RisingFunctions, Typedefs, are_among};
+use crate::kinds::{Counts, Kinds};
+use crate::listed::{RisingFunctions, Typedefs};
 use crate::row::{Returns, Row};
 use crate::stage::Stage;
 use rt_base::Memory;
@@ -21,7 +23,7 @@ use std::marker::Model;
 #[derive(Drop)]
 pub struct Draft {
     typedefs: Typedefs,
-    used: Kinds,
+    left: Kinds,
     named: u64,
     structs: CStructs,
     functions: RisingFunctions,
@@ -29,13 +31,14 @@ pub struct Draft {
 }
 
 impl Model for Draft {
-    ghost use Rattle.rt_cdecl.specs.Drafts.{AreNoted, Parts};
+    ghost use Rattle.rt_cdecl.specs.Drafts.{Parts};
+    ghost use Rattle.rt_cdecl.specs.Endings.{AreLeft};
 
     ghost Value = { Parts };
 
     ghost view = { λ d. record { typedefs = d.typedefs; named = d.named; structs = d.structs; functions = d.functions; stage = d.stage } };
 
-    ghost invariant = { λ d. AreNoted d.used d.structs d.functions d.stage };
+    ghost invariant = { λ d. AreLeft d.left (record { typedefs = d.typedefs; named = d.named; structs = d.structs; functions = d.functions; stage = d.stage }) };
 }
 
 impl Draft {
@@ -45,7 +48,7 @@ impl Draft {
     {
         Draft {
             typedefs: Typedefs::new(alloc),
-            used: Kinds::new(alloc),
+            left: Kinds::new(alloc),
             named: 0,
             structs: CStructs::new(alloc),
             functions: RisingFunctions::new(alloc),
@@ -145,6 +148,7 @@ impl Draft {
 
     // The draft with one line more, which may follow.
     pub fn with(self, row: Row) -> Result<Draft, Memory>
+        requires reached { IsReached self }
         requires good { IsRow row }
         requires fits { Fits self row }
         ensures { IfOk result (λ after. after ≡ with_row self row) }
@@ -164,17 +168,27 @@ impl Draft {
 
     // The draft with the line of a type more.
     fn with_typedef(self, kind: CType) -> Result<Draft, Memory>
-        requires { IsTypedef kind }
+        requires good { IsTypedef kind }
+        requires unused { (t : CType) → Contains (all_used self) t → ⊥ }
         ensures { IfOk result (λ after. after ≡ with_row self (Typedef kind)) }
     {
-        let typedefs = self.typedefs.with(kind)?;
+        let Draft {
+            typedefs,
+            mut left,
+            named,
+            structs,
+            functions,
+            stage,
+        } = self;
+        left.add(typedefs.allocator(), &kind)?;
+        let typedefs = typedefs.with(kind)?;
         Ok(Draft {
             typedefs,
-            used: self.used,
-            named: self.named,
-            structs: self.structs,
-            functions: self.functions,
-            stage: self.stage,
+            left,
+            named,
+            structs,
+            functions,
+            stage,
         })
     }
 
@@ -185,7 +199,7 @@ impl Draft {
     {
         Ok(Draft {
             typedefs: self.typedefs,
-            used: self.used,
+            left: self.left,
             named: u64::from(number) + 1,
             structs: self.structs,
             functions: self.functions,
@@ -201,7 +215,7 @@ impl Draft {
         let fields = CFields::new(self.structs.allocator());
         Ok(Draft {
             typedefs: self.typedefs,
-            used: self.used,
+            left: self.left,
             named: self.named,
             structs: self.structs,
             functions: self.functions,
@@ -216,7 +230,7 @@ impl Draft {
     {
         Ok(Draft {
             typedefs: self.typedefs,
-            used: self.used,
+            left: self.left,
             named: self.named,
             structs: self.structs,
             functions: self.functions,
@@ -232,17 +246,17 @@ impl Draft {
     {
         let Draft {
             typedefs,
-            mut used,
+            mut left,
             named,
             structs,
             functions,
             stage,
         } = self;
-        used.add(typedefs.allocator(), &field.kind)?;
+        left.remove(&field.kind);
         let stage = stage.with_field(field)?;
         Ok(Draft {
             typedefs,
-            used,
+            left,
             named,
             structs,
             functions,
@@ -257,7 +271,7 @@ impl Draft {
     {
         let Draft {
             typedefs,
-            used,
+            left,
             named,
             mut structs,
             functions,
@@ -266,7 +280,7 @@ impl Draft {
         let stage = close(&mut structs, stage)?;
         Ok(Draft {
             typedefs,
-            used,
+            left,
             named,
             structs,
             functions,
@@ -281,7 +295,7 @@ impl Draft {
     {
         Ok(Draft {
             typedefs: self.typedefs,
-            used: self.used,
+            left: self.left,
             named: self.named,
             structs: self.structs,
             functions: self.functions,
@@ -297,16 +311,16 @@ impl Draft {
     {
         let Draft {
             typedefs,
-            mut used,
+            mut left,
             named,
             structs,
             functions,
             stage,
         } = self;
-        used.add(typedefs.allocator(), &kind)?;
+        left.remove(&kind);
         Ok(Draft {
             typedefs,
-            used,
+            left,
             named,
             structs,
             functions,
@@ -322,17 +336,17 @@ impl Draft {
     {
         let Draft {
             typedefs,
-            mut used,
+            mut left,
             named,
             structs,
             functions,
             stage,
         } = self;
-        note_function(&mut used, typedefs.allocator(), &returns, args.items())?;
+        use_function(&mut left, &returns, args.items());
         let functions = functions.with(function_of(stage, returns, number, args))?;
         Ok(Draft {
             typedefs,
-            used,
+            left,
             named,
             structs,
             functions,
@@ -340,13 +354,67 @@ impl Draft {
         })
     }
 
+    // Whether a type of something can be written that is 32 bits wide.
+    fn has_present(&self) -> bool
+        ensures { IsTrue result ↔ HasPresent self.now }
+    {
+        self.named > 0 || self.typedefs.has_ints()
+    }
+
+    // Whether functions of this number and greater ones have room for the types that are left, and for so many more.
+    fn fit_functions(&self, left: Counts, number: u64, taken: u64) -> bool
+        requires number { number ≤ 2 ^ 32 }
+        requires taken { taken ≤ 2 }
+        requires few { IsFew left }
+        ensures { IsTrue result ↔ FitFunctions self.now left number taken }
+    {
+        let wide = left.ints + u64::from(left.unused) + taken;
+        left.chars == 0
+            && left.shorts == 0
+            && wide <= 16394 * (4294967296 - number)
+            && (!left.unused || self.has_present())
+    }
+
+    // Whether what can still be written has room for the types that are left.
+    fn has_room(&self, left: Counts) -> bool
+        requires few { IsFew left }
+        requires structs { length self.now.structs ≤ 2 ^ 32 }
+        ensures { IsTrue result ↔ HasRoom self.now left }
+    {
+        let structs = self.structs.len() as u64;
+        match &self.stage {
+            Stage::Idle => {
+                structs < self.named
+                    || (self.named == 0 && self.functions.is_empty())
+                    || self.fit_functions(left, self.functions.least(), 0)
+            }
+            Stage::InStruct(_, from, _) => structs + 1 < self.named || fit_struct(*from, left),
+            Stage::InPair(number) => {
+                self.has_present() && self.fit_functions(left, u64::from(*number), 0)
+            }
+            Stage::HalfRead(number, _) => {
+                self.has_present() && self.fit_functions(left, u64::from(*number), 1)
+            }
+            Stage::BothRead(number, _, _) | Stage::PairClosed(number, _, _) => {
+                self.fit_functions(left, u64::from(*number), 2)
+            }
+        }
+    }
+
+    // Whether lines can follow that make what was read a header: whether all types that are listed can be used.
+    pub fn can_end(&self) -> bool
+        requires reached { IsReached self.now }
+        requires few { length self.now.typedefs ≤ 2 ^ 30 }
+        ensures { IsTrue result ↔ CanEnd self.now }
+    {
+        self.has_room(self.left.counts())
+    }
+
     // Whether what was read is a whole header.
     fn is_whole(&self) -> bool
         ensures { IsTrue result ↔ IsWhole self.now }
     {
-        self.stage.is_idle()
-            && self.structs.len() as u64 == self.named
-            && are_among(self.typedefs.items(), &self.used)
+        self.stage.is_idle() && self.structs.len() as u64 == self.named && self.left.is_empty()
     }
 
     // The declarations, where what was read is a whole header.
@@ -362,6 +430,17 @@ impl Draft {
             functions: self.functions.into_list(),
         })
     }
+}
+
+// Whether fields of the narrow types that are left fit into a struct from an end on.
+fn fit_struct(from: u64, left: Counts) -> bool
+    requires { IsFew left }
+    ensures { IsTrue result ↔ FitStruct from left }
+{
+    (left.chars == 0 && left.shorts == 0)
+        || (from <= 2147483648
+            && left.chars + from <= 2147483648
+            && left.chars + 2 * left.shorts + from <= 2147483649)
 }
 
 // Ends a struct or a pair: a struct goes to those before it.
@@ -382,22 +461,16 @@ fn close(structs: &mut CStructs, stage: Stage) -> Result<Stage, Memory>
     }
 }
 
-// Adds the types of a function's line.
-fn note_function(
-    used: &mut Kinds,
-    alloc: Global,
-    returns: &Returns,
-    args: &[(Loc, CType)],
-) -> Result<(), Memory>
+// Takes the types of a function's line out of those that are left.
+fn use_function(left: &mut Kinds, returns: &Returns, args: &[(Loc, CType)])
     requires returned { IsReturned returns.now }
     requires args { All IsArgument args.now }
-    ensures { OnOk result (Adds used.old (line_types returns.now args.now) used.new) }
+    ensures { Drops left.old (line_types returns.now args.now) left.new }
 {
-    used.add_args(alloc, args)?;
+    left.remove_args(args);
     if let Returns::Value(kind) = returns {
-        used.add(alloc, kind)?;
+        left.remove(kind);
     }
-    Ok(())
 }
 
 // The function that a line states, after the lines of its pair where it has one.

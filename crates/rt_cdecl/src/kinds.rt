@@ -1,9 +1,10 @@
 // Sets of types that have lines of their own.
-ghost use Rattle.std.specs.Prelude.{◌≡◌, ◌↔◌, [], All, IsTrue, Contains, OnOk};
+ghost use Rattle.std.specs.Prelude.{◌≡◌, ◌↔◌, ◌<◌, ◌^◌, [], List, ℕ, All, IsTrue, Contains, OnOk, length};
 ghost use Rattle.rt_cdecl.specs.declared.declarations.CType.TheVariants.{Scalar};
 ghost use Rattle.rt_cdecl.specs.Types.{IsType, IsWidth};
 ghost use Rattle.rt_cdecl.specs.GoodDecls.{IsArgument, arg_types, named_types};
 ghost use Rattle.rt_cdecl.specs.Drafts.{Adds, IsAdded};
+ghost use Rattle.rt_cdecl.specs.Endings.{AreApart, AreCounted, Drops, HasInt, IsDropped, IsZero};
 ghost use Rattle.std.specs.List.{flat_map};
 
 use crate::declarations::CType;
@@ -21,10 +22,13 @@ pub struct NameSet {
 
 impl Model for NameSet {
     ghost use Rattle.std.specs.Prelude.{List, ℕ, map};
+    ghost use Rattle.rt_cdecl.specs.Endings.{AreApart};
 
     ghost Value = { List (List ℕ) };
 
     ghost view = { λ s. map (λ v. v.items) s.set.keys };
+
+    ghost invariant = { λ s. AreApart (map (λ v. v.items) s.set.keys) };
 }
 
 impl NameSet {
@@ -54,6 +58,44 @@ impl NameSet {
         let name = name.to_vec(alloc)?;
         self.set.insert(name)?;
         Ok(())
+    }
+
+    // Takes a name out, if it is there.
+    pub fn remove(&mut self, name: &[u8])
+        ensures { IsDropped self.old name.now self.new }
+    {
+        self.set.remove(name);
+    }
+
+    // How many there are.
+    pub fn len(&self) -> u64
+        ensures len { result ≡ length self.now }
+        ensures small { result < 2 ^ 63 }
+        ensures apart { AreApart self.now }
+    {
+        self.set.len() as u64
+    }
+}
+
+// How many types there are of each width.
+#[derive(Clone, Copy)]
+pub struct Counts {
+    // Whether `Unused` is one of them.
+    pub unused: bool,
+    // Scalars of 8 bits.
+    pub chars: u64,
+    // Scalars of 16 bits.
+    pub shorts: u64,
+    // Scalars of 32 bits.
+    pub ints: u64,
+}
+
+impl Counts {
+    // Whether there are none.
+    fn is_zero(&self) -> bool
+        ensures { IsTrue result ↔ IsZero self.now }
+    {
+        !self.unused && self.chars == 0 && self.shorts == 0 && self.ints == 0
     }
 }
 
@@ -141,14 +183,64 @@ impl Kinds {
         }
     }
 
-    // Adds those of arguments.
-    pub fn add_args(&mut self, alloc: Global, args: &[(Loc, CType)]) -> Result<(), Memory>
+    // Takes a scalar out, if it is there.
+    fn remove_scalar(&mut self, name: &[u8], bits: u8)
+        requires { IsWidth bits }
+        ensures { IsDropped self.old (Scalar name.now bits) self.new }
+    {
+        match bits {
+            8 => self.chars.remove(name),
+            16 => self.shorts.remove(name),
+            _ => self.ints.remove(name),
+        }
+    }
+
+    // Takes a type out, if it is there.
+    pub fn remove(&mut self, kind: &CType)
+        requires { IsType kind.now }
+        ensures { Drops self.old (named_types kind.now) self.new }
+    {
+        match kind {
+            CType::Unused => self.unused = false,
+            CType::Scalar(name, bits) => self.remove_scalar(name.items(), *bits),
+            CType::Pointer(_) => (),
+        }
+    }
+
+    // Takes those of arguments out.
+    pub fn remove_args(&mut self, args: &[(Loc, CType)])
         requires { All IsArgument args.now }
-        ensures { OnOk result (Adds self.old (flat_map named_types (arg_types args.now)) self.new) }
+        ensures { Drops self.old (flat_map named_types (arg_types args.now)) self.new }
     {
         for (_, kind) in args {
-            self.add(alloc, kind)?;
+            self.remove(kind);
         }
-        Ok(())
+    }
+
+    // How many types there are of each width.
+    pub fn counts(&self) -> Counts
+        ensures { AreCounted self.now result }
+    {
+        Counts {
+            unused: self.unused,
+            chars: self.chars.len(),
+            shorts: self.shorts.len(),
+            ints: self.ints.len(),
+        }
+    }
+
+    // Whether a scalar of 32 bits is among these.
+    pub fn has_ints(&self) -> bool
+        ensures { IsTrue result ↔ HasInt self.now }
+    {
+        self.ints.len() > 0
+    }
+
+    // Whether there are none.
+    pub fn is_empty(&self) -> bool
+        ensures { IsTrue result ↔ (self.now ≡ []) }
+    {
+        let counts = self.counts();
+        counts.is_zero()
     }
 }

@@ -1,5 +1,5 @@
 // What a header lists: its types, and its functions.
-ghost use Rattle.std.specs.Prelude.{◌≡◌, ◌↔◌, ◌≤◌, ◌++◌, ◌∷◌, [], All, IsTrue, Contains, IfOk};
+ghost use Rattle.std.specs.Prelude.{◌≡◌, ◌↔◌, ◌≤◌, ◌^◌, ◌++◌, ◌∷◌, [], All, IsTrue, Contains, IfOk};
 ghost use Rattle.std.specs.Ordering.{nat_cmp};
 ghost use Rattle.std.specs.Cmp.Lexicographic.{slice_cmp};
 ghost use Rattle.std.specs.declared.cmp.Ordering.TheVariants.{Less};
@@ -7,6 +7,7 @@ ghost use Rattle.rt_cdecl.specs.Types.{IsTypedef};
 ghost use Rattle.rt_cdecl.specs.Rows.{typedef_text};
 ghost use Rattle.rt_cdecl.specs.GoodDecls.{function_numbers};
 ghost use Rattle.rt_cdecl.specs.Drafts.{LastBefore, least_after};
+ghost use Rattle.rt_cdecl.specs.Endings.{HasInt};
 
 use crate::declarations::{CFunction, CFunctions, CType, CTypes};
 use crate::kinds::Kinds;
@@ -40,18 +41,6 @@ fn typedef_line(alloc: Global, kind: &CType) -> Result<Vec<u8>, Memory>
     let mut text = Vec::new(alloc);
     push_typedef_text(kind, &mut text)?;
     Ok(text)
-}
-
-// Whether all types are used.
-pub fn are_among(kinds: &[CType], used: &Kinds) -> bool
-    ensures { IsTrue result ↔ All (Contains used.now) kinds.now }
-{
-    for kind in kinds {
-        if !used.has(kind) {
-            return false;
-        }
-    }
-    true
 }
 
 // Whether the line of a type comes before that of another.
@@ -99,6 +88,13 @@ impl Typedefs {
         self.set.has(kind)
     }
 
+    // Whether a scalar of 32 bits is listed.
+    pub fn has_ints(&self) -> bool
+        ensures { IsTrue result ↔ HasInt self.now }
+    {
+        self.set.has_ints()
+    }
+
     // Whether the line of a type comes after those of these.
     pub fn may_follow(&self, kind: &CType) -> Result<bool, Memory>
         ensures { IfOk result (λ may. IsTrue may ↔ LastBefore self.now kind.now) }
@@ -117,13 +113,6 @@ impl Typedefs {
         Ok(Typedefs { list, set })
     }
 
-    // The types in order.
-    pub fn items(&self) -> &[CType]
-        ensures { result.now ≡ self.now }
-    {
-        self.list.items()
-    }
-
     // The types as a list, without memory.
     pub fn into_list(self) -> CTypes
         ensures { result ≡ self }
@@ -140,7 +129,7 @@ pub struct RisingFunctions {
 }
 
 impl Model for RisingFunctions {
-    ghost use Rattle.std.specs.Prelude.{List, ◌≡◌};
+    ghost use Rattle.std.specs.Prelude.{List, ◌≡◌, ◌≤◌, ◌^◌};
     ghost use Rattle.rt_cdecl.specs.declared.declarations.CFunction.{CFunction};
     ghost use Rattle.rt_cdecl.specs.GoodDecls.{function_numbers};
     ghost use Rattle.rt_cdecl.specs.Drafts.{least_after};
@@ -149,7 +138,7 @@ impl Model for RisingFunctions {
 
     ghost view = { λ f. f.list };
 
-    ghost invariant = { λ f. f.least ≡ least_after 0 (function_numbers f.list) };
+    ghost invariant = { λ f. (f.least ≡ least_after 0 (function_numbers f.list)) × (f.least ≤ 2 ^ 32) };
 }
 
 impl RisingFunctions {
@@ -168,6 +157,14 @@ impl RisingFunctions {
         ensures { IsTrue result ↔ (self.now ≡ []) }
     {
         self.list.items().is_empty()
+    }
+
+    // The least number that may follow those of all these, which rise.
+    pub fn least(&self) -> u64
+        ensures least { result ≡ least_after 0 (function_numbers self.now) }
+        ensures small { result ≤ 2 ^ 32 }
+    {
+        self.least
     }
 
     // Whether the number is greater than those of all these, which rise.

@@ -21,8 +21,8 @@ fn place_after(place: u32, line: &[u8]) -> Option<u32>
 }
 
 /// The declarations of a text, which is exactly theirs. Where the text is that of no well formed declarations the fault is
-/// `BadText` of the byte where a line begins: no header's text begins with the lines up to and including it, and each line
-/// before it may follow those before. Whether all types that are listed can be used is asked at the end alone, which counts as
+/// `BadText` of the byte where a line begins: that of the first line with which no header's text begins as this text does up to
+/// it. The lines before it begin some header's text, so the types that they list can all be used. The end of the text counts as
 /// one line more, and a last line without its line end is none of a header. Where that place is no `u32` the fault is want of
 /// memory.
 pub fn read(alloc: Global, text: &[u8]) -> Result<Decls, TextFault>
@@ -51,6 +51,9 @@ pub fn read(alloc: Global, text: &[u8]) -> Result<Decls, TextFault>
         let Some(next) = place_after(place, line) else {
             return Err(TextFault::Memory);
         };
+        if !draft.can_end() {
+            return Err(TextFault::BadText(place));
+        }
         place = next;
         rest = more;
     }

@@ -1,10 +1,15 @@
-use Rattle.rt_cdecl.proofs.Moved.{fits_parts, end_is}
-use Rattle.rt_cdecl.proofs.Drafting.{noted_end}
+use Rattle.std.proofs.Common.{refl, subst}
+use Rattle.rt_cdecl.specs.Endings.{AreLeft}
 use Rattle.rt_cdecl.specs.Rows.{Closed}
+use Rattle.rt_cdecl.proofs.Left.{left_row, no_drops}
+use Rattle.rt_cdecl.proofs.Moved.{end_is}
 use Rattle.rt_cdecl.proofs.draft.Draft.with_end.Goals as goal
 
 pub invariant_of-result : goal.invariant_of-result
-invariant_of-result c = noted_end c.self.inside.used c.self.inside.structs _ c.self.inside.functions c.self.inside.stage _ c.in_ok-stage.ensures.added c.in_ok-stage.ensures.moved (fits_parts c.args.self c.self.inside.typedefs c.self.inside.named c.self.inside.structs c.self.inside.functions c.self.inside.stage c.self.view_is Closed c.requires) c.self.invariant
+invariant_of-result c =
+    left_row c.self.inside.left c.self.inside.left c.args.self (Closed) _
+    (end_is c.args.self c.self.inside.typedefs c.self.inside.named c.self.inside.structs c.self.inside.functions c.self.inside.stage c.self.view_is _ _ c.in_ok-stage.ensures.added c.in_ok-stage.ensures.moved)
+    refl tt c.requires (subst (AreLeft c.self.inside.left) c.self.view_is c.self.invariant) (no_drops c.self.inside.left)
 
 pub returns : goal.returns
 returns c = end_is c.args.self c.self.inside.typedefs c.self.inside.named c.self.inside.structs c.self.inside.functions c.self.inside.stage c.self.view_is _ _ c.in_ok-stage.ensures.added c.in_ok-stage.ensures.moved

@@ -1,9 +1,15 @@
+use Rattle.std.proofs.Common.{refl, subst}
+use Rattle.rt_cdecl.specs.Endings.{AreLeft}
+use Rattle.rt_cdecl.specs.Rows.{Gap}
+use Rattle.rt_cdecl.proofs.Left.{left_row, no_drops}
 use Rattle.rt_cdecl.proofs.Moved.{gap_is}
-use Rattle.rt_cdecl.proofs.Drafting.{noted_gap}
 use Rattle.rt_cdecl.proofs.draft.Draft.with_gap.Goals as goal
 
 pub invariant_of-result : goal.invariant_of-result
-invariant_of-result c = noted_gap c.self.inside.used c.self.inside.structs c.self.inside.functions c.self.inside.stage _ c.args.count c.gapped.ensures c.self.invariant
+invariant_of-result c =
+    left_row c.self.inside.left c.self.inside.left c.args.self (Gap c.args.offset c.args.count) _
+    (gap_is c.args.self c.self.inside.typedefs c.self.inside.named c.self.inside.structs c.self.inside.functions c.self.inside.stage c.self.view_is c.args.offset c.args.count _ c.gapped.ensures)
+    refl tt c.requires (subst (AreLeft c.self.inside.left) c.self.view_is c.self.invariant) (no_drops c.self.inside.left)
 
 pub returns : goal.returns
 returns c = gap_is c.args.self c.self.inside.typedefs c.self.inside.named c.self.inside.structs c.self.inside.functions c.self.inside.stage c.self.view_is c.args.offset c.args.count _ c.gapped.ensures

@@ -1,8 +1,0 @@
-use Rattle.std.proofs.Common.{take}
-use Rattle.std.specs.List.{flat_map}
-use Rattle.rt_cdecl.specs.GoodDecls.{named_types, arg_types}
-use Rattle.rt_cdecl.specs.Drafts.{Adds}
-use Rattle.rt_cdecl.proofs.kinds.Kinds.add_args.Given as goal
-
-abbrev pub invariant-loop-kind : goal.invariant-loop-kind
-invariant-loop-kind l = Adds l.fn.self (flat_map named_types (arg_types (take l.kind-index l.args))) l.self
