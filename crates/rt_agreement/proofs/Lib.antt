@@ -1,1 +1,4 @@
 mod Real
+mod Walk
+mod Objects
+mod Told

@@ -1,11 +1,11 @@
 -- Real definitions are one notion.
-use Rattle.std.proofs.Common.{◌≡◌, ◌∙◌, ◌⊎◌, inl, inr, ℕ, zero, suc, ◌+◌, ◌-◌, ◌<◌, ◌≤◌, ℤ, pos, Bool, true, false, cond, ◌&&◌, nat_le, true≢false, Option, Some, None, List, [], ◌∷◌, ◌++◌, map, length, get_or, option_map, Contains, ap, arith, refl, subst, sym}
+use Rattle.std.proofs.Common.{◌≡◌, ◌∙◌, ◌⊎◌, inl, inr, ℕ, zero, suc, ◌+◌, ◌-◌, ◌<◌, ◌≤◌, pos, true, false, cond, ◌&&◌, nat_le, true≢false, Option, Some, None, List, [], ◌∷◌, ◌++◌, map, length, get_or, option_map, Contains, ap, arith, refl, subst, sym}
 use Rattle.std.specs.Prelude.{◌↔◌, IsTrue, slice_get}
 use Rattle.std.specs.List.{list_any}
 use Rattle.std.proofs.lemmas.Bool.{cases_lt}
 use Rattle.std.proofs.lemmas.List.{length-map}
 use Rattle.std.proofs.lemmas.Bool.Decides.{nat_tests}
-use Rattle.std.proofs.lemmas.Option.{get_or_from_slice_get, slice_get-get_or, slice_get-map, slice_get_within}
+use Rattle.std.proofs.lemmas.Option.{get_or_from_slice_get, slice_get-map, slice_get_within}
 use Rattle.rt_base.proofs.Lists.{Contains-none}
 use Rattle.rt_insn.specs.declared.insn.Insn.{Insn}
 use Rattle.rt_insn.specs.declared.insn.Insn.TheVariants.{Lui, Auipc, Jal, Jalr, Beq, Bne, Blt, Bge, Bltu, Bgeu, Lb, Lh, Lw, Lbu, Lhu, Sb, Sh, Sw}
@@ -22,7 +22,6 @@ use Rattle.rt_proc.specs.declared.site.Site.{Site}
 use Rattle.rt_flow.specs.declared.def.Def.{Def}
 use Rattle.rt_flow.specs.declared.def.Def.TheVariants.{Entry, At}
 use Rattle.rt_flow.specs.Bodies.{Reaches}
-use Rattle.rt_body.specs.declared.action.Action.{Action}
 use Rattle.rt_body.specs.declared.action.Action.TheVariants as action
 use Rattle.rt_body.specs.Actions.{insn_action, kind_action, site_action}
 use Rattle.rt_body.specs.Readings.{Reading, action_at}
@@ -31,7 +30,7 @@ use Rattle.rt_body.specs.Symbols.{lowest}
 use Rattle.rt_body.proofs.Numbering.{IsBy, defined_at}
 use Rattle.rt_liveness.specs.declared.call.Call.{Call}
 use Rattle.rt_liveness.specs.Programs.{Program, IsSiteOf, callees_of, called_by, is_call}
-use Rattle.rt_liveness.specs.Calls.{AreCallsAt, AreCallsIn, IsCallOf, gives_result}
+use Rattle.rt_liveness.specs.Calls.{AreCallsAt, AreCallsIn, gives_result}
 use Rattle.rt_liveness.specs.Gives.{Gives, HasReal}
 use Rattle.rt_liveness.proofs.Meeting.{any_some, some_any}
 use Rattle.rt_frame.specs.Questions.{calls_at, first_gives, is_call_action, is_real}

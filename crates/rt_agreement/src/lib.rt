@@ -1,4 +1,4 @@
-//! That definitions of one thing in two crates agree: laws alone.
+//! That definitions of several crates agree: laws alone.
 #![tactic(auto)]
 
 pub mod laws;

@@ -1,0 +1,2 @@
+pub mod Twinnings
+pub mod Laws
