@@ -88,16 +88,17 @@ abbrev pub Highest : Bool → (Dtv → Type 0) → (Dtv → Type 0) → Type 0
 Highest true P R = (a : Dtv) → P a → R a
 Highest false P R = (a : Dtv) × P a × R a
 
-pub chained : (p q r : Bool) (P Q S : Dtv → Type 0) (R1 R2 R3 : Dtv → Dtv → Type 0) → ((a b c : Dtv) → R1 a b → R2 b c → R3 a c) →
-    Form p q P Q R1 → Form q r Q S R2 → Form p r P S R3
-chained true true true P Q S R1 R2 R3 k f g = λ a h. let u = f a h in let v = g u.0 u.1 in (v.0, v.1, k a u.0 v.0 u.2 v.2)
-chained true true false P Q S R1 R2 R3 k f g = λ a c h i. let u = f a h in k a u.0 c u.2 (g u.0 c u.1 i)
-chained true false true P Q S R1 R2 R3 k f g = λ a h. (g.1, g.3, k a g.0 g.1 (f a g.0 h g.2) g.4)
-chained true false false P Q S R1 R2 R3 k f g = λ a c h i. let v = g c i in k a v.0 c (f a v.0 h v.1) v.2
-chained false true true P Q S R1 R2 R3 k f g = let v = g f.1 f.3 in (f.0, v.0, f.2, v.1, k f.0 f.1 v.0 f.4 v.2)
-chained false true false P Q S R1 R2 R3 k f g = λ c i. (f.0, f.2, k f.0 f.1 c f.4 (g f.1 c f.3 i))
-chained false false true P Q S R1 R2 R3 k f g = let u = f g.0 g.2 in (u.0, g.1, u.1, g.3, k u.0 g.0 g.1 u.2 g.4)
-chained false false false P Q S R1 R2 R3 k f g = λ c i. let v = g c i in let u = f v.0 v.1 in (u.0, u.1, k u.0 v.0 c u.2 v.2)
+pub chained : (p q r : Bool) (P Q S : Dtv → Type 0) (First Second Both : Dtv → Dtv → Type 0) →
+    ((a b c : Dtv) → First a b → Second b c → Both a c) →
+    Form p q P Q First → Form q r Q S Second → Form p r P S Both
+chained true true true P Q S First Second Both k f g = λ a h. let u = f a h in let v = g u.0 u.1 in (v.0, v.1, k a u.0 v.0 u.2 v.2)
+chained true true false P Q S First Second Both k f g = λ a c h i. let u = f a h in k a u.0 c u.2 (g u.0 c u.1 i)
+chained true false true P Q S First Second Both k f g = λ a h. (g.1, g.3, k a g.0 g.1 (f a g.0 h g.2) g.4)
+chained true false false P Q S First Second Both k f g = λ a c h i. let v = g c i in k a v.0 c (f a v.0 h v.1) v.2
+chained false true true P Q S First Second Both k f g = let v = g f.1 f.3 in (f.0, v.0, f.2, v.1, k f.0 f.1 v.0 f.4 v.2)
+chained false true false P Q S First Second Both k f g = λ c i. (f.0, f.2, k f.0 f.1 c f.4 (g f.1 c f.3 i))
+chained false false true P Q S First Second Both k f g = let u = f g.0 g.2 in (u.0, g.1, u.1, g.3, k u.0 g.0 g.1 u.2 g.4)
+chained false false false P Q S First Second Both k f g = λ c i. let v = g c i in let u = f v.0 v.1 in (u.0, u.1, k u.0 v.0 c u.2 v.2)
 
 pub raised : (p q : Bool) (P Q R : Dtv → Type 0) (S : Dtv → Dtv → Type 0) (T : Dtv → Type 0) → ((a b : Dtv) → R a → S a b → T b) →
     Lowest p P R → Form p q P Q S → Lowest q Q T
