@@ -1,22 +1,20 @@
 -- Lines that end a header that is read in part, where there is room for the types that are left.
-use Rattle.std.proofs.Common.{◌≡◌, ℕ, zero, suc, ◌+◌, ◌-◌, ◌*◌, ◌/◌, ◌<◌, ◌≤◌, ◌^◌, ◌⊎◌, inl, inr, IsTrue, Bool, true, false, if◌then◌else◌, List, [], ◌∷◌, ◌++◌, All, Contains, map, length, refl, ap, sym, subst, ◌∙◌, arith, append-nil}
+use Rattle.std.proofs.Common.{◌≡◌, ℕ, zero, suc, ◌+◌, ◌-◌, ◌*◌, ◌≤◌, ◌^◌, ◌⊎◌, inl, inr, IsTrue, Bool, true, false, if◌then◌else◌, List, [], ◌∷◌, ◌++◌, All, Contains, map, length, refl, ap, sym, subst, ◌∙◌, arith, append-nil}
 use Rattle.std.specs.List.{flat_map}
 use Rattle.std.proofs.lemmas.Bool.{false≢true}
-use Rattle.std.proofs.lemmas.List.{length-map, length_push}
-use Rattle.std.proofs.lemmas.List.Elements.{All-head, All-tail, All-nil, All-cons, All-contains, Contains-append_left, Contains-append_right, Contains-append_cases}
-use Rattle.rt_base.proofs.Lists.{Contains-none, Contains-here, Contains-there, Contains-cons_cases, Contains-map, All-from_contains, Contains-flat_map}
+use Rattle.std.proofs.lemmas.List.{length-map}
+use Rattle.std.proofs.lemmas.List.Elements.{All-nil, All-cons, All-contains, Contains-append_left, Contains-append_right, Contains-append_cases}
+use Rattle.rt_base.proofs.Lists.{Contains-here, Contains-there, Contains-cons_cases, Contains-map}
 use Rattle.rt_lines.specs.declared.label.Loc.{Loc}
-use Rattle.rt_texts.specs.Goods.{IsNumber}
 use Rattle.rt_cdecl.specs.declared.declarations.CType.{CType}
 use Rattle.rt_cdecl.specs.declared.declarations.CType.TheVariants.{Unused, Scalar, Pointer}
-use Rattle.rt_cdecl.specs.declared.declarations.CField.{CField}
 use Rattle.rt_cdecl.specs.declared.declarations.CStruct.{CStruct}
 use Rattle.rt_cdecl.specs.declared.declarations.CFunction.{CFunction}
-use Rattle.rt_cdecl.specs.Types.{IsType, IsTypedef, IsWide, IsPresent, end_of}
-use Rattle.rt_cdecl.specs.Rows.{Row, Typedef, Named, Opened, Gap, Member, Closed, Pair, Half, Stated, Both}
-use Rattle.rt_cdecl.specs.GoodDecls.{AreArgs, ArePlaced, IsArgument, IsLastPresent, arg_types, named_types, used_types, place_of, function_numbers}
+use Rattle.rt_cdecl.specs.Types.{IsType, IsTypedef, IsWide, IsPresent}
+use Rattle.rt_cdecl.specs.Rows.{Row, Closed, Half, Stated, Both}
+use Rattle.rt_cdecl.specs.GoodDecls.{AreArgs, ArePlaced, IsLastPresent, arg_types, named_types, place_of, function_numbers}
 use Rattle.rt_cdecl.specs.GoodRows.{IsRow}
-use Rattle.rt_cdecl.specs.Drafts.{Stage, Idle, InStruct, InPair, HalfRead, BothRead, PairClosed, Parts, with_row, Fits, IsListed, least_after, stated_of, stage_types, line_types, kinds_of}
+use Rattle.rt_cdecl.specs.Drafts.{Idle, InPair, HalfRead, BothRead, PairClosed, Parts, with_row, Fits, IsListed, least_after, stated_of, line_types}
 use Rattle.rt_cdecl.specs.Endings.{CanEnd, HasPresent, all_used, row_types}
 use Rattle.rt_cdecl.proofs.Sound.{made}
 use Rattle.rt_cdecl.proofs.Runs.{least_push}

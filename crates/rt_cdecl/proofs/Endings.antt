@@ -1,5 +1,5 @@
 -- A header that is read in part can be ended exactly where there is room for the types that are left.
-use Rattle.std.proofs.Common.{◌≡◌, ℕ, zero, suc, ◌+◌, ◌-◌, ◌*◌, ◌/◌, ◌<◌, ◌≤◌, ◌^◌, ◌⊎◌, inl, inr, IsTrue, Bool, true, false, List, [], ◌∷◌, ◌++◌, All, Contains, length, refl, ap, sym, subst, ◌∙◌, arith, append-nil}
+use Rattle.std.proofs.Common.{◌≡◌, ℕ, zero, suc, ◌+◌, ◌-◌, ◌*◌, ◌<◌, ◌≤◌, ◌^◌, inl, inr, Bool, true, false, List, [], ◌∷◌, ◌++◌, All, Contains, length, refl, ap, sym, subst, ◌∙◌, arith, append-nil}
 use Rattle.std.proofs.lemmas.Bool.{false≢true}
 use Rattle.std.proofs.lemmas.List.{length_push}
 use Rattle.std.proofs.lemmas.List.Elements.{All-head, All-tail, All-nil}
@@ -10,11 +10,11 @@ use Rattle.rt_cdecl.specs.declared.declarations.CField.{CField}
 use Rattle.rt_cdecl.specs.declared.declarations.CStruct.{CStruct}
 use Rattle.rt_cdecl.specs.declared.declarations.CFunction.{CFunction}
 use Rattle.rt_cdecl.specs.declared.kinds.Counts.{Counts}
-use Rattle.rt_cdecl.specs.Types.{IsField, end_of}
-use Rattle.rt_cdecl.specs.Rows.{Row, Named, Opened, Member, Closed, Pair}
+use Rattle.rt_cdecl.specs.Types.{end_of}
+use Rattle.rt_cdecl.specs.Rows.{Named, Opened, Member, Closed, Pair}
 use Rattle.rt_cdecl.specs.GoodDecls.{IsFunction, used_types, function_numbers}
 use Rattle.rt_cdecl.specs.GoodRows.{IsRow}
-use Rattle.rt_cdecl.specs.Drafts.{Stage, Idle, InStruct, InPair, HalfRead, BothRead, PairClosed, Parts, with_row, Fits, least_after, stage_types, kinds_of}
+use Rattle.rt_cdecl.specs.Drafts.{Stage, Idle, InStruct, InPair, HalfRead, BothRead, PairClosed, Parts, Fits, least_after, stage_types}
 use Rattle.rt_cdecl.specs.Endings.{CanEnd, HasPresent, AreApart, AreLeft, AreCounted, HasRoom, HasRoomIn, FitStruct, FitFunctions, IsFew, all_used}
 use Rattle.rt_cdecl.proofs.Sound.{made, none_left}
 use Rattle.rt_cdecl.proofs.Kept.{IsGood, IsGoodStage}

@@ -1,28 +1,26 @@
 -- The types that are left: names and types that are taken out, and what each line leaves.
-use Rattle.std.proofs.Common.{◌≡◌, ℕ, zero, suc, ◌+◌, ◌*◌, ◌-◌, ◌<◌, ◌≤◌, ◌^◌, ◌==◌, ◌⊎◌, inl, inr, ◌↔◌, IsTrue, nat_lt, Bool, true, false, cond, if◌then◌else◌, List, [], ◌∷◌, ◌++◌, All, Contains, get_or, take, take_all, map, length, refl, ap, sym, subst, ◌∙◌, arith, append-nil, append_assoc}
+use Rattle.std.proofs.Common.{◌≡◌, ℕ, suc, ◌+◌, ◌-◌, ◌<◌, ◌≤◌, ◌^◌, ◌⊎◌, inl, inr, ◌↔◌, IsTrue, nat_lt, Bool, true, false, cond, List, [], ◌∷◌, ◌++◌, All, Contains, get_or, take, take_all, map, length, refl, ap, sym, subst, ◌∙◌, arith, append-nil}
 use Rattle.std.specs.List.{flat_map, AllByRecursion}
 use Rattle.std.specs.List.Sorted.{IsStrictlySortedBy}
 use Rattle.std.specs.Set.{remove_key}
 use Rattle.std.specs.Ordering.{is_eq, nat_cmp}
 use Rattle.std.specs.Cmp.Lexicographic.{slice_cmp, texts_ties}
 use Rattle.std.specs.declared.cmp.Ordering.{Ordering}
-use Rattle.std.specs.declared.cmp.Ordering.TheVariants.{Less, Equal, Greater}
+use Rattle.std.specs.declared.cmp.Ordering.TheVariants.{Less}
 use Rattle.std.proofs.lemmas.Bool.{false≢true}
 use Rattle.std.proofs.lemmas.Bool.Decides.{nat_tests}
 use Rattle.std.proofs.lemmas.Slice.Eq.{bytes_eq-Decides}
 use Rattle.std.proofs.lemmas.List.{map-append}
 use Rattle.std.proofs.lemmas.Grind.{flat_map-append}
 use Rattle.std.proofs.lemmas.List.Elements.{All-contains, Contains-append_left, Contains-append_right, Contains-append_cases}
-use Rattle.rt_base.proofs.Lists.{Contains-none, Contains-here, Contains-there, Contains-cons_cases, Contains-map_source, take-next, All-from_contains}
+use Rattle.rt_base.proofs.Lists.{Contains-none, Contains-here, Contains-there, Contains-cons_cases, take-next, All-from_contains}
 use Rattle.rt_lines.specs.declared.label.Loc.{Loc}
 use Rattle.rt_cdecl.specs.declared.declarations.CType.{CType}
 use Rattle.rt_cdecl.specs.declared.declarations.CType.TheVariants.{Unused, Scalar, Pointer}
-use Rattle.rt_cdecl.specs.declared.declarations.CStruct.{CStruct}
-use Rattle.rt_cdecl.specs.declared.declarations.CFunction.{CFunction}
 use Rattle.rt_cdecl.specs.Types.{IsTypedef}
 use Rattle.rt_cdecl.specs.Rows.{Row, Typedef, Returns, Nothing, Value, Both}
 use Rattle.rt_cdecl.specs.GoodDecls.{named_types, used_types, arg_types}
-use Rattle.rt_cdecl.specs.Drafts.{Stage, Idle, Parts, no_parts, with_row, Fits, Adds, kinds_of, line_types, stage_types}
+use Rattle.rt_cdecl.specs.Drafts.{Idle, Parts, no_parts, with_row, Fits, Adds, kinds_of, line_types, stage_types}
 use Rattle.rt_cdecl.specs.declared.kinds.Counts.{Counts}
 use Rattle.rt_cdecl.specs.Endings.{AreApart, AreCounted, AreLeft, CanEnd, Drops, HasRoom, IsDropped, IsFew, IsReached, IsZero, HasInt, all_used, row_types}
 use Rattle.rt_cdecl.proofs.Sound.{none_left}

@@ -1,5 +1,5 @@
 -- What is needed of a header that is read in part so that lines can end it: room for the types that are left.
-use Rattle.std.proofs.Common.{◌≡◌, ℕ, zero, suc, ◌+◌, ◌-◌, ◌*◌, ◌/◌, ◌<◌, ◌≤◌, ◌^◌, ◌==◌, ◌⊎◌, inl, inr, IsTrue, Bool, true, false, if◌then◌else◌, List, [], ◌∷◌, ◌++◌, All, Contains, map, length, refl, ap, sym, subst, ◌∙◌, arith}
+use Rattle.std.proofs.Common.{◌≡◌, ℕ, zero, suc, ◌+◌, ◌-◌, ◌*◌, ◌/◌, ◌<◌, ◌≤◌, ◌^◌, ◌==◌, ◌⊎◌, inl, inr, Bool, true, false, if◌then◌else◌, List, [], ◌∷◌, ◌++◌, All, Contains, length, refl, ap, sym, subst, ◌∙◌, arith}
 use Rattle.std.specs.List.{flat_map}
 use Rattle.std.proofs.lemmas.Bool.Decides.{nat_tests}
 use Rattle.std.proofs.lemmas.List.{length-map, length_push}
@@ -16,8 +16,8 @@ use Rattle.rt_cdecl.specs.Types.{bits_of, end_of, IsType, IsWide, IsPresent}
 use Rattle.rt_cdecl.specs.Rows.{Row, Typedef, Named, Opened, Gap, Member, Closed, Pair, Half, Stated, Returns, Nothing, Value, Both}
 use Rattle.rt_cdecl.specs.GoodDecls.{IsLastPresent, IsArgument, arg_types, named_types, used_types, function_numbers}
 use Rattle.rt_cdecl.specs.GoodRows.{IsRow, IsReturned}
-use Rattle.rt_cdecl.specs.Drafts.{Stage, Idle, InStruct, InPair, HalfRead, BothRead, PairClosed, Parts, with_row, Fits, Accepts, IsWhole, IsListed, least_after, MayReturn, stated_of, kinds_of, line_types, returned_types, stage_types}
-use Rattle.rt_cdecl.specs.Endings.{CanEnd, AreApart, AreLeft, AreCounted, HasPresent, FitStruct, FitFunctions, HasRoomIn, HasRoom, all_used, row_types}
+use Rattle.rt_cdecl.specs.Drafts.{Stage, Idle, InStruct, InPair, HalfRead, BothRead, PairClosed, Parts, with_row, Fits, Accepts, IsWhole, IsListed, least_after, MayReturn, stated_of, line_types, returned_types, stage_types}
+use Rattle.rt_cdecl.specs.Endings.{CanEnd, AreApart, AreLeft, AreCounted, HasPresent, FitStruct, FitFunctions, HasRoomIn, HasRoom, row_types}
 use Rattle.rt_cdecl.proofs.Sound.{made, none_left}
 use Rattle.rt_cdecl.proofs.Runs.{least_push}
 use Rattle.rt_cdecl.proofs.Kept.{IsGood, IsGoodStage}

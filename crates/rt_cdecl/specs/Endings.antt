@@ -1,5 +1,29 @@
 -- Headers that are read in part, and whether lines can follow that end them.
-use Rattle.std.specs.Prelude.{◌≡◌, ℕ, suc, ◌+◌, ◌-◌, ◌*◌, ◌<◌, ◌≤◌, ◌^◌, ◌⊎◌, ◌↔◌, IsTrue, Bool, true, false, if◌then◌else◌, List, [], ◌∷◌, ◌++◌, All, Contains, length}
+use Rattle.std.specs.Prelude.{
+  ◌≡◌,
+  ℕ,
+  suc,
+  ◌+◌,
+  ◌-◌,
+  ◌*◌,
+  ◌<◌,
+  ◌≤◌,
+  ◌^◌,
+  ◌⊎◌,
+  ◌↔◌,
+  IsTrue,
+  Bool,
+  true,
+  false,
+  if◌then◌else◌,
+  List,
+  [],
+  ◌∷◌,
+  ◌++◌,
+  All,
+  Contains,
+  length,
+}
 use Rattle.std.specs.List.{flat_map}
 use Rattle.rt_cdecl.specs.declared.declarations.CType.{CType}
 use Rattle.rt_cdecl.specs.declared.declarations.CType.TheVariants.{Scalar}
@@ -34,7 +58,8 @@ abbrev pub IsDropped : {X : Type 0} → List X → X → List X → Type 0
 IsDropped {X} old item new = (x : X) → (Contains new x → Contains old x × (x ≡ item → ⊥)) × (Contains old x → Contains new x ⊎ (x ≡ item))
 
 abbrev pub Drops : {X : Type 0} → List X → List X → List X → Type 0
-Drops {X} old gone new = (x : X) → (Contains new x → Contains old x × (Contains gone x → ⊥)) × (Contains old x → Contains new x ⊎ Contains gone x)
+Drops {X} old gone new =
+    (x : X) → (Contains new x → Contains old x × (Contains gone x → ⊥)) × (Contains old x → Contains new x ⊎ Contains gone x)
 
 -- the types that the parts use
 abbrev pub all_used : Parts → List CType

@@ -38,7 +38,8 @@ impl Model for Draft {
 
     ghost view = { λ d. record { typedefs = d.typedefs; named = d.named; structs = d.structs; functions = d.functions; stage = d.stage } };
 
-    ghost invariant = { λ d. AreLeft d.left (record { typedefs = d.typedefs; named = d.named; structs = d.structs; functions = d.functions; stage = d.stage }) };
+    ghost invariant = { λ d. AreLeft d.left
+        (record { typedefs = d.typedefs; named = d.named; structs = d.structs; functions = d.functions; stage = d.stage }) };
 }
 
 impl Draft {

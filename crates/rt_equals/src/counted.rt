@@ -35,7 +35,8 @@ fn plain_pairs(alloc: Global, edges: &[Edge]) -> Result<Vec<(u32, u32)>, Memory>
 
 // Adds the pair of an edge, where it is one of these.
 fn add_pair(pairs: &mut Vec<(u32, u32)>, edge: &Edge) -> Result<(), Memory>
-    ensures { OnOk result ((seen : List Given) → ArePlainPairs seen pairs.old.items → ArePlainPairs (seen ++ edge.now ∷ []) pairs.new.items) }
+    ensures { OnOk result ((seen : List Given) →
+        ArePlainPairs seen pairs.old.items → ArePlainPairs (seen ++ edge.now ∷ []) pairs.new.items) }
 {
     if is_plain(edge) {
         pairs.push((edge.from.variable, edge.to.variable))?;

@@ -1,5 +1,24 @@
 -- How declarations are made of trees: parts of the way to headers.
-use Rattle.std.specs.Prelude.{◌≡◌, ℕ, ◌+◌, ◌<◌, Option, Some, None, IsSome, List, [], ◌∷◌, ◌++◌, ◌^◌, false, length, get_or, slice_index, slice_index_or}
+use Rattle.std.specs.Prelude.{
+  ◌≡◌,
+  ℕ,
+  ◌+◌,
+  ◌<◌,
+  Option,
+  Some,
+  None,
+  IsSome,
+  List,
+  [],
+  ◌∷◌,
+  ◌++◌,
+  ◌^◌,
+  false,
+  length,
+  get_or,
+  slice_index,
+  slice_index_or,
+}
 use Rattle.rt_lines.specs.declared.label.Loc.{Loc}
 use Rattle.rt_lines.specs.declared.label.Label.{Label}
 use Rattle.rt_lines.specs.declared.label.Label.TheVariants.{In, Out}
@@ -89,7 +108,8 @@ pub data IsPortOf (forest : Forest) (structs : Structs) (i : ℕ) (label : Label
 -- the function of a tree
 pub record IsFunctionBuilt (forest : Forest) (structs : Structs) (i : ℕ) (function : CFunction) : Type 0 where
   pub places : (j : ℕ) → j < length function.args → (get_or function.args j (place_of 0, Unused)).0 ≡ place_of j
-  pub args : (j : ℕ) → j < length function.args → IsPortOf forest structs i (In (place_of j)) (get_or function.args j (place_of 0, Unused)).1
+  pub args : (j : ℕ) → j < length function.args →
+      IsPortOf forest structs i (In (place_of j)) (get_or function.args j (place_of 0, Unused)).1
   pub all : (loc : Loc) → IsSome (step_of (tree_of forest i) 0 (In loc)) → (j : ℕ) × (j < length function.args) × (place_of j ≡ loc)
   pub out0 : IsPortOf forest structs i (Out 0) function.out0
   pub out1 : IsPortOf forest structs i (Out 1) function.out1

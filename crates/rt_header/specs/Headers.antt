@@ -18,7 +18,8 @@ tail_in decls n letters = option_map scalar_of (after_all decls letters (OfStruc
 pub record IsPointedTo (decls : Decls) (n : ℕ) : Type 0 where
   pub number : ℕ
   pub word : HeaderWord
-  pub leads : option_and_then (after_all decls word.letters) (option_and_then (λ f. port_type f word.port) (function_of decls number)) ≡ Some (OfStruct n)
+  pub leads : option_and_then (after_all decls word.letters) (option_and_then (λ f. port_type f word.port) (function_of decls number)) ≡
+      Some (OfStruct n)
 
 -- Declarations of the sketches of procedures: they have a function for each procedure, and tell of its header words what its sketch tells.
 -- A pointer leads to each struct, two structs differ, and structs are numbered as they are first met.

@@ -47,7 +47,8 @@ abbrev pub no_argument : Loc × CType
 no_argument = (place_of 0, Unused)
 
 -- arguments that lead to the first nodes
-pub record AreTyped (forest : Forest) (structs : Structs) (i : ℕ) (nodes : List (Option ℕ)) (count : ℕ) (args : List (Loc × CType)) : Type 0 where
+pub record AreTyped (forest : Forest) (structs : Structs) (i : ℕ) (nodes : List (Option ℕ)) (count : ℕ)
+    (args : List (Loc × CType)) : Type 0 where
   pub each : length args ≡ count
   pub places : (j : ℕ) → j < count → (get_or args j no_argument).0 ≡ place_of j
   pub types : (j : ℕ) → j < count → IsPortType forest structs i (get_or nodes j None) (get_or args j no_argument).1

@@ -28,15 +28,16 @@ pub record IsPutUpTo {S : Type 0} (Takes Refuses : S → List ℕ → S → Type
   pub refused : Refuses middle (piece_of text pieces) new
 
 -- A text was put: it was appended to what the sink holds, where that is told, in its pieces.
-pub record PutsText {S : Type 0} (written : S → Option (List ℕ)) (Takes : S → List ℕ → S → Type 0) (old new : S) (text : List ℕ) : Type 0 where
+pub record PutsText {S : Type 0} (written : S → Option (List ℕ)) (Takes : S → List ℕ → S → Type 0) (old new : S)
+    (text : List ℕ) : Type 0 where
   pub appended : Appends (written old) (written new) text
   pub put : IsPut Takes text old new
 
 -- A put failed: a prefix of the text was appended, in its pieces up to the one that failed.
-pub record PutsFront {S : Type 0} (written : S → Option (List ℕ)) (Takes Refuses : S → List ℕ → S → Type 0) (old new : S) (text : List ℕ) : Type 0
-  where
-    pub appended : AppendsFront (written old) (written new) text
-    pub put : IsPutUpTo Takes Refuses text old new
+pub record PutsFront {S : Type 0} (written : S → Option (List ℕ)) (Takes Refuses : S → List ℕ → S → Type 0) (old new : S)
+    (text : List ℕ) : Type 0 where
+  pub appended : AppendsFront (written old) (written new) text
+  pub put : IsPutUpTo Takes Refuses text old new
 
 -- A line was put whole, in one put: it was appended, unless that put failed.
 pub record PutsLine {S : Type 0} (written : S → Option (List ℕ)) (faults : S → ℕ) (Takes Refuses : S → List ℕ → S → Type 0) (old new : S)

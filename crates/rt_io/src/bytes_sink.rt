@@ -46,7 +46,8 @@ impl BytesSink {
         fails: Vec<u32>,
         keeps: u32,
     ) -> Result<BytesSink, AllocError>
-        ensures { IfOk result (λ sink. sink ≡ record { written = []; left = capacity; fails = fails.items; keeps = keeps; faults = 0; puts = 0 }) }
+        ensures { IfOk result (λ sink. sink ≡
+            record { written = []; left = capacity; fails = fails.items; keeps = keeps; faults = 0; puts = 0 }) }
     {
         let room = vec![in alloc; 0u8; capacity as usize]?;
         Ok(BytesSink {

@@ -1,6 +1,15 @@
 // Where the parts of an object stand.
 ghost use Rattle.std.specs.Prelude.{◌≡◌, ◌+◌, ◌-◌, ◌*◌, ◌<◌, ◌^◌};
-ghost use Rattle.rt_make.specs.Layout.{symbols_place, strings_place, strings_end, headers_place, code_section, symbol_section, string_section, reloc_section};
+ghost use Rattle.rt_make.specs.Layout.{
+  symbols_place,
+  strings_place,
+  strings_end,
+  headers_place,
+  code_section,
+  symbol_section,
+  string_section,
+  reloc_section,
+};
 
 use rt_elf::Section;
 
@@ -51,7 +60,8 @@ impl Layout {
 
     // How many zero bytes stand before the section headers.
     pub(crate) fn padding(&self) -> u32
-        ensures { result ≡ headers_place self.now.words self.now.relocs self.now.symbols self.now.strings - strings_end self.now.words self.now.relocs self.now.symbols self.now.strings }
+        ensures { result ≡ headers_place self.now.words self.now.relocs self.now.symbols self.now.strings
+            - strings_end self.now.words self.now.relocs self.now.symbols self.now.strings }
     {
         self.headers_place() - self.strings_end()
     }

@@ -1,5 +1,24 @@
 // Named variables.
-ghost use Rattle.std.specs.Prelude.{◌≡◌, ℕ, ◌<◌, List, [], ◌∷◌, length, take, slice_get, slice_index_or, Contains, Some, IfOk, OnOk, OnErr, MatchOption, flat_map, fold};
+ghost use Rattle.std.specs.Prelude.{
+  ◌≡◌,
+  ℕ,
+  ◌<◌,
+  List,
+  [],
+  ◌∷◌,
+  length,
+  take,
+  slice_get,
+  slice_index_or,
+  Contains,
+  Some,
+  IfOk,
+  OnOk,
+  OnErr,
+  MatchOption,
+  flat_map,
+  fold,
+};
 ghost use Rattle.indexmap.specs.IndexSet.{insert_key};
 ghost use Rattle.rt_lines.specs.declared.label.Label.{Label};
 ghost use Rattle.rt_lines.specs.Equality.{variable_eq};

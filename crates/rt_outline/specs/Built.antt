@@ -19,7 +19,8 @@ AreNamed lines named = (extra : List Dtv) × (named ≡ named_by lines extra)
 
 -- the nodes of the variables with more behind them; a load and a store of each that can be read and written through, and hubs; no
 -- arc is of a line
-pub record HasHubs (named : List Dtv) (classes : List (Option ℕ)) (flips : List Bool) (origins : Origins) (arcs : List (List Arc)) : Type 0 where
+pub record HasHubs (named : List Dtv) (classes : List (Option ℕ)) (flips : List Bool) (origins : Origins)
+    (arcs : List (List Arc)) : Type 0 where
   pub first : Origins
   pub more : Origins
   pub are : AreOriginsOf named first

@@ -58,7 +58,8 @@ fn add_pairs(
 
 // Adds the pair of a node and what an arc leads to, where it may be followed.
 fn add_pair(pairs: &mut Vec<(u32, u32)>, stands: &[bool], node: u32, arc: Arc) -> Result<(), Memory>
-    ensures { OnOk result (HasMorePairs node (λ (w : ℕ). (arc.to ≡ w) × (allows stands.now true arc.line ≡ true)) pairs.old.items pairs.new.items) }
+    ensures { OnOk result (HasMorePairs node
+        (λ (w : ℕ). (arc.to ≡ w) × (allows stands.now true arc.line ≡ true)) pairs.old.items pairs.new.items) }
 {
     if is_open(stands, true, arc.line) {
         pairs.push((node, arc.to))?;

@@ -87,7 +87,8 @@ fn sweep(
     limit: usize,
 ) -> Result<Vec<u32>, Memory>
     requires { 0 < limit }
-    ensures swept { IfOk result (λ fresh. fresh.items ≡ [] → IsSwept (Leads arcs.now stands.now true) (end_of frame.now.steps.entries origin.0 origin.1)
+    ensures swept { IfOk result (λ fresh. fresh.items ≡ [] →
+        IsSwept (Leads arcs.now stands.now true) (end_of frame.now.steps.entries origin.0 origin.1)
         (λ w. Contains room.old.known w ⊎ Contains fresh.items w) origin.0 room.new.found) }
     ensures ends { IfOk result (λ fresh. (w : ℕ) → Contains fresh.items w →
         IsEnd (Leads arcs.now stands.now true) frame.now.steps.entries origin.0 origin.1 w) }

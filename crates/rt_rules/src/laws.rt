@@ -1,5 +1,14 @@
 // The laws of derivations: functions that do nothing, each for the law that it ensures.
-ghost use Rattle.rt_rules.specs.Laws.{DeduplicationLaw, DropLaw, FollowingLaw, NumberingLaw, PuttingLaw, RenamingLaw, SubstitutionLaw, UnionLaw};
+ghost use Rattle.rt_rules.specs.Laws.{
+  DeduplicationLaw,
+  DropLaw,
+  FollowingLaw,
+  NumberingLaw,
+  PuttingLaw,
+  RenamingLaw,
+  SubstitutionLaw,
+  UnionLaw,
+};
 ghost use Rattle.rt_rules.specs.Paper.{WithoutSameLow, WithoutSameSub, WithoutSameUp, WithoutSameVar};
 
 /// Each of many inside existentials may give its place to its only definition, all at once: the outside can derive the

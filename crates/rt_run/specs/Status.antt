@@ -118,7 +118,8 @@ Gives command content text = Writes command content (λ (given : List ℕ). give
 
 -- How the work of a command ends: a text was put, or a put failed and so rose a count of faults, or it stopped and out is as it was.
 -- `Whole` and `Front` say what out has of a text that was put, and of one of which a put failed.
-abbrev pub Ends : Command → Contents → (List ℕ → ℕ) → (List ℕ → ℕ) → (List ℕ → Type 0) → Type 0 → (List ℕ → Type 0) → Type 0 → Ending → Type 0
+abbrev pub Ends : Command → Contents → (List ℕ → ℕ) → (List ℕ → ℕ) → (List ℕ → Type 0) → Type 0 → (List ℕ → Type 0) → Type 0 →
+    Ending → Type 0
 Ends command content faults faults' Whole Failed Front Same Written = Writes command content Whole
 Ends command content faults faults' Whole Failed Front Same NoWrite = Failed × Writes command content Front
 Ends command content faults faults' Whole Failed Front Same (Stopped stop) = Stops command content faults faults' stop × Same

@@ -105,8 +105,8 @@ fn program_of(alloc: Global, object: Object, sigs: &Sigs) -> Result<Program, NoT
     })
 }
 
-/// The program of the object that bytes are read as, with these signatures of functions outside, or the first refusal: of the bytes, of the object's
-/// relocations, of its code.
+/// The program of the object that bytes are read as, with these signatures of functions outside, or the first refusal: of
+/// the bytes, of the object's relocations, of its code.
 pub fn read_program(alloc: Global, bytes: &[u8], sigs: &Sigs) -> Result<Program, NoText>
     ensures refused { IfErr result (IsNoText (IsRefused sigs.now bytes.now)) }
     ensures read { IfOk result (λ program. IsReadAs bytes.now program.object) }

@@ -1,5 +1,22 @@
 // Pushes from ways between variables to edges between those with a letter more.
-ghost use Rattle.std.specs.Prelude.{◌≡◌, ℕ, ◌<◌, ◌≤◌, ◌↔◌, [], List, Bool, false, true, length, slice_index_or, IsTrue, IfOk, OnOk, Contains};
+ghost use Rattle.std.specs.Prelude.{
+  ◌≡◌,
+  ℕ,
+  ◌<◌,
+  ◌≤◌,
+  ◌↔◌,
+  [],
+  List,
+  Bool,
+  false,
+  true,
+  length,
+  slice_index_or,
+  IsTrue,
+  IfOk,
+  OnOk,
+  Contains,
+};
 ghost use Rattle.rt_lines.specs.declared.label.Label.{Label as Letter};
 ghost use Rattle.rt_lines.specs.declared.label.Variance.{Variance as Sign};
 ghost use Rattle.rt_lines.specs.Words.{label_variance, times};
@@ -7,7 +24,25 @@ ghost use Rattle.rt_bridge.specs.Counted.{IsPointer};
 ghost use Rattle.rt_sat.specs.declared.state.State.{State as Place};
 ghost use Rattle.rt_sat.specs.declared.state.Edge.{Edge as Arrow};
 ghost use Rattle.rt_sat.specs.Numbered.{AreDistinct, AreWithin, is_contra, sign_of};
-ghost use Rattle.rt_sat.specs.Pushes.{AreChildren, asked_of, matter_at, HasWalk, IsChildOf, IsClosedBy, IsClosedFrom, IsDoneAt, IsDoneOn, IsDoneTo, IsGrown, IsHalf, IsPushed, IsPushedOn, IsPushedTo, PushBy, flip_at};
+ghost use Rattle.rt_sat.specs.Pushes.{
+  AreChildren,
+  asked_of,
+  matter_at,
+  HasWalk,
+  IsChildOf,
+  IsClosedBy,
+  IsClosedFrom,
+  IsDoneAt,
+  IsDoneOn,
+  IsDoneTo,
+  IsGrown,
+  IsHalf,
+  IsPushed,
+  IsPushedOn,
+  IsPushedTo,
+  PushBy,
+  flip_at,
+};
 ghost use Rattle.rt_sat.specs.Counts.{IsLeastHalf};
 ghost use Rattle.rt_sat.specs.Searches.{Allows, IsIndexed, IsSearch, IsWithin, Walk};
 

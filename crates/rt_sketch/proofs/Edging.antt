@@ -1,9 +1,7 @@
 -- Steps and marks of trees with one edge more.
-use Rattle.std.proofs.Common.{◌≡◌, ℕ, zero, suc, ◌⊎◌, inl, inr, ◌+◌, ◌<◌, ◌≤◌, Bool, true, false, cond, Option, Some, None, List, [], ◌∷◌, ◌++◌, length, set, refl, sym, ap, subst, ◌∙◌, arith, length-append}
+use Rattle.std.proofs.Common.{◌≡◌, ℕ, zero, suc, ◌⊎◌, inl, inr, ◌+◌, ◌<◌, ◌≤◌, Bool, true, false, Some, None, [], ◌∷◌, ◌++◌, length, set, refl, sym, ap, subst, ◌∙◌, arith, length-append}
 use Rattle.std.specs.List.{slice_get}
 use Rattle.std.specs.Option.{option_and_then}
-use Rattle.std.specs.Map.{lookup}
-use Rattle.std.specs.Ordering.{is_lt}
 use Rattle.std.proofs.lemmas.Bool.{cases_eq}
 use Rattle.std.proofs.lemmas.List.{length-set, get_or-set_same, get_or-set_other, get_or_append_left}
 use Rattle.std.proofs.Math.Seq.{get_or-append_seam}
@@ -11,12 +9,9 @@ use Rattle.std.proofs.lemmas.Option.{slice_get-get_or, slice_get_past}
 use Rattle.rt_lines.specs.declared.label.Label.{Label}
 use Rattle.rt_lines.specs.Equality.{label_eq}
 use Rattle.rt_lines.proofs.Equal.{label_equal}
-use Rattle.rt_tree.specs.Labels.{label_cmp}
-use Rattle.rt_tree.specs.Trees.{Node, Nodes, leaf, edge_of, step_of, marks_of, node_at, with_edge, longer_node, joined, grown}
+use Rattle.rt_tree.specs.Trees.{Node, Nodes, leaf, edge_of, step_of, marks_of, node_at, longer_node, joined, grown}
 use Rattle.rt_tree.proofs.Growing.{none_in_front}
-use Rattle.rt_lines.proofs.Same.{label_self}
-use Rattle.rt_base.proofs.Options.{here_back, skipped, passed}
-use Rattle.rt_tree.proofs.Reaching.{joined_length, kept_edge, new_edge, at_set, new_step}
+use Rattle.rt_tree.proofs.Reaching.{joined_length, kept_edge, at_set, new_step}
 use Rattle.rt_tree.proofs.Alike.{at_node}
 
 off_set : (t : Nodes) (i j : ℕ) (x : Node) → (j ≡ i → ⊥) → slice_get (set t i x) j ≡ slice_get t j

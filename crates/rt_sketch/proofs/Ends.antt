@@ -1,5 +1,5 @@
 -- The load and the store of a node of a sketch lead to one node.
-use Rattle.std.proofs.Common.{◌≡◌, ℕ, inl, inr, Option, Some, None, IsSome, List, [], ◌∷◌, ◌++◌, refl, ap, sym, subst, ◌∙◌}
+use Rattle.std.proofs.Common.{◌≡◌, ℕ, inl, inr, Option, Some, None, List, [], ◌∷◌, ◌++◌, refl, ap, sym, ◌∙◌}
 use Rattle.std.specs.Prelude.{slice_get}
 use Rattle.std.proofs.lemmas.Option.{slice_get_within}
 use Rattle.rt_lines.specs.declared.label.Label.{Label}
@@ -8,7 +8,7 @@ use Rattle.rt_lines.specs.declared.variable.Dtv.{Dtv}
 use Rattle.rt_lines.specs.declared.line.Line.{Line}
 use Rattle.rt_lines.specs.declared.line.Line.TheVariants.{Low, Up, Var}
 use Rattle.rt_lines.specs.Orders.{Below, IsAtOrBelow}
-use Rattle.rt_rules.specs.Rules.{extended, longer, Derivable}
+use Rattle.rt_rules.specs.Rules.{longer, Derivable}
 use Rattle.rt_loose.specs.Kinds.{Flips}
 use Rattle.rt_loose.specs.Laws.{IsOneEnd}
 use Rattle.rt_loose.specs.Loose.{IsLoose}

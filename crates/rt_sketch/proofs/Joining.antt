@@ -1,6 +1,6 @@
 -- Joins and meets, one bound after another.
 use Rattle.std.proofs.Common.{◌≡◌, ℕ, ◌+◌, ◌<◌, ◌≤◌, ◌⊎◌, inl, inr, List, [], ◌∷◌, Contains, length, get_or, take, drop, refl, sym, subst}
-use Rattle.std.proofs.lemmas.List.{get_or_default, take-append-drop, take_all, take_more}
+use Rattle.std.proofs.lemmas.List.{take-append-drop, take_all, take_more}
 use Rattle.std.proofs.lemmas.List.Elements.{Contains-append_left, Contains-push, Contains-push_cases}
 use Rattle.rt_base.proofs.Lists.{Contains-none}
 use Rattle.rt_lattice.specs.Lattices.{IsBelow, IsLattice, NamedOrder, size_of}

@@ -51,12 +51,13 @@ fn solve_next(
     Ok(())
 }
 
-/// The schemes of all procedures, group after group: those of a group's members have nothing to spare, and tell whoever calls them, under
-/// the order of the lattice, the same as the lists of the members together, where callees outside the group have the schemes that were found
-/// before and functions outside their signatures. The error is want of memory, which also comes where 32 bits don't number the procedures.
+/// The schemes of all procedures, group after group: those of a group's members have nothing to spare, and tell whoever
+/// calls them, under the order of the lattice, the same as the lists of the members together, where callees outside the
+/// group have the schemes that were found before and functions outside their signatures. The error is want of memory, which
+/// also comes where 32 bits don't number the procedures.
 ///
-/// Condition: the groups are those of the facts' procedures, callees first, the signatures are those that the facts were prepared with, and their
-/// constants are names of the lattice.
+/// Condition: the groups are those of the facts' procedures, callees first, the signatures are those that the facts were
+/// prepared with, and their constants are names of the lattice.
 pub fn solve_all(
     alloc: Global,
     facts: &Facts<'_>,

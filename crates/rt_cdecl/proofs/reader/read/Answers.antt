@@ -1,4 +1,4 @@
-use Rattle.std.proofs.Common.{rules, ◌≡◌, ◌+◌, ◌≤◌, ◌^◌, length, inr, refl, subst, sym}
+use Rattle.std.proofs.Common.{rules, ◌≡◌, ◌≤◌, ◌^◌, length, inr, refl, subst, sym}
 use Rattle.std.proofs.lemmas.Bool.{false≢true}
 use Rattle.rt_cdecl.specs.declared.declarations.Decls.{Decls}
 use Rattle.rt_cdecl.specs.Texts.{decls_text}

@@ -1,4 +1,4 @@
-use Rattle.std.proofs.Common.{refl, ap, subst, ◌∙◌, ◌++◌, ◌∷◌, []}
+use Rattle.std.proofs.Common.{ap, subst, ◌∙◌, ◌++◌, ◌∷◌, []}
 use Rattle.rt_cdecl.specs.Drafts.{Parts}
 use Rattle.rt_cdecl.specs.Endings.{AreLeft, all_used}
 use Rattle.rt_cdecl.proofs.Sound.{made}
