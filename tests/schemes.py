@@ -1,8 +1,8 @@
 """Reduces lists of lines to schemes: a transcript of the definitions, by which a procedure has one scheme.
 
-It is written from crates/rt_polar/specs (Puts, Tidied), crates/rt_refine/specs (Refinements), crates/rt_reduction/specs (Twins,
-Simplifies, Before, Emits, Merges, Drops, Rounds), crates/rt_scheme/specs (Schemes, SplitExistentials) and crates/rt_settle/specs (Chosen), step by step, and is
-slow. Lines and variables are those of derivation.py.
+It is written from crates/rt_polar/specs (Puts, Tidied), crates/rt_refine/specs (Refinements), crates/rt_twins/specs
+(Twinnings), crates/rt_reduction/specs (Simplifies, Before, Emits, Merges, Drops, Rounds), crates/rt_scheme/specs (Schemes,
+SplitExistentials) and crates/rt_settle/specs (Chosen), step by step, and is slow. Lines and variables are those of derivation.py.
 """
 import heapq
 
@@ -143,33 +143,62 @@ def put_away(lines):
 # ------------------------------------------------------------------ twins
 
 
-def peers(sign, number, lines):
-    """What stands beside an existential in its defining or consuming uses, or None where these aren't of it alone, or all of
-    constants."""
-    found = set()
+def leading(sign, lines):
+    """The existentials from which a chain of defining or consuming uses without a letter leads to a base that has none."""
+    beside = {}
     for line in lines:
-        if uses(sign, number, line):
-            bound = 'low' if sign == DEFINING else 'up'
-            if other_side(sign, number, line) is not None:
-                found.add(('variable', other_side(sign, number, line)))
-            elif line[0] == bound and sides(line) == (exist(number),):
-                found.add(('constant', line[1 if sign == DEFINING else 2]))
+        for number in exists_of([line]):
+            other = other_side(sign, number, line)
+            if other is not None:
+                beside.setdefault(number, set()).add(other[0])
+    back, ends = {}, set()
+    for number, bases in beside.items():
+        for base in bases:
+            if base[0] == 't' and base[1] in beside:
+                back.setdefault(base[1], set()).add(number)
             else:
-                return None
-    return frozenset(found) if any(kind == 'variable' for kind, _ in found) else None
+                ends.add(number)
+    return reached(ends, {number: back.get(number, set()) for number in beside})
+
+
+def uses_of(sign, classes, lines):
+    """The uses of a sign of each existential, with its own class: what stands beside it is told by its class, but exactly where
+    it is used so itself."""
+    def moved(x, exactly):
+        return x if exactly or not is_exist(x) else (('class', classes[x[0][1]]),) + x[1:]
+
+    found = {number: set() for number in classes}
+
+    def note(x, variance, use):
+        if is_exist(x) and sign_of(x[1:]) == variance:
+            found[x[0][1]].add((x[1:], *use))
+
+    for line in lines:
+        if line[0] == 'below':
+            note(line[1], -sign, ('left', moved(line[2], sign_of(line[2][1:]) == sign)))
+            note(line[2], sign, ('right', moved(line[1], sign_of(line[1][1:]) == -sign)))
+        elif line[0] == 'low':
+            note(line[2], sign, ('low', line[1]))
+        elif line[0] == 'up':
+            note(line[1], -sign, ('up', line[2]))
+    return {number: (classes[number], frozenset(uses)) for number, uses in found.items()}
+
+
+def twinning(sign, lines):
+    """The coarsest twinning: the least of its class for each existential. Those that lead out are split until those of one class
+    have the same uses but for classes; each of the others is alone."""
+    leads = leading(sign, lines)
+    classes = least_of({number: number in leads or ('alone', number) for number in exists_of(lines)})
+    while True:
+        finer = least_of(uses_of(sign, classes, lines))
+        if finer == classes:
+            return classes
+        classes = finer
 
 
 def twins(sign, lines):
-    """The least twin for each existential that has one before it."""
-    first, found = {}, {}
-    for number in sorted(exists_of(lines)):
-        key = peers(sign, number, lines)
-        if key is not None:
-            if key in first:
-                found[number] = exist(first[key])
-            else:
-                first[key] = number
-    return found
+    """The least of its class for each existential that isn't the least itself."""
+    return {number: exist(least) for number, least in twinning(sign, lines).items() if least != number}
 
 
 def simplified(lines):

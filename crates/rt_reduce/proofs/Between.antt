@@ -18,8 +18,8 @@ use Rattle.rt_reduce.proofs.Joined.{round_anchored}
 -- where something is left, not everything is done
 pub unfinished_undone : (lines : List Line) → IsUnfinished lines → IsDone lines → ⊥
 unfinished_undone lines (of_candidate n has) d = d.no_candidate n has
-unfinished_undone lines (of_twins Co v w less are) d = d.no_twins.0 v w less are
-unfinished_undone lines (of_twins Contra v w less are) d = d.no_twins.1 v w less are
+unfinished_undone lines (of_twins Co class n is apart) d = apart (d.no_twins.0 class is n)
+unfinished_undone lines (of_twins Contra class n is apart) d = apart (d.no_twins.1 class is n)
 unfinished_undone lines (of_unused n names unused) d = let (l, c, u) = d.used n names in unused l c u
 unfinished_undone lines (of_unjoined n names unjoined) d = unjoined (d.joined n names)
 

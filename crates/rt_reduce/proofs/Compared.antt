@@ -1,5 +1,5 @@
 -- Existentials that equal sides give their places to them, while sides keep their numbers.
-use Rattle.std.proofs.Common.{◌≡◌, ◌≢◌, ℕ, suc, ◌<◌, ◌⊎◌, inl, inr, Bool, true, false, cond, List, [], ◌∷◌, ◌++◌, map, Contains, All, Option, Some, None, MatchOption}
+use Rattle.std.proofs.Common.{◌≡◌, ◌≢◌, ℕ, suc, ◌<◌, ◌⊎◌, inl, inr, Bool, true, false, cond, List, [], ◌∷◌, map, Contains, All, Option, Some, None, MatchOption}
 use Rattle.std.proofs.Common.{length, get_or, refl, sym, ap, subst, ◌∙◌, append-nil, arith}
 use Rattle.std.specs.Prelude.{◌↔◌}
 use Rattle.std.specs.List.{flat_map}
@@ -28,12 +28,12 @@ use Rattle.rt_rules.proofs.Renaming.{one_base}
 use Rattle.rt_polar.specs.Tidied.{without_self, tidied}
 use Rattle.rt_polar.proofs.AlikeTidied.{Alike-tidied}
 use Rattle.rt_polar.proofs.Exchanging.{put-apart, put-own}
-use Rattle.rt_reduction.specs.Merges.{HasEqual, IsEqualTo}
+use Rattle.rt_reduction.specs.Merges.{HasEqual}
 use Rattle.rt_reduction.proofs.FromSides.{without_side}
 use Rattle.rt_reduction.proofs.Merging.{Alike-equal, near}
 use Rattle.rt_reduction.proofs.Naming.{base_named}
 use Rattle.rt_named.specs.Naming.{named as named_by}
-use Rattle.rt_reduce.specs.Alike.{AreAlikeAt, AreNumbered, HasNumber, IsAlike, no_side}
+use Rattle.rt_reduce.specs.Alike.{AreNumbered, IsAlike, no_side}
 use Rattle.rt_reduce.specs.Compared.{IsCompared}
 use Rattle.rt_reduce.specs.Merging.{IsFirstAmong, IsFirstEqual, IsSide}
 use Rattle.rt_equals.specs.Comparing.{AreEquals}

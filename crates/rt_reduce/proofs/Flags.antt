@@ -7,15 +7,16 @@ use Rattle.std.specs.Prelude.{slice_get}
 use Rattle.std.proofs.lemmas.List.{get_or-replicate, get_or-set_other, length-set, set-get_or, set-set}
 use Rattle.std.proofs.lemmas.List.Elements.{All-contains}
 use Rattle.std.proofs.lemmas.Option.{get_or_from_slice_get, slice_get_within}
-use Rattle.rt_base.proofs.Lists.{All-from_contains}
+use Rattle.rt_base.proofs.Lists.{All-from_contains, Contains-here, Contains-there}
 use Rattle.rt_lines.specs.declared.variable.Dtv.{Dtv}
 use Rattle.rt_lines.specs.declared.line.Line.{Line}
 use Rattle.rt_rules.specs.Rules.{HasSide}
 use Rattle.rt_named.specs.Naming.{named as named_by}
 use Rattle.rt_sat.proofs.Frames.{side_named}
 use Rattle.rt_outline.specs.Lines.{Lined, standing}
-use Rattle.rt_outline.proofs.Standing.{standing_line}
-use Rattle.rt_reduce.specs.Deciding.{AreStanding, IsOwnOuter, IsOuterFor}
+use Rattle.rt_outline.proofs.Standing.{Stands, standing_line}
+use Rattle.rt_witness.specs.Witnesses.{IsLeft}
+use Rattle.rt_reduce.specs.Deciding.{AreStanding, AreWitnessed, IsOwnOuter, IsOuterFor}
 use Rattle.rt_reduce.specs.Dropping.{IsMoved}
 use Rattle.rt_reduce.proofs.Places.{All-removed}
 
@@ -96,6 +97,37 @@ module _ (left : List Line) (stands : List Bool) (place : ℕ) (outer : Lined) (
         left_are = are.left_are ∙ ap (standing outer.lines) (sym same);
         before = λ i h. ap (λ fs. get_or fs i false) same ∙ are.before i (omega (arith, h));
       }
+
+standing_has : (lines : List Line) (flags : List Bool) (i : ℕ) (l : Line) → slice_get lines i ≡ Some l → get_or flags i false ≡ true →
+    Contains (standing lines flags) l
+standing_has [] flags i l at is = absurd (let h : i < 0 = slice_get_within [] i l at in omega arith)
+standing_has (k ∷ lines) [] i l at is = absurd (let e : get_or [] i false ≡ true = is in cc)
+standing_has (k ∷ lines) (true ∷ flags) zero l at is =
+    let same : k ≡ l = cc in
+    subst (Contains (k ∷ standing lines flags)) same (Contains-here k (standing lines flags))
+standing_has (k ∷ lines) (false ∷ flags) zero l at is = absurd (cc)
+standing_has (k ∷ lines) (true ∷ flags) (suc i) l at is = Contains-there k (standing lines flags) l (standing_has lines flags i l at is)
+standing_has (k ∷ lines) (false ∷ flags) (suc i) l at is = standing_has lines flags i l at is
+
+-- those that stand are left
+standing_left : (lines : List Line) (flags : List Bool) → IsLeft lines flags (standing lines flags)
+standing_left lines flags = record {
+  only = λ l c. let r : (i : ℕ) × Stands lines flags i l = standing_line lines flags l c in (r.0, r.1.0, r.1.1);
+  all = λ i l at is. standing_has lines flags i l at is;
+}
+
+-- what is left without a line are those whose flags are set
+pub left_gone : (lines left : List Line) (stands : List Bool) (place : ℕ) → AreWitnessed lines left stands (place + 1) →
+    IsLeft lines (set stands place false) (remove left place)
+left_gone lines left stands place are =
+    subst (IsLeft lines (set stands place false))
+    (sym (standing_gone left stands place (record { lines = lines; named = named_by lines [] }) are).left_are)
+    (standing_left lines (set stands place false))
+
+-- before the first step
+pub first_witnessed : (lines left : List Line) (stands : List Bool) (place : ℕ) → left ≡ lines → stands ≡ replicate (length lines) true →
+    place ≡ length lines → AreWitnessed lines left stands place
+first_witnessed lines left stands place = first_standing lines left stands place (record { lines = lines; named = named_by lines [] }) (refl, refl)
 
 -- what is said of arcs is said of a reference to it
 pub referred : {T : Type 0} (P : T → Type 0) (made : Option T) (outer : Option (Bor T)) → option_copied outer ≡ made → IfSome made P →

@@ -10,7 +10,7 @@ use Rattle.rt_rules.specs.Laws.{NamesBase}
 use Rattle.rt_rules.specs.Put.{put, put_lines}
 use Rattle.rt_polar.specs.Tidied.{tidied}
 use Rattle.rt_reduction.specs.Emits.{AreOfScheme}
-use Rattle.rt_reduction.specs.Merges.{HasEqual, IsMerge, Merges}
+use Rattle.rt_reduction.specs.Merges.{HasEqual, Merges}
 use Rattle.rt_reduction.specs.Merges.Merges.{merges}
 use Rattle.rt_reduce.specs.Compared.{IsCompared}
 use Rattle.rt_reduce.specs.Merging.{IsFirstEqual, IsSide}

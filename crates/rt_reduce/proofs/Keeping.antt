@@ -12,7 +12,7 @@ use Rattle.rt_lines.specs.Orders.{Below}
 use Rattle.rt_lines.proofs.LineSides.{HasConstantsBelow-map_line}
 use Rattle.rt_rules.specs.Alike.{map_line}
 use Rattle.rt_rules.specs.Laws.{NamesBase}
-use Rattle.rt_rules.specs.Put.{put_lines, put_each, use_of}
+use Rattle.rt_rules.specs.Put.{put_lines, use_of}
 use Rattle.rt_refine.specs.Refinements.{move, IsCoarsest, refined}
 use Rattle.rt_polar.specs.Puts.{Exchanges, Puts}
 use Rattle.rt_polar.specs.Puts.Exchanges.{goes, exists_still}
@@ -23,8 +23,7 @@ use Rattle.rt_reduction.specs.Simplifies.{Simplifies, simple, twins_go}
 use Rattle.rt_reduction.specs.Rounds.{Refines}
 use Rattle.rt_reduction.proofs.Anchoring.{keep_source}
 use Rattle.rt_reduction.proofs.Flow.{flow_source}
-use Rattle.rt_reduction.proofs.FromSides.{from_chain, from_put, from_scheme, from_self, from_simple, from_tidied}
-use Rattle.rt_reduction.proofs.Refined.{from_classes}
+use Rattle.rt_reduction.proofs.FromSides.{from_chain, from_classes, from_put, from_scheme, from_self, from_simple, from_tidied}
 use Rattle.rt_reduction.proofs.Simplifying.{twinned_lines}
 use Rattle.rt_reduce.specs.Merging.{IsSide}
 use Rattle.rt_reduce.proofs.Falling.{put-below, tidied-below}
@@ -105,10 +104,9 @@ module _ (count : ℕ) where
 
   simplified_below : (left start : List Line) → Simplifies left start → Are start → Are left
   simplified_below left start (simple _ p none none') h = puts_below left start p h
-  simplified_below left start (twins_go _ between sign place w z p turn are e rest) h =
-      simplified_below left (twinned_lines place between) rest
-      (tidied-below count (map (map_line (put_each place)) between)
-      (mapped_below (put_each place) between (puts_below between start p h)))
+  simplified_below left start (twins_go _ between sign class w p turn c apart rest) h =
+      simplified_below left (twinned_lines class between) rest
+      (tidied-below count (refined class between) (mapped_below (move class) between (puts_below between start p h)))
 
   pub least_below : (lines least : List Line) → IsLeast (tidied lines) least → Are lines → Are least
   least_below lines least (class, c, e) h =

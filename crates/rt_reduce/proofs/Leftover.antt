@@ -11,16 +11,15 @@ use Rattle.rt_lines.specs.declared.line.Line.{Line}
 use Rattle.rt_lines.specs.Equality.{line_eq}
 use Rattle.rt_lines.proofs.Equal.{line_equal}
 use Rattle.rt_rules.specs.Laws.{NamesBase}
-use Rattle.rt_rules.specs.Put.{exist}
+use Rattle.rt_twins.specs.Twinnings.{IsTwinning}
+use Rattle.rt_twins.specs.Leading.{AreOfLines}
 use Rattle.rt_polar.specs.Polar.{HasCandidate}
 use Rattle.rt_polar.specs.Puts.{Puts}
 use Rattle.rt_polar.specs.Puts.Puts.{none_left, puts}
-use Rattle.rt_reduction.specs.Twins.{AreTwins, IsTwinOf}
 use Rattle.rt_reduction.specs.Simplifies.{Simplifies, simple, twins_go}
 use Rattle.rt_reduction.specs.Rounds.{IsUnfinished, of_candidate, of_twins, of_unused}
 use Rattle.rt_reduction.proofs.Losing.{IsSimple, simple_loses}
 use Rattle.rt_reduction.proofs.NamesFrom.{Loses}
-use Rattle.rt_simplify.specs.Uses.{AreOfLines}
 use Rattle.rt_reduce.specs.Settling.{AreUsed, HasMissing, HaveMissing, IsMissing, IsSimplified, IsUnused, IsUsedBy}
 use Rattle.rt_reduce.proofs.Firsts.{more_cases}
 use Rattle.rt_lines.proofs.Same.{line_self}
@@ -37,13 +36,10 @@ changed_left left start (simple _ p none none') = by (puts_or left start p)
     by : (start ≡ left) ⊎ ((n : ℕ) × HasCandidate n start) → (start ≡ left) ⊎ IsUnfinished start
     by (inl e) = inl e
     by (inr (n, has)) = inr (of_candidate n has)
-changed_left left start (twins_go _ between sign place w z p turn are e rest) = inr (by (puts_or between start p))
+changed_left left start (twins_go _ between sign class w p turn c apart rest) = inr (by (puts_or between start p))
   where
-    twin : (v : ℕ) × IsTwinOf sign between w v × (z ≡ exist v)
-    twin = (are w z).0 e
-
     by : (start ≡ between) ⊎ ((n : ℕ) × HasCandidate n start) → IsUnfinished start
-    by (inl f) = of_twins sign twin.0 w twin.1.less (subst (λ ls. AreTwins sign ls twin.0 w) (sym f) twin.1.are)
+    by (inl f) = of_twins sign class w (subst (λ ls. IsTwinning sign ls class) (sym f) c.twins) apart
     by (inr (n, has)) = of_candidate n has
 
 changed_unfinished : (left start : List Line) → Simplifies left start → (left ≡ start → ⊥) → IsUnfinished start

@@ -1,32 +1,29 @@
 -- What sides of lines, and arcs from outside, tell of a line.
-use Rattle.std.proofs.Common.{◌≡◌, ℕ, ◌+◌, ◌<◌, ◌≤◌, ◌⊎◌, inl, inr, List, [], ◌∷◌, ◌++◌, Bool, true, All, Contains, IsTrue, length, take}
-use Rattle.std.proofs.Common.{drop, get_or, refl, sym, ap, subst}
-use Rattle.std.specs.Bool.{Decides}
-use Rattle.std.specs.List.{starts_with, list_any}
+use Rattle.std.proofs.Common.{◌≡◌, ℕ, ◌+◌, ◌<◌, ◌≤◌, ◌⊎◌, inl, inr, List, [], ◌∷◌, true, All, Contains, length, take}
+use Rattle.std.proofs.Common.{get_or, refl, sym, subst}
+use Rattle.std.specs.List.{list_any}
 use Rattle.std.proofs.lemmas.List.{take_all}
-use Rattle.std.proofs.lemmas.Slice.Eq.{starts_is}
 use Rattle.rt_base.proofs.Lists.{Contains-none, Contains-here, Contains-cons_cases, list_any-at}
-use Rattle.rt_lines.specs.declared.label.Label.{Label}
 use Rattle.rt_lines.specs.declared.variable.Dtv.{Dtv}
 use Rattle.rt_lines.specs.declared.line.Line.{Line}
 use Rattle.rt_lines.specs.declared.line.Line.TheVariants.{Var, Sub, Low, Up}
-use Rattle.rt_lines.specs.Equality.{base_eq, label_eq, variable_eq}
+use Rattle.rt_lines.specs.Equality.{variable_eq}
 use Rattle.rt_lines.specs.Lines.{HasConstantsBelow}
 use Rattle.rt_lines.specs.Orders.{Below, IsAtOrBelow}
 use Rattle.rt_lines.specs.OrderFacts.{IsOrder}
 use Rattle.rt_lines.specs.contracts.label.LabelEq.TheImpl.Laws as label_laws
-use Rattle.rt_lines.proofs.Equal.{label_equal, base_equal, variable_equal}
-use Rattle.rt_rules.specs.Rules.{extended, HasSide, Derivable}
+use Rattle.rt_lines.proofs.Equal.{variable_equal}
+use Rattle.rt_rules.specs.Rules.{HasSide, Derivable}
 use Rattle.rt_rules.specs.Rules.Derivable.{named, sub_self}
 use Rattle.rt_rules.proofs.Covering.{front}
-use Rattle.rt_shape.specs.Shapes.{IsFront, IsNamed}
+use Rattle.rt_shape.specs.Shapes.{IsNamed}
 use Rattle.rt_bridge.specs.Bounds.{HasLow, HasUp}
 use Rattle.rt_bridge.proofs.Bounds.{low_from, up_from}
 use Rattle.rt_bridge.proofs.Lawful.{low_law, up_law}
 use Rattle.rt_outline.specs.declared.led.Led.{Led}
 use Rattle.rt_outline.specs.declared.led.Led.TheVariants.{No, Yes, Open}
 use Rattle.rt_outline.specs.Lines.{HasBelow}
-use Rattle.rt_reduce.specs.Deciding.{AreAbove, AreBelow, HasFront, Tells}
+use Rattle.rt_reduce.specs.Deciding.{AreAbove, AreBelow, Tells}
 use Rattle.rt_reduce.proofs.Firsts.{more_cases}
 
 -- none of the elements that are gone through
@@ -46,28 +43,6 @@ none_more P xs i x h e fails none y c p = by (more_cases xs i x y h e c)
 
 pub none_whole : {X : Type 0} (P : X → Type 0) (xs : List X) (i : ℕ) → length xs ≤ i → IsNone P xs i → (y : X) → Contains xs y → P y → ⊥
 none_whole P xs i h none y c p = none y (subst (λ ys. Contains ys y) (sym (take_all i xs h)) c) p
-
-label_decides : (a b : Label) → Decides (label_eq a b) (a ≡ b)
-label_decides a b = (label_equal a b, λ e. subst (λ c. label_eq a c ≡ true) e ((label_laws.laws-law).refl a))
-
--- a variable of the same base, whose word begins with that of another
-pub front_is : (x whole : Dtv) (r : Bool) → base_eq x.base whole.base ≡ true → r ≡ starts_with label_eq whole.word x.word →
-    (IsTrue r → IsFront x whole) × (IsFront x whole → IsTrue r)
-front_is x whole r same_base e = (
-  λ t. (drop (length x.word) whole.word, made (words.0 t)),
-  λ h. words.1 h.0 (sym (ap (λ (y : Dtv). y.word) h.1)),
-)
-  where
-    words : (r ≡ true → whole.word ≡ x.word ++ drop (length x.word) whole.word) ×
-        ((rest : List Label) → whole.word ≡ x.word ++ rest → r ≡ true)
-    words = starts_is label_decides whole.word x.word r e
-
-    made : whole.word ≡ x.word ++ drop (length x.word) whole.word → extended x (drop (length x.word) whole.word) ≡ whole
-    made f = λ i. record { base = base_equal x.base whole.base same_base i; word = sym f i }
-
--- no side begins with a variable that is a front of no line's sides
-pub none_named : (lines : List Line) (x : Dtv) (i : ℕ) → length lines ≤ i → IsNone (λ k. HasFront k x) lines i → IsNamed lines x → ⊥
-none_named lines x i h none (l, y, c, side, f) = none_whole (λ k. HasFront k x) lines i h none l c (y, side, f)
 
 -- a variable that a side begins with exists
 pub named_there : (order : Below) (lines : List Line) (x : Dtv) → IsNamed lines x → Derivable order lines (Var x)

@@ -5,7 +5,6 @@ use Rattle.rt_lines.specs.declared.line.Line.{Line}
 use Rattle.rt_lines.specs.declared.line.Line.TheVariants.{Low, Up}
 use Rattle.rt_lines.specs.Orders.{Below, IsAtOrBelow}
 use Rattle.rt_rules.specs.Rules.{HasSide, Derivable}
-use Rattle.rt_shape.specs.Shapes.{IsFront}
 use Rattle.rt_named.specs.Naming.{named as named_by}
 use Rattle.rt_outline.specs.declared.led.Led.{Led}
 use Rattle.rt_outline.specs.declared.led.Led.TheVariants.{No, Yes}
@@ -28,6 +27,10 @@ pub record AreStanding (left : List Line) (stands : List Bool) (place : ℕ) (ou
   pub left_are : left ≡ standing outer.lines stands
   pub before : (i : ℕ) → i < place → slice_index_or stands i false ≡ true
 
+-- what is left are those of the lines whose flags are set, among them all before a place
+abbrev pub AreWitnessed : List Line → List Line → List Bool → ℕ → Type 0
+AreWitnessed lines left stands place = AreStanding left stands place (record { lines = lines; named = named_by lines [] })
+
 -- what is left are those of the lines of arcs whose flags are set, and they name the sides of these and of another line
 pub record IsOuterFor (left : List Line) (stands : List Bool) (line : Line) (outer : Lined) : Type 0 where
   pub left_are : left ≡ standing outer.lines stands
@@ -44,10 +47,6 @@ pub record IsUpperWith (lines : List Line) (line : Line) (outer : Lined) : Type 
 pub record Tells (order : Below) (lines : List Line) (line : Line) (led : Led) : Type 0 where
   pub no : led ≡ No → Derivable order lines line → ⊥
   pub yes : led ≡ Yes → Derivable order lines line
-
--- a side of the line is the variable, or it with more letters
-abbrev pub HasFront : Line → Dtv → Type 0
-HasFront l x = (y : Dtv) × HasSide l y × IsFront x y
 
 -- the variables of lower bounds at or above a constant
 pub record AreAbove (order : Below) (lines : List Line) (k : ℕ) (variables : List Dtv) : Type 0 where

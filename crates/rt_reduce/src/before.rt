@@ -2,7 +2,15 @@
 ghost use Rattle.std.specs.Prelude.{◌≡◌, ◌∷◌, ◌++◌, [], map, decimal, OnOk, IfOk};
 ghost use Rattle.std.specs.Fmt.{signed_decimal};
 ghost use Rattle.rt_texts.specs.Texts.{label_text};
-ghost use Rattle.rt_reduction.specs.Before.{base_key, comes_before as is_before, label_numbers, level as level_of, location_numbers, offset_numbers, variable_key};
+ghost use Rattle.rt_reduction.specs.Before.{
+  base_key,
+  comes_before as is_before,
+  label_numbers,
+  level as level_of,
+  location_numbers,
+  offset_numbers,
+  variable_key,
+};
 
 use itoa::Buffer;
 use rt_base::Memory;

@@ -1,12 +1,13 @@
 // Whether a line is derivable from others, which are some of the lines of arcs from outside.
-ghost use Rattle.std.specs.Prelude.{◌↔◌, ◌<◌, All, Contains, IsTrue, IfOk, IfSome};
+ghost use Rattle.std.specs.Prelude.{◌≡◌, ◌↔◌, ◌<◌, List, All, Contains, IsTrue, true, IfOk, IfSome};
+ghost use Rattle.rt_lines.specs.declared.line.Line.{Line as Given};
 ghost use Rattle.rt_lines.specs.declared.line.Line.TheVariants.{Low as LowerBound, Sub as Subtype, Up as UpperBound, Var as Exists};
 ghost use Rattle.rt_lines.specs.Lines.{HasConstantsBelow};
 ghost use Rattle.rt_lines.specs.Orders.{Below};
 ghost use Rattle.rt_rules.specs.Rules.{Derivable};
-ghost use Rattle.rt_shape.specs.Shapes.{IsFront, IsNamed};
 ghost use Rattle.rt_outline.specs.Lines.{standing};
-ghost use Rattle.rt_reduce.specs.Deciding.{HasFront, IsOuterFor, IsUpperWith, Tells};
+ghost use Rattle.rt_witness.specs.Witnesses.{IsLeft, IsWitnesses};
+ghost use Rattle.rt_reduce.specs.Deciding.{IsOuterFor, IsUpperWith, Tells};
 
 use crate::bounds::{lows, ups};
 use crate::derivable::derives_line;
@@ -15,24 +16,28 @@ use crate::opened::seen;
 use rt_base::Memory;
 use rt_lines::{Dtv, Line, Order};
 use rt_outline::{Led, Upper};
+use rt_witness::Witnesses;
 use std::alloc::Global;
 use std::slice;
 
-// Whether the line is derivable from the lines left: by arcs from outside, where they tell, else by what is left.
+// Whether the line is derivable from the lines left: by arcs from outside and by which lines name which variables, where these
+// tell, else by what is left.
 pub fn is_derivable(
     alloc: Global,
     outer: Option<&Upper>,
+    witnesses: &Witnesses,
     stands: &[bool],
     left: &[Line],
     order: &Order,
     line: &Line,
 ) -> Result<bool, Memory>
     requires outer { IfSome outer (λ t. IsOuterFor left.now stands.now line.now t.now) }
+    requires witnesses { (lines : List Given) × IsWitnesses lines witnesses.now × IsLeft lines stands.now left.now }
     requires constants { All (HasConstantsBelow order.now.count) left.now }
     requires constant { HasConstantsBelow order.now.count line.now }
     ensures { IfOk result (λ yes. IsTrue yes ↔ Derivable order.now left.now line.now) }
 {
-    match told(alloc, outer, stands, left, order, line)? {
+    match told(alloc, outer, witnesses, stands, left, order, line)? {
         Led::No => Ok(false),
         Led::Yes => Ok(true),
         Led::Open => derives_open(alloc, left, order, line),
@@ -105,18 +110,20 @@ fn upper_with(alloc: Global, lines: &[Line], line: &Line) -> Result<Upper, Memor
 fn told(
     alloc: Global,
     outer: Option<&Upper>,
+    witnesses: &Witnesses,
     stands: &[bool],
     left: &[Line],
     order: &Order,
     line: &Line,
 ) -> Result<Led, Memory>
     requires outer { IfSome outer (λ t. IsOuterFor left.now stands.now line.now t.now) }
+    requires witnesses { (lines : List Given) × IsWitnesses lines witnesses.now × IsLeft lines stands.now left.now }
     requires constants { All (HasConstantsBelow order.now.count) left.now }
     requires constant { HasConstantsBelow order.now.count line.now }
     ensures { IfOk result (Tells order.now left.now line.now) }
 {
     if let Line::Var(x) = line {
-        return Ok(told_named(left, x));
+        return Ok(told_named(witnesses, stands, x));
     }
     match outer {
         Some(outer) => told_by(alloc, outer, stands, left, order, line),
@@ -124,47 +131,33 @@ fn told(
     }
 }
 
-// Whether the variable exists, as far as sides of lines tell.
-fn told_named(lines: &[Line], x: &Dtv) -> Led
-    ensures { (order : Below) → Tells order lines.now (Exists x.now) result }
+// Whether the line says that a variable is there, and which lines that stand name which variables tells that it isn't.
+pub(crate) fn is_missing(witnesses: &Witnesses, stands: &[bool], line: &Line) -> bool
+    ensures { result ≡ true → (order : Below) (lines left : List Given) → IsWitnesses lines witnesses.now → IsLeft lines stands.now left →
+        Derivable order left line.now → ⊥ }
 {
-    if is_named(lines, x) {
-        Led::Yes
-    } else {
+    let Line::Var(x) = line else {
+        return false;
+    };
+    match told_named(witnesses, stands, x) {
+        Led::No => true,
+        Led::Yes | Led::Open => false,
+    }
+}
+
+// Whether the variable exists, as far as the lines that stand tell which name it, and which name one of its shape.
+fn told_named(witnesses: &Witnesses, stands: &[bool], x: &Dtv) -> Led
+    ensures { (order : Below) (lines left : List Given) → IsWitnesses lines witnesses.now → IsLeft lines stands.now left →
+        Tells order left (Exists x.now) result }
+{
+    if witnesses.is_named(stands, x) {
+        return Led::Yes;
+    }
+    if witnesses.may_be_there(stands, x) {
         Led::Open
+    } else {
+        Led::No
     }
-}
-
-// Whether a side of a line is the variable, or it with more letters.
-fn is_named(lines: &[Line], x: &Dtv) -> bool
-    ensures { IsTrue result ↔ IsNamed lines.now x.now }
-{
-    for line in lines {
-        if has_front(line, x) {
-            return true;
-        }
-    }
-    false
-}
-
-// Whether a side of the line is the variable, or it with more letters.
-fn has_front(line: &Line, x: &Dtv) -> bool
-    ensures { IsTrue result ↔ HasFront line.now x.now }
-{
-    match line {
-        Line::Var(y) => is_front(x, y),
-        Line::Same(y, z) => is_front(x, y) || is_front(x, z),
-        Line::Sub(y, z) => is_front(x, y) || is_front(x, z),
-        Line::Low(_, y) => is_front(x, y),
-        Line::Up(y, _) => is_front(x, y),
-    }
-}
-
-// Whether the second variable is the first one, or it with more letters.
-fn is_front(front: &Dtv, whole: &Dtv) -> bool
-    ensures { IsTrue result ↔ IsFront front.now whole.now }
-{
-    front.base == whole.base && whole.word.items().starts_with(front.word.items())
 }
 
 // Whether the line is derivable from the lines left, as far as arcs from outside tell.

@@ -1,17 +1,19 @@
 // Lines that others derive, dropped from the end.
-ghost use Rattle.std.specs.Prelude.{◌≡◌, ◌+◌, ◌<◌, ◌↔◌, [], All, Contains, IsTrue, OnOk, IfOk, IfSome, length};
+ghost use Rattle.std.specs.Prelude.{◌≡◌, ◌+◌, ◌<◌, ◌↔◌, [], List, All, Contains, IsTrue, OnOk, IfOk, IfSome, length};
 ghost use Rattle.rt_lines.specs.declared.line.Line.{Line as Given};
 ghost use Rattle.rt_lines.specs.Lines.{HasConstantsBelow};
 ghost use Rattle.rt_reduction.specs.Drops.{Drops};
 ghost use Rattle.rt_reduction.specs.Emits.{is_flow as is_flow_line};
-ghost use Rattle.rt_reduce.specs.Deciding.{AreStanding, IsOwnOuter};
+ghost use Rattle.rt_witness.specs.Witnesses.{IsWitnesses};
+ghost use Rattle.rt_reduce.specs.Deciding.{AreStanding, AreWitnessed, IsOwnOuter};
 ghost use Rattle.rt_reduce.specs.Dropping.{Decides, IsKeptOrGone, IsMoved};
 
 use crate::copying::copies;
-use crate::deciding::is_derivable;
+use crate::deciding::{is_derivable, is_missing};
 use rt_base::{Memory, Sequence};
 use rt_lines::{Line, Lines, Order};
 use rt_outline::Upper;
+use rt_witness::Witnesses;
 use std::alloc::Global;
 
 /// What stays of the lines when, from the last to the first, each line goes that the lines before it and those that stayed
@@ -24,12 +26,21 @@ pub fn drop_derivable(alloc: Global, lines: &[Line], order: &Order) -> Result<Li
 {
     let made = outer_of(alloc, lines)?;
     let outer = made.as_ref();
+    let witnesses = Witnesses::of(alloc, lines)?;
     let mut stands = vec![in alloc; true; lines.len()]?;
     let mut left = copies(alloc, lines)?;
     let mut place = left.len();
     while place > 0 {
         place -= 1;
-        drop_at(alloc, outer, &mut stands, &mut left, order, place)?;
+        drop_at(
+            alloc,
+            outer,
+            &witnesses,
+            &mut stands,
+            &mut left,
+            order,
+            place,
+        )?;
     }
     Ok(Sequence::from_vec(left))
 }
@@ -67,10 +78,12 @@ fn is_flow(line: &Line) -> bool
     }
 }
 
-// Takes out the line at the place, if the others derive it.
+// Takes out the line at the place, if the others derive it. A line that says that a variable is there isn't moved where which
+// lines name which variables tell that it stays.
 fn drop_at(
     alloc: Global,
     outer: Option<&Upper>,
+    witnesses: &Witnesses,
     stands: &mut Vec<bool>,
     left: &mut Vec<Line>,
     order: &Order,
@@ -80,13 +93,19 @@ fn drop_at(
     requires flags { place < length stands.old.items }
     requires constants { All (HasConstantsBelow order.now.count) left.old.items }
     requires standing { IfSome outer (λ t. AreStanding left.old.items stands.old.items (place + 1) t.now) }
+    requires witnesses { (lines : List Given) × IsWitnesses lines witnesses.now
+        × AreWitnessed lines left.old.items stands.old.items (place + 1) }
     ensures lines { OnOk result (IsKeptOrGone left.old.items place left.new.items) }
     ensures decides { OnOk result (Decides order.now left.old.items place left.new.items) }
     ensures moved { OnOk result (IsMoved left.old.items stands.old.items place left.new.items stands.new.items) }
 {
-    let line = left.remove(place);
     stands[place] = false;
-    let derived = is_derivable(alloc, outer, stands, left, order, &line)?;
+    if is_missing(witnesses, stands, &left[place]) {
+        stands[place] = true;
+        return Ok(());
+    }
+    let line = left.remove(place);
+    let derived = is_derivable(alloc, outer, witnesses, stands, left, order, &line)?;
     if derived {
         return Ok(());
     }

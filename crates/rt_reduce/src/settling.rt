@@ -6,7 +6,8 @@ ghost use Rattle.rt_lines.specs.declared.variable.Base.TheVariants.{Exist as Exi
 ghost use Rattle.rt_polar.specs.Tidied.{tidied};
 ghost use Rattle.rt_reduce.specs.Settling.{AreUsed, HasMissing, HaveMissing, IsMissing, IsSimplified, IsUnused, IsUsedBy};
 ghost use Rattle.rt_reduction.specs.Rounds.{IsUnfinished};
-ghost use Rattle.rt_simplify.specs.Uses.{AreNoted, AreOfLines};
+ghost use Rattle.rt_refine.specs.Groups.{AreNoted};
+ghost use Rattle.rt_twins.specs.Leading.{AreOfLines};
 
 use crate::copying::copies;
 use rt_base::{Memory, Sequence};

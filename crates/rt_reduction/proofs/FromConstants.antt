@@ -9,7 +9,7 @@ use Rattle.rt_lines.specs.Equality.{variable_eq}
 use Rattle.rt_lines.specs.Orders.{Below}
 use Rattle.rt_lines.proofs.Deduplicating.{deduplicated-source}
 use Rattle.rt_rules.specs.Alike.{map_line}
-use Rattle.rt_rules.specs.Put.{put, put_lines, put_each, use_of}
+use Rattle.rt_rules.specs.Put.{put, put_lines, use_of}
 use Rattle.rt_refine.specs.Refinements.{move, refined}
 use Rattle.rt_polar.specs.Puts.{Exchanges, Puts}
 use Rattle.rt_polar.specs.Puts.Exchanges.{goes, exists_still}
@@ -94,9 +94,9 @@ module _ (k : ℕ) where
 
   of_simple : (left start : List Line) → Simplifies left start → Stand start left
   of_simple left start (simple _ p none none') names = of_puts left start p names
-  of_simple left start (twins_go _ between sign place w z p turn are e rest) names =
-      of_puts between start p (mapped (put_each place) between
-      (of_tidied (map (map_line (put_each place)) between) (of_simple left (twinned_lines place between) rest names)))
+  of_simple left start (twins_go _ between sign class w p turn c apart rest) names =
+      of_puts between start p (mapped (move class) between
+      (of_tidied (refined class between) (of_simple left (twinned_lines class between) rest names)))
 
   of_merges : (order : Below) (left start : List Line) → Merges order left start → Stand start left
   of_merges order left start (no_merge none) names = names

@@ -1,6 +1,6 @@
 -- Sides of the lines that each step leaves come from sides of the lines before it.
-use Rattle.std.proofs.Common.{◌≡◌, ◌≢◌, ℕ, ◌⊎◌, inl, inr, List, [], ◌∷◌, ◌++◌, map, Contains, Bool, true, false, cond, Option, Some}
-use Rattle.std.proofs.Common.{None, refl, sym, ap, subst, ◌∙◌}
+use Rattle.std.proofs.Common.{◌≡◌, ◌≢◌, ℕ, ◌⊎◌, inl, inr, List, [], ◌∷◌, ◌++◌, map, Contains, Bool, true, false, cond, refl, sym}
+use Rattle.std.proofs.Common.{subst, ◌∙◌}
 use Rattle.rt_base.proofs.Lists.{Contains-map_source, Contains-middle, Contains-wider, Contains-middle_cases}
 use Rattle.rt_lines.specs.declared.label.Label.{Label}
 use Rattle.rt_lines.specs.declared.label.Variance.{Variance}
@@ -16,15 +16,16 @@ use Rattle.rt_lines.proofs.Deduplicating.{deduplicated-source}
 use Rattle.rt_rules.specs.Rules.{HasSide}
 use Rattle.rt_rules.specs.Alike.{map_line}
 use Rattle.rt_rules.specs.Laws.{NamesBase}
-use Rattle.rt_rules.specs.Put.{exist, put, put_lines, put_found, put_each_at, put_each, use_of}
+use Rattle.rt_rules.specs.Put.{put, put_lines, use_of}
 use Rattle.rt_rules.proofs.LineSides.{HasSide-map_line_source}
 use Rattle.rt_rules.proofs.Renaming.{one_base}
+use Rattle.rt_refine.specs.Refinements.{moved, move, refined}
+use Rattle.rt_refine.proofs.OneCoarsest.{refined_sides_lem}
 use Rattle.rt_polar.specs.Puts.{Exchanges, Puts}
 use Rattle.rt_polar.specs.Puts.Exchanges.{goes, exists_still}
 use Rattle.rt_polar.specs.Puts.Puts.{none_left, puts}
 use Rattle.rt_polar.specs.Tidied.{without_self, tidied}
 use Rattle.rt_polar.proofs.Exchanging.{put-apart, put-own}
-use Rattle.rt_reduction.specs.Twins.{IsTwinOf, AreTwinned}
 use Rattle.rt_reduction.specs.Simplifies.{Simplifies, simple, twins_go}
 use Rattle.rt_reduction.specs.Merges.{Merges}
 use Rattle.rt_reduction.specs.Merges.Merges.{none_left as no_merge, merges}
@@ -165,35 +166,26 @@ from_puts left start (none_left none) = from_self left
 from_puts left start (puts n now between least exchanged rest) =
     from_chain now between left (from_exchanged n now between exchanged) (from_puts left between rest)
 
--- existentials in the places of existentials
-from_each : (lines : List Line) (sign : Variance) (place : ℕ → Option Dtv) → AreTwinned sign lines place →
-    AreFrom lines (map (map_line (put_each place)) lines)
-from_each lines sign place are x (k, c, h) = by (Contains-map_source (map_line (put_each place)) lines k c)
+-- the least of each class in the others' places
+pub from_classes : (lines : List Line) (class : ℕ → ℕ) → AreFrom lines (refined class lines)
+from_classes lines class x (l, c, h) = by (refined_sides_lem lines class l x c h)
   where
-    at_found : (n : ℕ) (o : Option Dtv) (w : List Label) → place n ≡ o → (m : ℕ) × ((put_found o (Exist n) w).base ≡ Exist m)
-    at_found n None w e = (n, refl)
-    at_found n (Some z) w e = let t : (v : ℕ) × IsTwinOf sign lines n v × (z ≡ exist v) = (are n z).0 e in (t.0, ap (λ y. y.base) t.2)
-
-    at : (b : Base) (w : List Label) → IsFrom lines (record { base = b; word = w }) → IsFrom lines (put_each_at place b w)
-    at (Exist n) w f = inl (at_found n (place n) w refl)
+    at : (b : Base) (w : List Label) → IsFrom lines (record { base = b; word = w }) → IsFrom lines (record { base = moved class b; word = w })
+    at (Exist n) w f = inl (class n, refl)
     at (Proc n) w f = f
     at (Global n) w f = f
     at (Outer n) w f = f
 
-    by : (l : Line) × Contains lines l × (map_line (put_each place) l ≡ k) → IsFrom lines x
-    by (l, d, e) =
-        let s : (y : Dtv) × HasSide l y × (put_each place y ≡ x) =
-        HasSide-map_line_source (put_each place) l x (subst (λ m. HasSide m x) (sym e) h) in
-        subst (IsFrom lines) s.2 (at s.0.base s.0.word (from_side lines s.0 (l, d, s.1)))
+    by : (k : Line) × (y : Dtv) × Contains lines k × HasSide k y × (move class y ≡ x) → IsFrom lines x
+    by (k, y, d, s, e) = subst (IsFrom lines) e (at y.base y.word (from_side lines y (k, d, s)))
 
 pub from_simple : (left start : List Line) → Simplifies left start → AreFrom start left
 from_simple left start (simple _ p none none') = from_puts left start p
-from_simple left start (twins_go _ between sign place w z p turn are e rest) =
+from_simple left start (twins_go _ between sign class w p turn c apart rest) =
     from_chain start between left (from_puts between start p)
-    (from_chain between (map (map_line (put_each place)) between) left (from_each between sign place are)
-    (from_chain (map (map_line (put_each place)) between) (twinned_lines place between) left
-    (from_tidied (map (map_line (put_each place)) between))
-    (from_simple left (twinned_lines place between) rest)))
+    (from_chain between (refined class between) left (from_classes between class)
+    (from_chain (refined class between) (twinned_lines class between) left (from_tidied (refined class between))
+    (from_simple left (twinned_lines class between) rest)))
 
 pub from_merges : (order : Below) (left start : List Line) → Merges order left start → AreFrom start left
 from_merges order left start (no_merge none) = from_self left

@@ -1,7 +1,5 @@
 pub mod Dropping
-pub mod Twinning
-pub mod OneTwin
-pub mod AllTwins
+pub mod Placing
 pub mod Simplifying
 pub mod Before
 pub mod Merging

@@ -1,5 +1,5 @@
 -- Where something is left to do, a round loses an existential.
-use Rattle.std.proofs.Common.{◌≡◌, ◌≢◌, ℕ, ◌⊎◌, inl, inr, List, ◌++◌, ◌∷◌, map, Contains, Option, Some, None, Bool, true, false, cond}
+use Rattle.std.proofs.Common.{◌≡◌, ◌≢◌, ℕ, ◌⊎◌, inl, inr, List, ◌++◌, ◌∷◌, Contains, Bool, true, false, cond}
 use Rattle.std.proofs.Common.{refl, sym, ap, subst, ◌∙◌}
 use Rattle.std.proofs.lemmas.List.Elements.{Contains-append_cases}
 use Rattle.rt_lines.specs.declared.label.Variance.{Variance}
@@ -15,11 +15,13 @@ use Rattle.rt_rules.specs.Rules.{HasSide, Derivable}
 use Rattle.rt_rules.specs.Rules.Derivable.{named, prefix, left_side, right_side, same_letter, same_line, same_sub, same_self, same_back}
 use Rattle.rt_rules.specs.Rules.Derivable.{same_chain, same_longer, sub_line, sub_self, sub_chain, sub_co, sub_contra, sub_pointer}
 use Rattle.rt_rules.specs.Rules.Derivable.{low_line, up_line, low_sub, up_sub}
-use Rattle.rt_rules.specs.Alike.{map_line}
 use Rattle.rt_rules.specs.Laws.{NamesBase}
-use Rattle.rt_rules.specs.Put.{exist, put_lines, put_each, HasUse, use_of}
+use Rattle.rt_rules.specs.Put.{put_lines, HasUse}
 use Rattle.rt_rules.specs.Reduced.{Joins, IsJoined}
 use Rattle.rt_rules.specs.Reduced.IsJoined.{joined_self, joined_line}
+use Rattle.rt_refine.specs.Refinements.{refined}
+use Rattle.rt_twins.specs.Twinnings.{IsTwinning}
+use Rattle.rt_twins.proofs.OneTwinning.{twinned_loses_lem}
 use Rattle.rt_polar.specs.Polar.{HasCandidate}
 use Rattle.rt_polar.specs.Puts.{Exchanges, Puts}
 use Rattle.rt_polar.specs.Puts.Exchanges.{goes, exists_still}
@@ -27,19 +29,17 @@ use Rattle.rt_polar.specs.Puts.Puts.{none_left, puts}
 use Rattle.rt_polar.specs.Tidied.{tidied}
 use Rattle.rt_polar.proofs.Exchanging.{candidate_only}
 use Rattle.rt_polar.proofs.OneAnswer.{left_none}
-use Rattle.rt_reduction.specs.Twins.{Variable, AreTwins, IsTwinOf, AreTwinned}
 use Rattle.rt_reduction.specs.Simplifies.{HasNoTwins, Simplifies, simple, twins_go}
 use Rattle.rt_reduction.specs.Emits.{AreOfScheme, flow_lines, first_side, IsShapeLine, IsAnchored, IsEmitted}
 use Rattle.rt_reduction.specs.Rounds.{IsUnfinished, of_candidate, of_twins, of_unused, of_unjoined}
-use Rattle.rt_reduction.specs.Laws.{RoundNamesLaw, RoundLosesLaw}
-use Rattle.rt_reduction.proofs.AllTwins.{twins_chain}
+use Rattle.rt_reduction.specs.Laws.{RoundNamesLaw, RoundLosesLaw, SimplifiesRestLaw}
 use Rattle.rt_reduction.proofs.Simplifying.{twinned_lines}
 use Rattle.rt_reduction.proofs.Flow.{flow_source}
 use Rattle.rt_reduction.proofs.Anchoring.{keep_source}
 use Rattle.rt_reduction.proofs.Emitting.{emits_used_lem, emits_joined_lem}
 use Rattle.rt_reduction.proofs.Refined.{names_refines, refines_lose}
-use Rattle.rt_reduction.proofs.NamesFrom.{NamesFrom, Loses, named_from, names_chain, names_tidied, put_source, IsTwinnedSide, own_is_side}
-use Rattle.rt_reduction.proofs.NamesFrom.{cut_own, names_puts, twinned_source, names_simple, names_emitted, names_after, names_rest}
+use Rattle.rt_reduction.proofs.NamesFrom.{NamesFrom, Loses, named_from, names_chain, names_tidied, put_source}
+use Rattle.rt_reduction.proofs.NamesFrom.{cut_own, names_puts, names_simple, names_emitted, names_after, names_rest}
 use Rattle.rt_base.proofs.Lists.{Contains-middle_cases}
 
 pub round_names_lem : RoundNamesLaw
@@ -86,34 +86,11 @@ puts_lose left start (none_left none) = inl refl
 puts_lose left start (puts n now between least exchanged rest) =
     inr (loses_before now between left (exchange_loses n now between exchanged) (names_puts left between rest))
 
-pub twins_lose : (lines : List Line) (sign : Variance) (place : ℕ → Option Dtv) (w : ℕ) (z : Dtv) → AreTwinned sign lines place
-    → place w ≡ Some z → Loses lines (twinned_lines place lines)
-twins_lose lines sign place w z are e = (w, named_w, gone)
-  where
-    t : (v : ℕ) × IsTwinOf sign lines w v × (z ≡ exist v)
-    t = (are w z).0 e
-
-    use_peer : (s : Variance) (v w : ℕ) → AreTwins s lines v w → (y : Dtv) → Contains lines (use_of s v y) → Contains lines (use_of s w y)
-    use_peer Co v w a y c = (a.one (Variable y)).0 c
-    use_peer Contra v w a y c = (a.one (Variable y)).0 c
-
-    named_w : NamesBase lines (Exist w)
-    named_w = let a : AreTwins sign lines t.0 w =
-        t.1.are in (use_of sign w a.some.0, exist w, use_peer sign t.0 w a a.some.0 a.some.1, own_is_side sign w a.some.0, refl)
-
-    at : (x : Dtv) → x.base ≡ Exist w → IsTwinnedSide sign lines place x → ⊥
-    at x f (inl (u, v, s, g)) =
-        let same : v ≡ w = let h : Exist v ≡ Exist w = sym g ∙ f in cc in
-        let s' : IsTwinOf sign lines u w = subst (IsTwinOf sign lines u) same s in
-        s'.least t.0 t.1.less (twins_chain sign lines t.0 w u t.1.are s'.are)
-    at x f (inr (none, names)) = let g : Some z ≡ None = sym e ∙ none w f in cc
-
-    by : NamesBase (map (map_line (put_each place)) lines) (Exist w) → ⊥
-    by (l, x, c, h, f) = at x f (twinned_source lines sign place are x (l, c, h))
-
-    gone : NamesBase (twinned_lines place lines) (Exist w) → ⊥
-    gone names = by (named_from (map (map_line (put_each place)) lines) (twinned_lines place lines)
-        (names_tidied (map (map_line (put_each place)) lines)) (Exist w) names)
+pub twins_lose : (sign : Variance) (lines : List Line) (class : ℕ → ℕ) (w : ℕ) → IsTwinning sign lines class → class w ≢ w
+    → Loses lines (twinned_lines class lines)
+twins_lose sign lines class w is apart =
+    let (names, gone) = twinned_loses_lem sign lines class w is apart in
+    (w, names, λ h. gone (named_from (refined class lines) (twinned_lines class lines) (names_tidied (refined class lines)) (Exist w) h))
 
 -- so does simplifying, and where it changes nothing there are no candidates and no twins
 pub record IsSimple (lines : List Line) : Type 0 where
@@ -130,10 +107,21 @@ simple_loses left start (simple _ p none none') = by (puts_lose left start p)
     by : (start ≡ left) ⊎ Loses start left → ((start ≡ left) × IsSimple left) ⊎ Loses start left
     by (inl e) = inl (e, record { no_candidate = left_none left start p; no_twins = no_twins_at left none none' })
     by (inr h) = inr h
-simple_loses left start (twins_go _ between sign place w z p turn are e rest) =
+simple_loses left start (twins_go _ between sign class w p turn c apart rest) =
     inr (loses_after start between left (names_puts between start p)
-    (loses_before between (twinned_lines place between) left (twins_lose between sign place w z are e)
-    (names_simple left (twinned_lines place between) rest)))
+    (loses_before between (twinned_lines class between) left (twins_lose sign between class w c.twins apart)
+    (names_simple left (twinned_lines class between) rest)))
+
+-- what is left has neither
+left_simple : (left start : List Line) → Simplifies left start → IsSimple left
+left_simple left start (simple _ p none none') = record {
+  no_candidate = left_none left start p;
+  no_twins = no_twins_at left none none';
+}
+left_simple left start (twins_go _ between sign class w p turn c apart rest) = left_simple left (twinned_lines class between) rest
+
+pub simplifies_rest_lem : SimplifiesRestLaw
+simplifies_rest_lem lines left s = let is : IsSimple left = left_simple left lines s in (is.no_candidate, is.no_twins)
 
 -- variables of one shape are joined
 module _ (order : Below) (lines : List Line) where
@@ -235,7 +223,7 @@ module _ (order : Below) (lines : List Line) where
 
     emitted_loses : AreOfScheme lines → IsSimple lines → IsUnfinished lines → Loses lines emitted
     emitted_loses scheme s (of_candidate n has) = absurd (s.no_candidate n has)
-    emitted_loses scheme s (of_twins sign v w less are) = absurd (s.no_twins sign v w less are)
+    emitted_loses scheme s (of_twins sign class n is apart) = absurd (apart (s.no_twins sign class is n))
     emitted_loses scheme s (of_unused n names unused) = (n, names, unused_gone scheme n unused)
     emitted_loses scheme s (of_unjoined n names unjoined) = (n, names, unjoined_gone n unjoined)
 

@@ -30,7 +30,7 @@ use Rattle.rt_reduction.specs.Merges.{HasEqual, IsMerge, Merges}
 use Rattle.rt_reduction.specs.Merges.Merges.{none_left, merges}
 use Rattle.rt_reduction.specs.Laws.{HasNoSelf, MergesAlikeLaw, OneMergeLaw, NoEqualLaw, MergesNoSelfLaw}
 use Rattle.rt_reduction.proofs.Before.{one_first}
-use Rattle.rt_reduction.proofs.OneTwin.{put-longer, not_outside}
+use Rattle.rt_reduction.proofs.Placing.{put-longer, not_outside}
 
 module _ (order : Below) (lines : List Line) (n : ℕ) (z : Dtv) (above : Derivable order lines (Sub (exist n) z))
     (below : Derivable order lines (Sub z (exist n))) where

@@ -1,7 +1,6 @@
 -- Each step names no base anew.
-use Rattle.std.proofs.Common.{◌≡◌, ◌≢◌, ℕ, ◌⊎◌, inl, inr, List, ◌∷◌, ◌++◌, map, Contains, Option, Some, None, refl, sym, ap, subst, ◌∙◌}
+use Rattle.std.proofs.Common.{◌≡◌, ◌≢◌, ℕ, ◌⊎◌, inl, inr, List, ◌∷◌, ◌++◌, map, Contains, refl, sym, ap, subst, ◌∙◌}
 use Rattle.rt_base.proofs.Lists.{Contains-map_source, Contains-middle, Contains-wider, Contains-middle_cases}
-use Rattle.rt_lines.specs.declared.label.Label.{Label}
 use Rattle.rt_lines.specs.declared.label.Variance.{Variance}
 use Rattle.rt_lines.specs.declared.label.Variance.TheVariants.{Co, Contra}
 use Rattle.rt_lines.specs.declared.variable.Base.{Base}
@@ -14,15 +13,17 @@ use Rattle.rt_lines.proofs.Deduplicating.{deduplicated-source}
 use Rattle.rt_rules.specs.Rules.{HasSide}
 use Rattle.rt_rules.specs.Alike.{map_line}
 use Rattle.rt_rules.specs.Laws.{NamesBase}
-use Rattle.rt_rules.specs.Put.{exist, put, put_lines, put_found, put_each_at, put_each, HasUse, use_of}
+use Rattle.rt_rules.specs.Put.{exist, put, put_lines, HasUse, use_of}
 use Rattle.rt_rules.proofs.LineSides.{HasSide-map_line_source}
 use Rattle.rt_rules.proofs.Renaming.{one_base}
+use Rattle.rt_refine.specs.Refinements.{refined}
+use Rattle.rt_twins.specs.Twinnings.{IsTwinning}
+use Rattle.rt_twins.proofs.OneTwinning.{twinned_names_lem}
 use Rattle.rt_polar.specs.Puts.{Exchanges, Puts}
 use Rattle.rt_polar.specs.Puts.Exchanges.{goes, exists_still}
 use Rattle.rt_polar.specs.Puts.Puts.{none_left, puts}
 use Rattle.rt_polar.specs.Tidied.{without_self, tidied}
 use Rattle.rt_polar.proofs.Exchanging.{put-apart, put-own}
-use Rattle.rt_reduction.specs.Twins.{IsTwinOf, AreTwinned}
 use Rattle.rt_reduction.specs.Simplifies.{Simplifies, simple, twins_go}
 use Rattle.rt_reduction.specs.Merges.{Merges}
 use Rattle.rt_reduction.specs.Merges.Merges.{none_left as no_merge, merges}
@@ -121,59 +122,18 @@ names_puts left start (none_left none) = names_self left
 names_puts left start (puts n now between least exchanged rest) =
     names_chain now between left (names_exchanged n now between exchanged) (names_puts left between rest)
 
--- it has the base of a least twin, or one that the lines name and that stays
-abbrev pub IsTwinnedSide : Variance → List Line → (ℕ → Option Dtv) → Dtv → Type 0
-IsTwinnedSide sign lines place x =
-    ((w : ℕ) × (v : ℕ) × IsTwinOf sign lines w v × (x.base ≡ Exist v))
-    ⊎ (((n : ℕ) → x.base ≡ Exist n → place n ≡ None) × NamesBase lines x.base)
-
--- what becomes of the sides, where twins become one
-pub twinned_source : (lines : List Line) (sign : Variance) (place : ℕ → Option Dtv) → AreTwinned sign lines place → (x : Dtv) →
-    IsSideOf (map (map_line (put_each place)) lines) x → IsTwinnedSide sign lines place x
-twinned_source lines sign place are x (k, c, h) = by (Contains-map_source (map_line (put_each place)) lines k c)
-  where
-    at_found : (n : ℕ) (w : List Label) (o : Option Dtv) → place n ≡ o → NamesBase lines (Exist n)
-        → IsTwinnedSide sign lines place (put_found o (Exist n) w)
-    at_found n w None e names = inr (λ m f. let g : n ≡ m = cc in ap place (sym g) ∙ e, names)
-    at_found n w (Some z) e names = let t : (v : ℕ) × IsTwinOf sign lines n v × (z ≡ exist v) =
-        (are n z).0 e in inl (n, t.0, t.1, ap (λ y. y.base) t.2)
-
-    at : (b : Base) (w : List Label) → NamesBase lines b → IsTwinnedSide sign lines place (put_each_at place b w)
-    at (Exist n) w names = at_found n w (place n) refl names
-    at (Proc n) w names = inr (λ m e. absurd (cc), names)
-    at (Global n) w names = inr (λ m e. absurd (cc), names)
-    at (Outer n) w names = inr (λ m e. absurd (cc), names)
-
-    by : (l : Line) × Contains lines l × (map_line (put_each place) l ≡ k) → IsTwinnedSide sign lines place x
-    by (l, d, e) =
-        let s : (y : Dtv) × HasSide l y × (put_each place y ≡ x) =
-        HasSide-map_line_source (put_each place) l x (subst (λ m. HasSide m x) (sym e) h) in
-        subst (IsTwinnedSide sign lines place) s.2 (at s.0.base s.0.word (l, s.0, d, s.1, refl))
-
--- each of two twins is named
-pub twin_names : (sign : Variance) (lines : List Line) (w v : ℕ) → IsTwinOf sign lines w v → NamesBase lines (Exist v)
-twin_names sign lines w v t = (use_of sign v t.are.some.0, exist v, t.are.some.1, own_is_side sign v t.are.some.0, refl)
-
-names_twinned : (lines : List Line) (sign : Variance) (place : ℕ → Option Dtv) → AreTwinned sign lines place
-    → NamesFrom lines (map (map_line (put_each place)) lines)
-names_twinned lines sign place are x s = by (twinned_source lines sign place are x s)
-  where
-    by : IsTwinnedSide sign lines place x → NamesBase lines x.base
-    by (inl (w, v, t, e)) = subst (NamesBase lines) (sym e) (twin_names sign lines w v t)
-    by (inr (none, names)) = names
-
-pub names_twins_go : (lines : List Line) (sign : Variance) (place : ℕ → Option Dtv) → AreTwinned sign lines place
-    → NamesFrom lines (twinned_lines place lines)
-names_twins_go lines sign place are =
-    names_chain lines (map (map_line (put_each place)) lines) (twinned_lines place lines) (names_twinned lines sign place are)
-    (names_tidied (map (map_line (put_each place)) lines))
+pub names_twins_go : (sign : Variance) (lines : List Line) (class : ℕ → ℕ) → IsTwinning sign lines class
+    → NamesFrom lines (twinned_lines class lines)
+names_twins_go sign lines class is =
+    names_chain lines (refined class lines) (twinned_lines class lines)
+    (λ x (l, c, h). twinned_names_lem sign lines class x.base is (l, x, c, h, refl)) (names_tidied (refined class lines))
 
 pub names_simple : (left start : List Line) → Simplifies left start → NamesFrom start left
 names_simple left start (simple _ p none none') = names_puts left start p
-names_simple left start (twins_go _ between sign place w z p turn are e rest) =
+names_simple left start (twins_go _ between sign class w p turn c apart rest) =
     names_chain start between left (names_puts between start p)
-    (names_chain between (twinned_lines place between) left (names_twins_go between sign place are)
-    (names_simple left (twinned_lines place between) rest))
+    (names_chain between (twinned_lines class between) left (names_twins_go sign between class c.twins)
+    (names_simple left (twinned_lines class between) rest))
 
 pub names_merges : (order : Below) (left start : List Line) → Merges order left start → NamesFrom start left
 names_merges order left start (no_merge none) = names_self left

@@ -1,7 +1,6 @@
 -- Existentials that are used alike and become one: one list, alike, of the same sides, and an existential is lost or nothing changes.
 use Rattle.std.proofs.Common.{◌≡◌, ℕ, ◌⊎◌, inl, inr, List, [], ◌∷◌, Contains, Bool, true, refl, sym, ap, subst, ◌∙◌}
 use Rattle.rt_base.proofs.Lists.{Contains-here, Contains-there}
-use Rattle.rt_lines.specs.declared.label.Label.{Label}
 use Rattle.rt_lines.specs.declared.variable.Base.{Base}
 use Rattle.rt_lines.specs.declared.variable.Base.TheVariants.{Proc, Global, Exist, Outer}
 use Rattle.rt_lines.specs.declared.variable.Dtv.{Dtv}
@@ -15,11 +14,11 @@ use Rattle.rt_rules.proofs.Covering.{Alike-trans}
 use Rattle.rt_rules.proofs.Renaming.{one_base}
 use Rattle.rt_refine.specs.Refinements.{moved, move, refined}
 use Rattle.rt_refine.proofs.Refining.{refined_alike_lem}
-use Rattle.rt_refine.proofs.OneCoarsest.{one_refined_lem, refined_sides_lem, refined_names_lem, refined_least_lem}
+use Rattle.rt_refine.proofs.OneCoarsest.{one_refined_lem, refined_names_lem, refined_least_lem}
 use Rattle.rt_polar.specs.Tidied.{tidied}
 use Rattle.rt_polar.proofs.AlikeTidied.{Alike-tidied}
 use Rattle.rt_reduction.specs.Rounds.{Refines}
-use Rattle.rt_reduction.proofs.FromSides.{IsFrom, AreFrom, from_side, from_chain, from_tidied}
+use Rattle.rt_reduction.proofs.FromSides.{AreFrom, from_chain, from_classes, from_tidied}
 use Rattle.rt_reduction.proofs.NamesFrom.{NamesFrom, Loses, named_from, names_chain, names_tidied}
 
 -- one list is left
@@ -36,18 +35,6 @@ refines_alike order inside lines left inner (class, c, e) =
     (Alike-tidied order inside (refined class lines)))
 
 -- sides come from sides
-pub from_classes : (lines : List Line) (class : ℕ → ℕ) → AreFrom lines (refined class lines)
-from_classes lines class x (l, c, h) = by (refined_sides_lem lines class l x c h)
-  where
-    at : (b : Base) (w : List Label) → IsFrom lines (record { base = b; word = w }) → IsFrom lines (record { base = moved class b; word = w })
-    at (Exist n) w f = inl (class n, refl)
-    at (Proc n) w f = f
-    at (Global n) w f = f
-    at (Outer n) w f = f
-
-    by : (k : Line) × (y : Dtv) × Contains lines k × HasSide k y × (move class y ≡ x) → IsFrom lines x
-    by (k, y, d, s, e) = subst (IsFrom lines) e (at y.base y.word (from_side lines y (k, d, s)))
-
 pub from_refines : (lines left : List Line) → Refines lines left → AreFrom lines left
 from_refines lines left (class, c, e) =
     subst (AreFrom lines) (sym e)
@@ -120,7 +107,7 @@ line_moves class (Sub x y) = by (variable_moves class x) (variable_moves class y
     by (inl e) (inr m) = inr (y, inr refl, m)
     by (inr m) o = inr (x, inl refl, m)
 
-lines_move : (class : ℕ → ℕ) (lines : List Line) → (refined class lines ≡ lines) ⊎ HaveMoved class lines
+pub lines_move : (class : ℕ → ℕ) (lines : List Line) → (refined class lines ≡ lines) ⊎ HaveMoved class lines
 lines_move class [] = inl refl
 lines_move class (l ∷ lines) = by (line_moves class l) (lines_move class lines)
   where

@@ -1,5 +1,5 @@
 -- The laws that the functions of `laws` state.
-use Rattle.std.specs.Prelude.{◌≡◌, ◌≢◌, ◌↔◌, ℕ, ◌⊎◌, List, [], ◌∷◌, ◌++◌, map, Contains, AllPairs, Option, Bool, true}
+use Rattle.std.specs.Prelude.{◌≡◌, ◌≢◌, ◌↔◌, ℕ, ◌⊎◌, List, [], ◌∷◌, ◌++◌, Contains, AllPairs, Bool, true}
 use Rattle.rt_lines.specs.declared.label.Variance.{Variance}
 use Rattle.rt_lines.specs.declared.label.Variance.TheVariants.{Co, Contra}
 use Rattle.rt_lines.specs.declared.variable.Base.{Base}
@@ -10,16 +10,17 @@ use Rattle.rt_lines.specs.declared.line.Line.TheVariants.{Same, Sub}
 use Rattle.rt_lines.specs.Orders.{Below}
 use Rattle.rt_lines.specs.Numbering.{numbered}
 use Rattle.rt_rules.specs.Rules.{HasSide, Derivable}
-use Rattle.rt_rules.specs.Alike.{Alike, map_line}
+use Rattle.rt_rules.specs.Alike.{Alike}
 use Rattle.rt_rules.specs.Laws.{NamesBase}
-use Rattle.rt_rules.specs.Put.{exist, HasUse, put_lines, put_each}
+use Rattle.rt_rules.specs.Put.{exist, HasUse}
 use Rattle.rt_rules.specs.Reduced.{IsReduced}
+use Rattle.rt_polar.specs.Polar.{HasCandidate}
 use Rattle.rt_reduction.specs.Constants.{NamesConstant}
 use Rattle.rt_reduction.specs.Drops.{Drops}
 use Rattle.rt_reduction.specs.Emits.{AreOfScheme, IsAnchored, IsEmitted}
 use Rattle.rt_reduction.specs.Merges.{Merges}
 use Rattle.rt_reduction.specs.Rounds.{IsRound, IsUnfinished, IsReducedForm}
-use Rattle.rt_reduction.specs.Twins.{AreTwins, AreTwinned}
+use Rattle.rt_reduction.specs.Simplifies.{HasNoTwins, Simplifies}
 
 -- one list at most is kept
 abbrev pub OneDropLaw : Type 0
@@ -44,17 +45,20 @@ NoneToSpareLaw =
     (order : Below) (lines kept : List Line) → Drops order [] lines kept →
     (before after : List Line) (l : Line) → kept ≡ before ++ l ∷ after → Derivable order (before ++ after) l → ⊥
 
--- one of two inside twins may take the other's place
-abbrev pub TwinsLaw : Type 0
-TwinsLaw =
-    (order : Below) (inside : Base → Bool) (lines : List Line) (sign : Variance) (v w : ℕ) →
-    inside (Exist v) ≡ true → inside (Exist w) ≡ true → AreTwins sign lines v w → Alike order inside lines (put_lines w (exist v) lines)
+-- where every existential is inside, the outside can derive the same from what is left when places were given away and twins became one
+abbrev pub SimplifiesAlikeLaw : Type 0
+SimplifiesAlikeLaw =
+    (order : Below) (inside : Base → Bool) (lines left : List Line) → ((n : ℕ) → inside (Exist n) ≡ true) → Simplifies left lines →
+    Alike order inside lines left
 
--- where every existential is inside, each may give its place to its least twin, all at once
-abbrev pub AllTwinsLaw : Type 0
-AllTwinsLaw =
-    (order : Below) (inside : Base → Bool) (lines : List Line) (sign : Variance) (place : ℕ → Option Dtv) →
-    ((n : ℕ) → inside (Exist n) ≡ true) → AreTwinned sign lines place → Alike order inside lines (map (map_line (put_each place)) lines)
+-- one list at most is left
+abbrev pub OneSimpleLaw : Type 0
+OneSimpleLaw = (lines left other : List Line) → Simplifies left lines → Simplifies other lines → left ≡ other
+
+-- no existential of it has a candidate, and none is a twin
+abbrev pub SimplifiesRestLaw : Type 0
+SimplifiesRestLaw = (lines left : List Line) → Simplifies left lines →
+    ((n : ℕ) → HasCandidate n left → ⊥) × ((sign : Variance) → HasNoTwins sign left)
 
 -- no line puts a variable beside itself
 abbrev pub HasNoSelf : List Line → Type 0

@@ -1,6 +1,5 @@
 pub mod Before
 pub mod Drops
-pub mod Twins
 pub mod Simplifies
 pub mod Merges
 pub mod Emits

@@ -1,5 +1,5 @@
 -- Rounds of what reduces lines, until nothing is left to do.
-use Rattle.std.specs.Prelude.{◌≡◌, ℕ, ◌<◌, ◌⊎◌, List, [], Contains}
+use Rattle.std.specs.Prelude.{◌≡◌, ◌≢◌, ℕ, ◌⊎◌, List, [], Contains}
 use Rattle.rt_lines.specs.declared.label.Variance.{Variance}
 use Rattle.rt_lines.specs.declared.label.Variance.TheVariants.{Co, Contra}
 use Rattle.rt_lines.specs.declared.variable.Base.TheVariants.{Exist}
@@ -8,13 +8,13 @@ use Rattle.rt_lines.specs.Orders.{Below}
 use Rattle.rt_rules.specs.Laws.{NamesBase}
 use Rattle.rt_rules.specs.Put.{HasUse}
 use Rattle.rt_refine.specs.Refinements.{IsCoarsest, refined}
+use Rattle.rt_twins.specs.Twinnings.{IsTwinning}
 use Rattle.rt_polar.specs.Polar.{HasCandidate}
 use Rattle.rt_polar.specs.Tidied.{tidied}
 use Rattle.rt_reduction.specs.Drops.{Drops}
 use Rattle.rt_reduction.specs.Emits.{IsAnchored, IsEmitted}
 use Rattle.rt_reduction.specs.Merges.{Merges}
 use Rattle.rt_reduction.specs.Simplifies.{HasNoTwins, Simplifies}
-use Rattle.rt_reduction.specs.Twins.{AreTwins}
 
 -- existentials of one shape whose lines are the same but for classes become the least of their class, and the lines are tidied
 abbrev pub Refines : List Line → List Line → Type 0
@@ -44,7 +44,7 @@ pub record IsDone (lines : List Line) : Type 0 where
 -- something is left for another round
 pub data IsUnfinished (lines : List Line) : Type 0 where
   of_candidate : (n : ℕ) → HasCandidate n lines → IsUnfinished lines
-  of_twins : (sign : Variance) (v w : ℕ) → v < w → AreTwins sign lines v w → IsUnfinished lines
+  of_twins : (sign : Variance) (class : ℕ → ℕ) (n : ℕ) → IsTwinning sign lines class → class n ≢ n → IsUnfinished lines
   of_unused : (n : ℕ) → NamesBase lines (Exist n) → ((l : Line) → Contains lines l → HasUse Co n l ⊎ HasUse Contra n l → ⊥) →
       IsUnfinished lines
   of_unjoined : (n : ℕ) → NamesBase lines (Exist n) → (IsAnchored lines (Exist n) → ⊥) → IsUnfinished lines

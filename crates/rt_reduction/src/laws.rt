@@ -1,6 +1,5 @@
 //! The laws of reduced schemes: functions that do nothing, each for the law that it ensures.
 ghost use Rattle.rt_reduction.specs.Laws.{
-  AllTwinsLaw,
   DropsAlikeLaw,
   EmitsAlikeLaw,
   EmitsJoinedLaw,
@@ -22,10 +21,12 @@ ghost use Rattle.rt_reduction.specs.Laws.{
   OneEmitLaw,
   OneFormLaw,
   OneMergeLaw,
+  OneSimpleLaw,
   ReorderedReducedLaw,
   RoundLosesLaw,
   RoundNamesLaw,
-  TwinsLaw,
+  SimplifiesAlikeLaw,
+  SimplifiesRestLaw,
 };
 
 /// Dropping, from the last line to the first, each line that the others derive: one list at most is kept; what is kept
@@ -39,12 +40,13 @@ pub fn dropping()
     ensures needed { NoneToSpareLaw }
 {}
 
-/// Two inside existentials that are defined by the same variables and constants, a variable among them, or that are
-/// consumed by the same, may become one; and where every existential is inside, all such may become one with the least of
-/// them at once: the outside can derive the same from the lines before and after.
-pub fn twins()
-    ensures one { TwinsLaw }
-    ensures all { AllTwinsLaw }
+/// Existentials that give their places away, and the classes of the coarsest twinnings that become one, in turn: where every
+/// existential is inside, the outside can derive the same from what is left; one list at most is left; and no existential of
+/// it has a candidate, nor is any a twin.
+pub fn simplifying()
+    ensures alike { SimplifiesAlikeLaw }
+    ensures one { OneSimpleLaw }
+    ensures rest { SimplifiesRestLaw }
 {}
 
 /// Existentials that equal a side of another base give their places to the first of these, one after another: where every

@@ -76,7 +76,7 @@ module _ (old new : ℕ → ℕ) (rises : (v : ℕ) → old v ≤ new v) where
         by (inr d) rest = let a = rest d in let b = sides_most (sides m) in omega (arith, a, b)
 
 -- the names of classes rise
-module _ (side : Side) (lines : List Line) (old new : ℕ → ℕ) (changed : Bool) (split : IsSplit side lines old new changed)
+module _ (side : Side) (lines : List Line) (old new : ℕ → ℕ) (changed : Bool) (split : IsSplit side lines old old new changed)
     (are : AreClasses lines old) where
   split_rises : (v : ℕ) → old v ≤ new v
   split_rises v = by (split.parts v (new v) (sym (split.own v)))
@@ -104,8 +104,8 @@ module _ (side : Side) (lines : List Line) (old new : ℕ → ℕ) (changed : Bo
       by (inr n) = split.alone v n ∙ sym (are.alone v n)
 
 -- on one side, and then on the other
-module _ (lines : List Line) (old mid new : ℕ → ℕ) (one two : Bool) (first : IsSplit Left lines old mid one)
-    (second : IsSplit Right lines mid new two) (are : AreClasses lines old) where
+module _ (lines : List Line) (old mid new : ℕ → ℕ) (one two : Bool) (first : IsSplit Left lines old old mid one)
+    (second : IsSplit Right lines mid mid new two) (are : AreClasses lines old) where
   mid_are : AreClasses lines mid
   mid_are = split_classes Left lines old mid one first are
 

@@ -37,8 +37,8 @@ push_one (x ∷ xs) (y ∷ ys) a b e =
 abbrev pub use_key : (ℕ → ℕ) → ℕ → (ℕ → ℕ → Bool) → ℕ → List ℕ
 use_key old bound index n = numbers_below (index n) bound ++ old n ∷ []
 
-module _ (side : Side) (lines : List Line) (old : ℕ → ℕ) (bound : ℕ) (index : ℕ → ℕ → Bool)
-    (is_index : IsUseIndex side lines old bound index) where
+module _ (side : Side) (lines : List Line) (moves old : ℕ → ℕ) (bound : ℕ) (index : ℕ → ℕ → Bool)
+    (is_index : IsUseIndex side lines moves bound index) where
   abbrev numbers_of : ℕ → List ℕ
   numbers_of n = numbers_below (index n) bound
 
@@ -46,26 +46,26 @@ module _ (side : Side) (lines : List Line) (old : ℕ → ℕ) (bound : ℕ) (in
   key_of n = use_key old bound index n
 
   -- existentials with the same uses have the same numbers
-  index_same : (v w : ℕ) → HaveSameUses side lines old v w → (k : ℕ) → index v k ≡ true → index w k ≡ true
+  index_same : (v w : ℕ) → HaveSameUses side lines moves v w → (k : ℕ) → index v k ≡ true → index w k ≡ true
   index_same v w a k h =
-      let s : (u : Use) × IsNumberOf side lines old index k u = is_index.source v k h in (s.1 w).1 ((a s.0).0 ((s.1 v).0 h))
+      let s : (u : Use) × IsNumberOf side lines moves index k u = is_index.source v k h in (s.1 w).1 ((a s.0).0 ((s.1 v).0 h))
 
-  uses_back : (v w : ℕ) → HaveSameUses side lines old v w → HaveSameUses side lines old w v
+  uses_back : (v w : ℕ) → HaveSameUses side lines moves v w → HaveSameUses side lines moves w v
   uses_back v w a u = ((a u).1, (a u).0)
 
-  numbers_same : (v w : ℕ) → HaveSameUses side lines old v w → numbers_of v ≡ numbers_of w
+  numbers_same : (v w : ℕ) → HaveSameUses side lines moves v w → numbers_of v ≡ numbers_of w
   numbers_same v w a = below_same (index v) (index w) bound (index_same v w a) (index_same w v (uses_back v w a))
 
   -- and those with the same numbers have the same uses
-  use_same : (v w : ℕ) → numbers_of v ≡ numbers_of w → (u : Use) → Stands side lines old v u → Stands side lines old w u
+  use_same : (v w : ℕ) → numbers_of v ≡ numbers_of w → (u : Use) → Stands side lines moves v u → Stands side lines moves w u
   use_same v w e u c =
-      let s : (k : ℕ) × IsNumberOf side lines old index k u = is_index.numbered v u c in
+      let s : (k : ℕ) × IsNumberOf side lines moves index k u = is_index.numbered v u c in
       let h : index v s.0 ≡ true = (s.1 v).1 c in
       (s.1 w).0 (same_below (index v) (index w) bound s.0 e (is_index.within v s.0 h) h)
 
   pub split_is : (new : ℕ → ℕ) (changed : Bool) → IsGrouped (use_key old bound index) (IsNamed lines) new →
       (changed ≡ false → (v : ℕ) → (new v ≡ old v) ⊎ (IsNamed lines v → ⊥)) →
-      (changed ≡ true → (v : ℕ) × IsNamed lines v × (new v ≢ old v)) → IsSplit side lines old new changed
+      (changed ≡ true → (v : ℕ) × IsNamed lines v × (new v ≢ old v)) → IsSplit side lines moves old new changed
   split_is new changed is stays differs = record {
     least = is.least;
     own = is.own;
@@ -77,7 +77,7 @@ module _ (side : Side) (lines : List Line) (old : ℕ → ℕ) (bound : ℕ) (in
     differs = differs;
   }
     where
-      parts : (v w : ℕ) → (v ≡ w) ⊎ (key_of v ≡ key_of w) → (v ≡ w) ⊎ ((old v ≡ old w) × HaveSameUses side lines old v w)
+      parts : (v w : ℕ) → (v ≡ w) ⊎ (key_of v ≡ key_of w) → (v ≡ w) ⊎ ((old v ≡ old w) × HaveSameUses side lines moves v w)
       parts v w (inl e) = inl e
       parts v w (inr e) =
           let f = push_one (numbers_of v) (numbers_of w) (old v) (old w) e in
@@ -126,7 +126,7 @@ module _ (fine coarse : ℕ → ℕ) (finer : (a b : ℕ) → fine a ≡ fine b 
   matched_use Right lines v w is u ((x, Constant k), c, e) = ((x, Constant k), is.low k x c, e)
 
 -- a split of classes
-pub split_classes : (side : Side) (lines : List Line) (old new : ℕ → ℕ) (changed : Bool) → IsSplit side lines old new changed →
+pub split_classes : (side : Side) (lines : List Line) (old new : ℕ → ℕ) (changed : Bool) → IsSplit side lines old old new changed →
     AreClasses lines old → AreClasses lines new
 split_classes side lines old new changed split are = record {
   least = split.least;

@@ -14,13 +14,13 @@ use Rattle.rt_refine.specs.Groups.{IsNamed}
 use Rattle.rt_refine.specs.Refinements.{AreMatched, IsRefinement}
 use Rattle.rt_refine.specs.Uses.{HaveSameUses}
 
--- members of one class stay in one if they have the same uses on the side, but for classes, and no others do
-pub record IsSplit (side : Side) (lines : List Line) (old new : ℕ → ℕ) (changed : Bool) : Type 0 where
+-- members of one class stay in one if they have the same uses on the side, but for where variables move, and no others do
+pub record IsSplit (side : Side) (lines : List Line) (moves old new : ℕ → ℕ) (changed : Bool) : Type 0 where
   pub least : (v : ℕ) → new v ≤ v
   pub own : (v : ℕ) → new (new v) ≡ new v
   pub alone : (v : ℕ) → (IsNamed lines v → ⊥) → new v ≡ v
-  pub one : (v w : ℕ) → IsNamed lines v → IsNamed lines w → old v ≡ old w → HaveSameUses side lines old v w → new v ≡ new w
-  pub parts : (v w : ℕ) → new v ≡ new w → (v ≡ w) ⊎ ((old v ≡ old w) × HaveSameUses side lines old v w)
+  pub one : (v w : ℕ) → IsNamed lines v → IsNamed lines w → old v ≡ old w → HaveSameUses side lines moves v w → new v ≡ new w
+  pub parts : (v w : ℕ) → new v ≡ new w → (v ≡ w) ⊎ ((old v ≡ old w) × HaveSameUses side lines moves v w)
   pub stays : changed ≡ false → (v : ℕ) → (new v ≡ old v) ⊎ (IsNamed lines v → ⊥)
   pub differs : changed ≡ true → (v : ℕ) × IsNamed lines v × (new v ≢ old v)
 

@@ -25,8 +25,8 @@ fn split_twice(alloc: Global, lines: &[Line], classes: &Classes) -> Result<(Clas
     ensures { IfOk result (λ r. AreClasses lines.now (class_of (get nat_cmp classes.now)) →
         IsSplitTwice lines.now (class_of (get nat_cmp classes.now)) (class_of (get nat_cmp r.0)) r.1) }
 {
-    let (lefts, left) = split(alloc, lines, classes, Side::Left)?;
-    let (rights, right) = split(alloc, lines, &lefts, Side::Right)?;
+    let (lefts, left) = split(alloc, lines, classes, classes, Side::Left)?;
+    let (rights, right) = split(alloc, lines, &lefts, &lefts, Side::Right)?;
     Ok((rights, either(left, right)))
 }
 

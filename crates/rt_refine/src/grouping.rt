@@ -48,7 +48,8 @@ fn leader_of(leaders: &mut Leaders, key: Vec<usize>, existential: u32) -> Result
     Ok(existential)
 }
 
-/// The existential follows the one that leads those with the key, which is this one where there was none.
+/// The existential follows the one that leads those with the key, which is this one where there was none. The error is out of
+/// memory.
 pub fn follow(
     leaders: &mut Leaders,
     classes: &mut Classes,

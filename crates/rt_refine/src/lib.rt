@@ -12,5 +12,8 @@ mod splitting;
 mod uses;
 
 pub use coarsest::classes;
-pub use grouping::Classes;
-pub use moving::refine;
+pub use grouping::{Classes, Leaders, class_of, follow};
+pub use listing::existentials;
+pub use moving::{move_lines, refine};
+pub use splitting::split;
+pub use uses::Side;

@@ -34,8 +34,8 @@ fn move_line(classes: &Classes, line: &Line) -> Result<Line, Memory>
     }
 }
 
-// The lines, with the least of each class in the place of the others.
-fn move_lines(alloc: Global, classes: &Classes, lines: &[Line]) -> Result<Lines, Memory>
+/// The lines, with the least of each class in the place of the others. The error is out of memory.
+pub fn move_lines(alloc: Global, classes: &Classes, lines: &[Line]) -> Result<Lines, Memory>
     ensures { IfOk result (λ r. r ≡ refined (class_of (get nat_cmp classes.now)) lines.now) }
 {
     let mut moved = Vec::with_capacity(alloc, lines.len())?;

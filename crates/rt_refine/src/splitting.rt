@@ -82,17 +82,19 @@ fn is_changed(changed: bool, leader: u32, class: u32) -> bool
     changed || leader != class
 }
 
-/// The classes split by what stands beside their members on the side, and whether that gives other classes. The error is
-/// out of memory.
+/// The classes split by what stands beside their members on the side, by the classes of `moves`, and whether that gives
+/// other classes. The error is out of memory.
 pub fn split(
     alloc: Global,
     lines: &[Line],
+    moves: &Classes,
     classes: &Classes,
     side: Side,
 ) -> Result<(Classes, bool), Memory>
-    ensures { IfOk result (λ r. IsSplit side lines.now (class_of (get nat_cmp classes.now)) (class_of (get nat_cmp r.0)) r.1) }
+    ensures { IfOk result (λ r. IsSplit side lines.now (class_of (get nat_cmp moves.now)) (class_of (get nat_cmp classes.now))
+        (class_of (get nat_cmp r.0)) r.1) }
 {
-    let index = use_index(alloc, lines, classes, side)?;
+    let index = use_index(alloc, lines, moves, side)?;
     let mut pending = existentials(alloc, lines)?;
     let mut leaders = BTreeMap::new(alloc);
     let mut parts = BTreeMap::new(alloc);

@@ -1,51 +1,57 @@
 -- Twins become one, if there are any.
-use Rattle.std.proofs.Common.{◌≡◌, ℕ, List, [], ◌∷◌, map, length, Bool, cond, Option, Some, None, MatchOption, refl, sym, ap, subst, ◌∙◌}
-use Rattle.std.proofs.Common.{arith}
-use Rattle.std.specs.BTreeMap.{BTreeMap, btree_map_len, get}
-use Rattle.std.specs.Map.{lookup}
-use Rattle.std.specs.Ordering.{is_eq, nat_cmp}
+use Rattle.std.proofs.Common.{◌≡◌, ℕ, ◌⊎◌, inl, inr, List, Option, Some, None, MatchOption, sym, subst, ◌∙◌}
+use Rattle.std.proofs.lemmas.Bool.{cases_eq}
 use Rattle.rt_lines.specs.declared.label.Variance.{Variance}
+use Rattle.rt_lines.specs.declared.variable.Base.TheVariants.{Exist}
 use Rattle.rt_lines.specs.declared.line.Line.{Line}
-use Rattle.rt_rules.specs.Alike.{map_line}
-use Rattle.rt_rules.specs.Put.{exist, put_each}
+use Rattle.rt_rules.specs.Laws.{NamesBase}
+use Rattle.rt_refine.specs.Refinements.{refined}
+use Rattle.rt_twins.specs.Twinnings.{IsTwinning, IsCoarsestTwinning}
+use Rattle.rt_twins.proofs.OneTwinning.{twinned_loses_lem}
 use Rattle.rt_polar.specs.Puts.{Puts}
 use Rattle.rt_polar.specs.Tidied.{tidied}
 use Rattle.rt_reduction.specs.Simplifies.{HasNoTwins, IsTurnOf, Simplifies, twins_go}
-use Rattle.rt_simplify.specs.Twins.{AreLeastTwins, BecomeOne, exist_of, placing}
-use Rattle.rt_simplify.proofs.Leading.{are_twinned}
-use Rattle.rt_simplify.proofs.Noting.{number_self}
+use Rattle.rt_reduction.proofs.Refined.{HaveMoved, lines_move}
+use Rattle.rt_simplify.specs.Twins.{BecomeOne}
 
--- a map without entries has nothing, and another one has something
-empty_get : (es : List (ℕ × ℕ)) (n : ℕ) → length es ≡ 0 → lookup (λ (k : ℕ). is_eq (nat_cmp n k)) es ≡ None
-empty_get [] n e = refl
-empty_get (x ∷ es) n e = absurd (omega (arith, e))
+-- where the lines stay as they are, each existential is the least of its class
+stays_alone : (sign : Variance) (lines : List Line) (class : ℕ → ℕ) → IsTwinning sign lines class → refined class lines ≡ lines →
+    (n : ℕ) → class n ≡ n
+stays_alone sign lines class is same n = by (cases_eq (class n) n)
+  where
+    by : (class n ≡ n) ⊎ (class n ≡ n → ⊥) → class n ≡ n
+    by (inl e) = e
+    by (inr apart) =
+        let (names, gone) = twinned_loses_lem sign lines class n is apart in
+        absurd (gone (subst (λ ls. NamesBase ls (Exist n)) (sym same) names))
 
-some_get : (es : List (ℕ × ℕ)) → (length es ≡ 0 → ⊥) → (w : ℕ) × (v : ℕ) × (lookup (λ (k : ℕ). is_eq (nat_cmp w k)) es ≡ Some v)
-some_get [] some = absurd (some refl)
-some_get (e ∷ es) some =
-    (e.0, e.1, ap (λ (t : Bool). cond t (Some e.1) (lookup (λ (k : ℕ). is_eq (nat_cmp e.0 k)) es)) (number_self e.0))
-
-pub no_twins : (sign : Variance) (lines : List Line) (twins : BTreeMap ℕ ℕ) → AreLeastTwins sign lines (get nat_cmp twins) →
-    btree_map_len twins ≡ 0 →
+-- and so in each twinning
+none_left : (sign : Variance) (lines : List Line) (class : ℕ → ℕ) → IsCoarsestTwinning sign lines class → refined class lines ≡ lines →
     HasNoTwins sign lines
-no_twins sign lines twins are empty v w lt a =
-    let s : (u : ℕ) × (get nat_cmp twins w ≡ Some u) = are.complete v w lt a in
-    let f : None ≡ Some s.0 = sym (empty_get twins.entries w empty) ∙ s.1 in
-    cc
+none_left sign lines class c same other t n =
+    sym (stays_alone sign lines class c.twins same (other n)) ∙ c.widest other t (other n) n (t.own n)
+    ∙ stays_alone sign lines class c.twins same n
 
-pub become_one : (sign : Variance) (lines merged : List Line) (twins : BTreeMap ℕ ℕ) → IsTurnOf sign lines →
-    AreLeastTwins sign lines (get nat_cmp twins) →
-    (btree_map_len twins ≡ 0 → ⊥) → merged ≡ map (map_line (put_each (placing (get nat_cmp twins)))) lines → BecomeOne lines merged
-become_one sign lines merged twins turn are some is =
-    let s : (w : ℕ) × (v : ℕ) × (get nat_cmp twins w ≡ Some v) = some_get twins.entries some in
-    record {
+-- the lines with the least of each class in the place of the others
+abbrev pub AreTwinned : Variance → List Line → List Line → Type 0
+AreTwinned sign lines merged = (class : ℕ → ℕ) × IsCoarsestTwinning sign lines class × (merged ≡ refined class lines)
+
+pub no_twins : (sign : Variance) (lines merged : List Line) → AreTwinned sign lines merged → merged ≡ lines → HasNoTwins sign lines
+no_twins sign lines merged (class, c, is) same = none_left sign lines class c (sym is ∙ same)
+
+pub become_one : (sign : Variance) (lines merged : List Line) → AreTwinned sign lines merged → IsTurnOf sign lines →
+    (merged ≡ lines → ⊥) → BecomeOne lines merged
+become_one sign lines merged (class, c, is) turn other = by (lines_move class lines)
+  where
+    by : (refined class lines ≡ lines) ⊎ HaveMoved class lines → BecomeOne lines merged
+    by (inl g) = absurd (other (is ∙ g))
+    by (inr (l, d, (x, h, (n, g, apart)))) = record {
       sign = sign;
-      place = placing (get nat_cmp twins);
-      w = s.0;
-      z = exist s.1;
+      class = class;
+      w = n;
       turn = turn;
-      are = are_twinned sign lines (get nat_cmp twins) are;
-      some = ap exist_of s.2;
+      coarsest = c;
+      some = apart;
       is = is;
     }
 
@@ -53,7 +59,7 @@ become_one sign lines merged twins turn are some is =
 pub turn_more : (lines before merged left : List Line) → Puts lines before → BecomeOne lines merged → Simplifies left (tidied merged) →
     Simplifies left before
 turn_more lines before merged left p b s =
-    twins_go before lines b.sign b.place b.w b.z p b.turn b.are b.some (subst (λ (ls : List Line). Simplifies left (tidied ls)) b.is s)
+    twins_go before lines b.sign b.class b.w p b.turn b.coarsest b.some (subst (λ (ls : List Line). Simplifies left (tidied ls)) b.is s)
 
 -- what the merged lines are, and that there are none
 pub merged_some : (found : Option (List Line)) (lines merged : List Line) (N : Type 0) → found ≡ Some merged →

@@ -1,10 +1,3 @@
-pub mod Owning
-pub mod Noting
-pub mod Ranking
-pub mod Keys
-pub mod Below
-pub mod Indexing
-pub mod Leading
 pub mod Shrinking
 pub mod Joining
 pub mod Staying

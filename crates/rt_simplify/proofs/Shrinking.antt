@@ -1,26 +1,29 @@
 -- Fewer lines, each time that twins become one.
 use Rattle.std.proofs.Common.{◌≡◌, ◌≢◌, ℕ, suc, ◌+◌, ◌<◌, ◌≤◌, ◌⊎◌, inl, inr, List, [], ◌∷◌, ◌++◌, map, fold, length, Contains, Bool, true}
-use Rattle.std.proofs.Common.{false, cond, Option, Some, None, refl, sym, ap, subst, ◌∙◌, arith, length-append}
+use Rattle.std.proofs.Common.{false, cond, refl, sym, ap, subst, ◌∙◌, arith, length-append}
 use Rattle.std.specs.List.{list_any}
 use Rattle.indexmap.specs.IndexSet.{insert_key}
 use Rattle.rt_base.proofs.Lists.{Contains-none, Contains-here, Contains-cons_cases, list_any-from}
 use Rattle.rt_lines.specs.declared.label.Variance.{Variance}
 use Rattle.rt_lines.specs.declared.label.Variance.TheVariants.{Co, Contra}
+use Rattle.rt_lines.specs.declared.variable.Base.TheVariants.{Exist}
 use Rattle.rt_lines.specs.declared.variable.Dtv.{Dtv}
 use Rattle.rt_lines.specs.declared.line.Line.{Line}
 use Rattle.rt_lines.specs.declared.line.Line.TheVariants.{Var, Sub}
-use Rattle.rt_lines.specs.contracts.line.LineEq.TheImpl.Laws as line_laws
 use Rattle.rt_lines.specs.Equality.{line_eq}
+use Rattle.rt_lines.specs.Words.{variance_of_word}
 use Rattle.rt_lines.proofs.Equal.{line_equal}
 use Rattle.rt_lines.proofs.Distinct.{inserted-has, inserted-stays}
 use Rattle.rt_rules.specs.Alike.{map_line}
-use Rattle.rt_rules.specs.Put.{exist, put, put_lines, put_each, put_found, use_of}
+use Rattle.rt_rules.specs.Put.{exist, put, put_lines, use_of}
+use Rattle.rt_refine.specs.Refinements.{move, refined}
+use Rattle.rt_twins.specs.Twinnings.{AreOne, LeadsOut, IsTwinning}
+use Rattle.rt_twins.specs.Twinnings.LeadsOut.{ends, goes_on}
+use Rattle.rt_twins.proofs.Matching.{match_bare}
 use Rattle.rt_polar.specs.Puts.{Exchanges, Puts}
 use Rattle.rt_polar.specs.Puts.Exchanges.{goes, exists_still}
 use Rattle.rt_polar.specs.Puts.Puts.{none_left, puts}
 use Rattle.rt_polar.specs.Tidied.{tidied, without_self}
-use Rattle.rt_reduction.specs.Twins.{Variable, peer_line, AreTwins, IsTwinOf, AreTwinned}
-use Rattle.rt_reduction.proofs.AllTwins.{twins_chain, peer_use}
 use Rattle.rt_simplify.specs.Twins.{BecomeOne}
 use Rattle.rt_lines.proofs.Same.{line_self}
 
@@ -127,50 +130,48 @@ map-both : (f g : Line → Line) (xs : List Line) → map g (map f xs) ≡ map (
 map-both f g [] = refl
 map-both f g (x ∷ xs) = ap (λ (ls : List Line). g (f x) ∷ ls) (map-both f g xs)
 
--- the uses of two twins by one variable become one line
-module _ (sign : Variance) (lines : List Line) (place : ℕ → Option Dtv) (are : AreTwinned sign lines place) (w : ℕ) (z : Dtv)
-    (is : place w ≡ Some z) where
-  abbrev least : (v : ℕ) × IsTwinOf sign lines w v × (z ≡ exist v)
-  least = (are w z).0 is
+-- what leads out has a use without a letter
+bare_use : (sign : Variance) (lines : List Line) (n : ℕ) → LeadsOut sign lines n → (z : Dtv) × Contains lines (use_of sign n z)
+bare_use sign lines n (ends z c e) = (z, c)
+bare_use sign lines n (goes_on z m c e rest) = (z, c)
 
-  v_stays : (o : Option Dtv) → place least.0 ≡ o → put_found o (exist least.0).base [] ≡ exist least.0
-  v_stays None e = refl
-  v_stays (Some y) e =
-      let s : (u : ℕ) × IsTwinOf sign lines least.0 u × (y ≡ exist u) = (are least.0 y).0 e in
-      absurd (least.1.least s.0 s.1.less (twins_chain sign lines s.0 least.0 w s.1.are least.1.are))
+-- such uses of two of one class become one line
+module _ (sign : Variance) (lines : List Line) (class : ℕ → ℕ) (is : IsTwinning sign lines class) (w : ℕ) (some : class w ≢ w) where
+  own_use : (z : Dtv) × Contains lines (use_of sign w z)
+  own_use = by (is.leads w (class w) (sym (is.own w)))
+    where
+      by : (w ≡ class w) ⊎ LeadsOut sign lines w → (z : Dtv) × Contains lines (use_of sign w z)
+      by (inl e) = absurd (some (sym e))
+      by (inr l) = bare_use sign lines w l
 
-  w_goes : put_each place (exist w) ≡ exist least.0
-  w_goes = ap (λ (o : Option Dtv). put_found o (exist w).base []) (is ∙ ap Some least.2)
+  abbrev LeastUse : Type 0
+  LeastUse = (y : Dtv) × Contains lines (use_of sign (class w) y) × AreOne class (variance_of_word own_use.0.word ≡ Contra) y own_use.0
 
-  same_line : (s : Variance) (y : Dtv) → map_line (put_each place) (use_of s least.0 y) ≡ map_line (put_each place) (use_of s w y)
-  same_line Co y = ap (λ (x : Dtv). Sub (put_each place y) x) (v_stays (place least.0) refl ∙ sym w_goes)
-  same_line Contra y = ap (λ (x : Dtv). Sub x (put_each place y)) (v_stays (place least.0) refl ∙ sym w_goes)
+  least_use : LeastUse
+  least_use = match_bare sign lines class is w (class w) own_use.0 (sym (is.own w)) own_use.1
 
-  apart_lines : (s : Variance) (y : Dtv) → use_of s least.0 y ≢ use_of s w y
-  apart_lines Co y e =
-      let f : exist least.0 ≡ exist w = cc in
-      let g : (exist least.0).base ≡ (exist w).base = ap (λ (x : Dtv). x.base) f in
-      let h : least.0 ≡ w = cc in let lt = least.1.less in omega (arith, h, lt)
-  apart_lines Contra y e =
-      let f : exist least.0 ≡ exist w = cc in
-      let g : (exist least.0).base ≡ (exist w).base = ap (λ (x : Dtv). x.base) f in
-      let h : least.0 ≡ w = cc in let lt = least.1.less in omega (arith, h, lt)
+  same_line : (s : Variance) (y z : Dtv) → move class y ≡ move class z →
+      map_line (move class) (use_of s (class w) y) ≡ map_line (move class) (use_of s w z)
+  same_line Co y z e = λ i. Sub (e i) (exist (is.own w i))
+  same_line Contra y z e = λ i. Sub (exist (is.own w i)) (e i)
 
-  pub merged-length : length (tidied (map (map_line (put_each place)) lines)) < length lines
+  apart_lines : (s : Variance) (y z : Dtv) → use_of s (class w) y ≢ use_of s w z
+  apart_lines Co y z e = let f : exist (class w) ≡ exist w = cc in let g : Exist (class w) ≡ Exist w = ap (λ x. x.base) f in some (cc)
+  apart_lines Contra y z e = let f : exist (class w) ≡ exist w = cc in let g : Exist (class w) ≡ Exist w = ap (λ x. x.base) f in some (cc)
+
+  pub merged-length : length (tidied (refined class lines)) < length lines
   merged-length =
-      let a : AreTwins sign lines least.0 w = least.1.are in
-      let y : Dtv = a.some.0 in
-      let first : Contains lines (peer_line sign least.0 (Variable y)) = subst (Contains lines) (sym (peer_use sign least.0 y)) a.some.1 in
-      let second : Contains lines (use_of sign w y) = subst (Contains lines) (peer_use sign w y) ((a.one (Variable y)).0 first) in
-      let f : Line → Line = λ l. without_self (map_line (put_each place) l) in
-      let same : f (use_of sign least.0 y) ≡ f (use_of sign w y) = ap without_self (same_line sign y) in
-      let lt : IsFewer f [] lines = twice f [] lines (use_of sign least.0 y) (use_of sign w y) a.some.1 second (apart_lines sign y) same in
-      let e : length (tidied (map (map_line (put_each place)) lines)) ≡ length (inserted [] (map f lines)) =
-      ap (λ (ls : List Line). length (inserted [] ls)) (map-both (map_line (put_each place)) without_self lines) in
+      let z : Dtv = own_use.0 in
+      let y : Dtv = least_use.0 in
+      let f : Line → Line = λ l. without_self (map_line (move class) l) in
+      let same : f (use_of sign (class w) y) ≡ f (use_of sign w z) = ap without_self (same_line sign y z least_use.2.but_for) in
+      let lt : IsFewer f [] lines =
+      twice f [] lines (use_of sign (class w) y) (use_of sign w z) least_use.1 own_use.1 (apart_lines sign y z) same in
+      let e : length (tidied (refined class lines)) ≡ length (inserted [] (map f lines)) =
+      ap (λ (ls : List Line). length (inserted [] ls)) (map-both (map_line (move class)) without_self lines) in
       omega (arith, lt, e)
 
 pub turn_shrinks : (lines merged left : List Line) → BecomeOne lines merged → Puts left (tidied merged) → length left < length lines
 turn_shrinks lines merged left b p =
-    let e : length (tidied merged) ≡ length (tidied (map (map_line (put_each b.place)) lines)) =
-    ap (λ (ls : List Line). length (tidied ls)) b.is in
-    omega (arith, e, puts-length left (tidied merged) p, merged-length b.sign lines b.place b.are b.w b.z b.some)
+    let e : length (tidied merged) ≡ length (tidied (refined b.class lines)) = ap (λ (ls : List Line). length (tidied ls)) b.is in
+    omega (arith, e, puts-length left (tidied merged) p, merged-length b.sign lines b.class b.coarsest.twins b.w b.some)

@@ -9,9 +9,9 @@ use rt_lines::Lines;
 use rt_polar::put_away;
 use std::alloc::Global;
 
-/// What is left of the lines, tidied, when existentials gave their places away until none has a candidate, then all twins by
-/// definitions became one with the least, or else all twins by consumers, and so on in turn until there are none. The error
-/// is out of memory.
+/// What is left of the lines, tidied, when existentials gave their places away until none has a candidate, then all twins
+/// that are defined alike became one with the least of them, or else all that are consumed alike, and so on in turn until
+/// there are none. The error is out of memory.
 pub fn simplify(alloc: Global, lines: Lines) -> Result<Lines, Memory>
     ensures { IfOk result (λ left. Simplifies left (tidied lines)) }
 {

@@ -1,7 +1,7 @@
 -- Dead ends of inside existentials may become their shape.
 use Rattle.std.proofs.Common.{◌≡◌, ℕ, ◌⊎◌, inl, inr, List, ◌∷◌, ◌++◌, All, Contains, Bool, true, refl, sym, subst}
 use Rattle.std.proofs.lemmas.List.Elements.{Contains-append_cases, Contains-append_left, Contains-append_right, All-contains}
-use Rattle.rt_base.proofs.Lists.{Contains-here, Contains-there, Contains-cons_cases, Contains-middle, Contains-wider, Contains-middle_cases}
+use Rattle.rt_base.proofs.Lists.{Contains-middle, Contains-wider, Contains-middle_cases}
 use Rattle.rt_lines.specs.declared.variable.Base.{Base}
 use Rattle.rt_lines.specs.declared.variable.Base.TheVariants.{Exist}
 use Rattle.rt_lines.specs.declared.line.Line.{Line}
@@ -12,7 +12,7 @@ use Rattle.rt_rules.specs.Rules.Derivable.{named, same_line, same_sub, same_back
 use Rattle.rt_rules.specs.Alike.{IsOutside, Covers, Alike}
 use Rattle.rt_rules.proofs.Carry.{given}
 use Rattle.rt_rules.proofs.Covering.{covers_lines, Alike-refl, Alike-trans}
-use Rattle.rt_reduction.proofs.OneTwin.{not_outside}
+use Rattle.rt_reduction.proofs.Placing.{not_outside}
 use Rattle.rt_trim.specs.Trims.{IsFlowOf, IsEndOf, IsDeadEnd, shape_of, Trims}
 use Rattle.rt_trim.specs.Trims.Trims.{none_left, trims}
 use Rattle.rt_trim.specs.Laws.{TrimAlikeLaw, TrimsAlikeLaw}

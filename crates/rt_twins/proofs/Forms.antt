@@ -7,17 +7,8 @@ use Rattle.rt_lines.specs.declared.variable.Dtv.{Dtv}
 use Rattle.rt_lines.specs.Words.{label_variance, times, variance_of_word}
 use Rattle.rt_lines.proofs.Signs.{times-co, variance_of_word-append}
 use Rattle.rt_rules.specs.Rules.{longer}
+use Rattle.rt_twins.specs.Parts.{is_other, leads}
 use Rattle.rt_twins.specs.Twinnings.{IsLeftUse, IsRightUse}
-
--- whether a variable is a use of the sign as a left side; if not, it is one as a right side
-abbrev pub is_other : Variance → Variance → Bool
-is_other Co Co = false
-is_other Co Contra = true
-is_other Contra Co = true
-is_other Contra Contra = false
-
-abbrev pub leads : Variance → Dtv → Bool
-leads s x = is_other s (variance_of_word x.word)
 
 other_left : (s v : Variance) → is_other s v ≡ true → v ≡ times Contra s
 other_left Co Co e = absurd (cc)
@@ -30,6 +21,20 @@ other_right Co Co e = refl
 other_right Co Contra e = absurd (cc)
 other_right Contra Co e = absurd (cc)
 other_right Contra Contra e = refl
+
+other_of_left : (s v : Variance) → v ≡ times Contra s → is_other s v ≡ true
+other_of_left Co v e = ap (is_other Co) e
+other_of_left Contra v e = ap (is_other Contra) e
+
+other_of_right : (s v : Variance) → v ≡ s → is_other s v ≡ false
+other_of_right Co v e = ap (is_other Co) e
+other_of_right Contra v e = ap (is_other Contra) e
+
+pub left_leads : (s : Variance) (x : Dtv) → IsLeftUse s x.word → leads s x ≡ true
+left_leads s x e = other_of_left s (variance_of_word x.word) e
+
+pub right_leads : (s : Variance) (x : Dtv) → IsRightUse s x.word → leads s x ≡ false
+right_leads s x e = other_of_right s (variance_of_word x.word) e
 
 pub leads_left : (s : Variance) (x : Dtv) → leads s x ≡ true → IsLeftUse s x.word
 leads_left s x e = other_left s (variance_of_word x.word) e

@@ -4,3 +4,9 @@ pub mod Bounding
 pub mod Twinning
 pub mod OneTwinning
 pub mod Resting
+pub mod Splitting
+pub mod Turning
+pub mod Starting
+pub mod Gathering
+pub mod Following
+pub mod Comparing

@@ -1,9 +1,12 @@
-use Rattle.std.proofs.Common.{List, Bool, sym, subst, ◌∙◌}
+use Rattle.std.proofs.Common.{◌≡◌, List, Bool, inr, refl, sym, subst, ◌∙◌}
 use Rattle.std.specs.List.{remove}
+use Rattle.std.proofs.lemmas.List.{get_or_default}
 use Rattle.std.proofs.lemmas.Option.{IfSome_then}
 use Rattle.rt_lines.specs.declared.line.Line.{Line}
+use Rattle.rt_rules.specs.Rules.{Derivable}
 use Rattle.rt_reduce.specs.Deciding.{IsOuterFor}
-use Rattle.rt_reduce.proofs.Flags.{outer_for}
+use Rattle.rt_witness.specs.Witnesses.{IsLeft}
+use Rattle.rt_reduce.proofs.Flags.{left_gone, outer_for}
 use Rattle.rt_reduce.proofs.dropping.drop_at.Goals as goal
 
 pub is_derivable-requires-clause-outer : goal.is_derivable-requires-clause-outer
@@ -12,6 +15,36 @@ is_derivable-requires-clause-outer c =
     let stands = c.args.stands.now.items in
     let line = c.remove-line.result in
     IfSome_then c.args.outer c.requires.standing (λ t are.
-    subst (λ (ls : List Line). IsOuterFor ls c.deref.result.now line t.now) (sym (c.deref-2.ensures.value ∙ c.remove-line.ensures.items))
-    (subst (λ (fs : List Bool). IsOuterFor (remove left c.args.place) fs line t.now) (sym c.deref.ensures.value)
+    subst (λ (ls : List Line). IsOuterFor ls c.deref-2.result.now line t.now) (sym (c.deref-3.ensures.value ∙ c.remove-line.ensures.items))
+    (subst (λ (fs : List Bool). IsOuterFor (remove left c.args.place) fs line t.now) (sym c.deref-2.ensures.value)
     (outer_for left stands c.args.place t.now are line (c.args.place, c.requires.within, sym c.remove-line.ensures.value))))
+
+pub is_derivable-requires-clause-witnesses : goal.is_derivable-requires-clause-witnesses
+is_derivable-requires-clause-witnesses c =
+    let left = c.args.left.now.items in
+    let stands = c.args.stands.now.items in
+    let (lines, is, are) = c.requires.witnesses in (
+      lines,
+      is,
+      subst (λ (ls : List Line). IsLeft lines c.deref-2.result.now ls) (sym (c.deref-3.ensures.value ∙ c.remove-line.ensures.items))
+          (subst (λ (fs : List Bool). IsLeft lines fs (remove left c.args.place)) (sym c.deref-2.ensures.value)
+          (left_gone lines left stands c.args.place are)),
+    )
+
+pub returns-then-is_missing-clause-decides : goal.returns-then-is_missing-clause-decides
+returns-then-is_missing-clause-decides c = λ l e.
+    let left = c.args.left.now.items in
+    let stands = c.args.stands.now.items in
+    let (lines, is, are) = c.requires.witnesses in
+    let flags : IsLeft lines c.deref.result.now (remove left c.args.place) =
+    subst (λ (fs : List Bool). IsLeft lines fs (remove left c.args.place)) (sym c.deref.ensures.value)
+    (left_gone lines left stands c.args.place are)
+    in
+    let same : l ≡ c.index.result.now =
+    e ∙ get_or_default left c.args.place l c.index.result.now c.requires.within ∙ sym c.index.ensures
+    in
+    inr (
+      λ d. c.is_missing.ensures c.if-is_missing.true c.args.order.now lines (remove left c.args.place) is flags
+          (subst (λ (k : Line). Derivable c.args.order.now (remove left c.args.place) k) same d),
+      refl,
+    )

@@ -1,12 +1,14 @@
-use Rattle.std.proofs.Common.{rules, ◌≡◌, ◌+◌, ◌-◌, suc, List, All, Contains, true, length, replicate, sym, ap, subst, ◌∙◌, arith}
+use Rattle.std.proofs.Common.{rules, ◌≡◌, ◌+◌, ◌-◌, suc, [], List, All, Contains, true, length, replicate, sym, ap, subst, ◌∙◌, arith}
 use Rattle.std.proofs.lemmas.Grind.{common_steps}
 use Rattle.std.proofs.lemmas.List.{length-replicate}
 use Rattle.std.proofs.lemmas.Option.{IfSome_then}
 use Rattle.rt_lines.specs.declared.line.Line.{Line}
 use Rattle.rt_lines.specs.Lines.{HasConstantsBelow}
-use Rattle.rt_reduce.specs.Deciding.{AreStanding}
-use Rattle.rt_reduce.proofs.Flags.{first_standing, moved_long, moved_standing, referred}
-use Rattle.rt_reduce.proofs.Leaving.{AreLeft-all, AreLeft-next, left_below, left_long, left_stood}
+use Rattle.rt_named.specs.Naming.{named as named_by}
+use Rattle.rt_reduction.specs.Drops.{Drops}
+use Rattle.rt_reduce.specs.Deciding.{AreStanding, AreWitnessed}
+use Rattle.rt_reduce.proofs.Flags.{first_standing, first_witnessed, moved_long, moved_standing, referred}
+use Rattle.rt_reduce.proofs.Leaving.{AreLeft-all, AreLeft-next, AreLeft-none, left_below, left_long, left_stood}
 use Rattle.rt_reduce.proofs.dropping.drop_derivable.Goals as goal
 
 pub loop-place-init : goal.loop-place-init
@@ -28,6 +30,7 @@ loop-place-init c =
       flags = omega (arith, g, n);
       standing = referred (AreStanding left stands c.len-place.result) c.in_ok-made.made c.as_ref-outer.result c.as_ref-outer.ensures.value
           (IfSome_then c.in_ok-made.made c.in_ok-made.ensures (λ t own. first_standing lines left stands c.len-place.result t own e s g));
+      witnessed = first_witnessed lines left stands c.len-place.result e s g;
     }
 
 pub drop_at-requires-clause-flags : goal.drop_at-requires-clause-flags
@@ -39,6 +42,15 @@ drop_at-requires-clause-standing c =
     let e : place ≡ (place - 1) + 1 = omega (arith, c.loop-place-test.true) in
     IfSome_then c.as_ref-outer.result c.loop-place.invariant.standing
     (λ t are. subst (λ n. AreStanding c.loop-place.left.items c.loop-place.stands.items n t.now) e are)
+
+pub drop_at-requires-clause-witnesses : goal.drop_at-requires-clause-witnesses
+drop_at-requires-clause-witnesses c =
+    let place = c.loop-place.place in
+    let e : place ≡ (place - 1) + 1 = omega (arith, c.loop-place-test.true) in (
+      c.args.lines.now,
+      c.in_ok-witnesses.ensures,
+      subst (AreWitnessed c.args.lines.now c.loop-place.left.items c.loop-place.stands.items) e c.loop-place.invariant.witnessed,
+    )
 
 pub loop-place-preserved : goal.loop-place-preserved
 loop-place-preserved c =
@@ -62,4 +74,12 @@ loop-place-preserved c =
       flags = omega (arith, n, inv.flags);
       standing = IfSome_then c.as_ref-outer.result inv.standing
           (λ t are. moved_standing left now stands flags (place - 1) t.now moved (subst (λ k. AreStanding left stands k t.now) e are));
+      witnessed = moved_standing left now stands flags (place - 1) (record { lines = c.args.lines.now; named = named_by c.args.lines.now [] }) moved
+          (subst (AreWitnessed c.args.lines.now left stands) e inv.witnessed);
     }
+
+pub returns-clause-drops : goal.returns-clause-drops
+returns-clause-drops c =
+    subst (Drops c.args.order.now [] c.args.lines.now) (sym c.from_vec.ensures)
+    (AreLeft-none c.args.order.now c.args.lines.now c.loop-place.left.items c.loop-place.place (omega (arith, c.loop-place-test.false))
+    c.loop-place.invariant.are_left)

@@ -2,7 +2,7 @@ use Rattle.std.proofs.Common.{◌≤◌, All, Contains, length}
 use Rattle.std.specs.Option.{IfSome}
 use Rattle.rt_lines.specs.declared.line.Line.{Line}
 use Rattle.rt_lines.specs.Lines.{HasConstantsBelow}
-use Rattle.rt_reduce.specs.Deciding.{AreStanding}
+use Rattle.rt_reduce.specs.Deciding.{AreStanding, AreWitnessed}
 use Rattle.rt_reduce.proofs.Leaving.{AreLeft}
 use Rattle.rt_reduce.proofs.dropping.drop_derivable.Given as goal
 
@@ -15,6 +15,7 @@ invariant-loop-place l = record {
   are_left : AreLeft l.order l.lines l.place l.left.items;
   flags : l.place ≤ length l.stands.items;
   standing : IfSome l.outer (λ t. AreStanding l.left.items l.stands.items l.place t.now);
+  witnessed : AreWitnessed l.lines l.left.items l.stands.items l.place;
 }
 
 abbrev pub decreases-loop-place : goal.decreases-loop-place

@@ -1,4 +1,3 @@
-use Rattle.std.proofs.Common.{true}
 use Rattle.rt_reduce.proofs.Compared.{first_compared, named_side, unknown_none, unnamed_none}
 use Rattle.rt_reduce.proofs.merging.first_equal.Goals as goal
 

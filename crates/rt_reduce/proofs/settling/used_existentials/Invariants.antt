@@ -1,7 +1,7 @@
 use Rattle.std.proofs.Common.{take}
 use Rattle.std.specs.BTreeSet.{contains}
 use Rattle.std.specs.Ordering.{nat_cmp}
-use Rattle.rt_simplify.specs.Uses.{AreOfLines}
+use Rattle.rt_twins.specs.Leading.{AreOfLines}
 use Rattle.rt_reduce.specs.Settling.{IsUsedBy}
 use Rattle.rt_reduce.proofs.settling.used_existentials.Given as goal
 

@@ -72,7 +72,7 @@ returns c =
     let none : (n : ℕ) → pending n ≡ true → ⊥ =
     λ n e. none_in (λ k. is_eq (nat_cmp n k)) c.loop-existential.pending.keys (λ h. let f : false ≡ true =
     c.in_default.ensures.variant.1 h in cc) e in
-    split_is c.args.side c.args.lines.now class (length c.args.lines.now) (has c.in_ok-index.index) v.index (class_of place)
+    split_is c.args.side c.args.lines.now (class_of (get nat_cmp c.args.moves.now)) class (length c.args.lines.now) (has c.in_ok-index.index) v.index (class_of place)
     c.loop-existential.changed (led_last key named pending leaders place none v.led)
     (λ e. stays_last key named class pending leaders place v.led none (v.same e))
     (λ e. differs_last key named class pending leaders place v.led (v.differs e))

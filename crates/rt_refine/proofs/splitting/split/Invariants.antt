@@ -11,7 +11,7 @@ use Rattle.rt_refine.proofs.splitting.split.Given as goal
 
 abbrev pub invariant-loop-existential : goal.invariant-loop-existential
 invariant-loop-existential l = record {
-  index : IsUseIndex l.fn.side l.lines (class_of (get nat_cmp l.classes)) (length l.lines) (has l.index);
+  index : IsUseIndex l.fn.side l.lines (class_of (get nat_cmp l.moves)) (length l.lines) (has l.index);
   led : AreLed (use_key (class_of (get nat_cmp l.classes)) (length l.lines) (has l.index)) (IsNamed l.lines)
       (contains nat_cmp l.pending)
       (HasNumber nat_cmp l.leaders) (get nat_cmp l.parts);

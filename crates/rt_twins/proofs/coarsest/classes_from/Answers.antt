@@ -1,0 +1,28 @@
+use Rattle.std.proofs.Common.{◌∙◌}
+use Rattle.std.specs.BTreeMap.{get}
+use Rattle.std.specs.Ordering.{nat_cmp}
+use Rattle.rt_refine.specs.Groups.{class_of}
+use Rattle.rt_twins.proofs.Turning.{coarsest, fewer}
+use Rattle.rt_twins.proofs.coarsest.classes_from.Goals as goal
+
+pub loop-changed-init : goal.loop-changed-init
+loop-changed-init c = record { exact = c.in_ok-now.ensures; stable = λ e. absurd (cc) }
+
+pub loop-changed-preserved : goal.loop-changed-preserved
+loop-changed-preserved c =
+    let s = c.in_ok-parts.ensures c.args.sign c.args.lines.now
+    (c.items.ensures ∙ c.in_ok-lefts.ensures) (c.items-in-loop-changed.ensures ∙ c.in_ok-rights.ensures) c.loop-changed.invariant.exact in
+    record { exact = s.exact; stable = s.stable }
+
+pub loop-changed-smaller : goal.loop-changed-smaller
+loop-changed-smaller c =
+    let s = c.in_ok-parts.ensures c.args.sign c.args.lines.now
+    (c.items.ensures ∙ c.in_ok-lefts.ensures) (c.items-in-loop-changed.ensures ∙ c.in_ok-rights.ensures) c.loop-changed.invariant.exact in
+    fewer c.args.sign c.args.lines.now (class_of (get nat_cmp c.loop-changed.now)) (class_of (get nat_cmp c.in_ok-parts.parts))
+    c.loop-changed.changed
+    c.in_ok-parts.more c.loop-changed-test.true s
+
+pub returns : goal.returns
+returns c =
+    coarsest c.args.sign c.args.lines.now (class_of (get nat_cmp c.loop-changed.now)) c.loop-changed.invariant.exact.are
+    (c.loop-changed.invariant.stable c.loop-changed-test.false)

@@ -1,0 +1,4 @@
+pub mod Fronts
+pub mod There
+pub mod Numbers
+pub mod Names
