@@ -1,4 +1,11 @@
+mod Calling
 mod Real
 mod Walk
 mod Objects
 mod Told
+mod Letters
+mod Using
+mod Entries
+mod Naming
+mod Members
+mod Chosen

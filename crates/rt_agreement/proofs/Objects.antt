@@ -4,15 +4,13 @@ use Rattle.std.specs.Prelude.{All, Contains, int_lt}
 use Rattle.std.specs.Int.{int_wrap, w32}
 use Rattle.std.specs.List.{list_any}
 use Rattle.std.specs.Ordering.{int_eq}
-use Rattle.std.proofs.lemmas.List.Elements.{All-nil, All-cons, All-append, All-contains, All-head, All-map, All-tail, Contains-append_cases, Contains-append_right}
+use Rattle.std.proofs.lemmas.List.Elements.{All-nil, All-cons, All-append, All-contains, All-head, All-map, All-tail, Contains-append_cases}
 use Rattle.rt_base.proofs.Lists.{Contains-none, Contains-here, Contains-there, Contains-cons_cases}
 use Rattle.rt_flow.specs.declared.def.Def.{Def}
 use Rattle.rt_flow.specs.declared.def.Def.TheVariants as def
 use Rattle.rt_track.specs.declared.value.Value.{Value}
 use Rattle.rt_track.specs.declared.value.Value.TheVariants as value
 use Rattle.rt_track.specs.Values.{plus}
-use Rattle.rt_body.specs.declared.action.Action.{Action}
-use Rattle.rt_body.specs.declared.action.Action.TheVariants as action
 use Rattle.rt_body.specs.declared.action.Address.{Address}
 use Rattle.rt_body.specs.declared.action.Address.TheVariants as address
 use Rattle.rt_body.specs.Readings.{action_at}
@@ -21,7 +19,7 @@ use Rattle.rt_frame.specs.declared.question.Question.TheVariants.{OfUse, OfDefin
 use Rattle.rt_frame.specs.declared.spot.Spot.{Spot}
 use Rattle.rt_frame.specs.declared.spot.Spot.TheVariants as spot
 use Rattle.rt_frame.specs.Frames.{IsFrameOf, IsOfFrame, greatest_upto, is_from_to, later_or, spot_at, spot_from}
-use Rattle.rt_frame.specs.Questions.{address_questions, data_questions, def_value, is_multi}
+use Rattle.rt_frame.specs.Questions.{def_value, is_multi}
 use Rattle.rt_lines.specs.declared.label.Label.{Label}
 use Rattle.rt_lines.specs.declared.line.Line.{Line}
 use Rattle.rt_lines.specs.declared.line.Line.TheVariants as line
@@ -44,7 +42,7 @@ use Rattle.rt_table.specs.declared.side.Side.{Side}
 use Rattle.rt_table.specs.declared.side.Side.TheVariants.{Variable, Code}
 use Rattle.rt_table.specs.Table.{AreProcedureRows, Context, Target, Member, Scheme, Held, Unknown, argument, at_side, calls_of, def_side, def_written, entry_side, filled, if_nothing_added, if_zero, instance_rows, is_argument, linked_at, merge_name, new_name, new_root, new_row, pointer, scheme_rows, spot_pointer, symbol_side, target_at, through, use_side, value_pointer, value_side}
 use Rattle.rt_agreement.specs.Objects.{AreToldCalls, IsAsked}
-use Rattle.rt_agreement.proofs.Walk.{AreKept, AreTerms, IsAddressOf, IsGood, IsGoodItem, IsPointerOf, IsSideOf, asks-action, good-items, good-written, written-good}
+use Rattle.rt_agreement.proofs.Walk.{AreKept, AreTerms, IsAddressOf, IsGood, IsGoodItem, IsPointerOf, IsSideOf, asks-address, good-items, good-written, written-good}
 
 -- the greatest of offsets that isn't above one is one of them
 greatest_there : (k : ℤ) (offsets : List ℤ) (a : ℤ) → greatest_upto k offsets ≡ Some a → Contains offsets a
@@ -187,33 +185,6 @@ module _ (context : Context) (frame : IsFrameOf context.reading (calls_of contex
   values (value.Const n) = tt
   values value.Multi = tt
 
-  -- several values of an address's register are asked for
-  asks_address : (site r : ℕ) (k : ℤ) (act : Action) → site < length context.reading.actions → action_at context.reading.actions site ≡ act → IsAddressOf (address.Register r k) act
-      → is_multi (context.reading.value_at site r) ≡ true → IsAsked context site (OfUse site r)
-  asks_address site r k act less e is several_there = by act e is
-    where
-      asked_there : Contains (address_questions context.reading site (address.Register r k)) (OfUse site r)
-      asked_there = subst (λ b. Contains (cond b (OfUse site r ∷ []) []) (OfUse site r)) (sym several_there) (Contains-here (OfUse site r) [])
-
-      by : (act : Action) → action_at context.reading.actions site ≡ act → IsAddressOf (address.Register r k) act → IsAsked context site (OfUse site r)
-      by (action.Load l to a) e is =
-          asks-action context site (action.Load l to a) (OfUse site r) less e (subst (λ (b : Address). Contains (address_questions context.reading site b) (OfUse site r)) is asked_there)
-      by (action.Store w stored a) e is =
-          asks-action context site (action.Store w stored a) (OfUse site r) less e
-          (Contains-append_right (data_questions site stored w) (address_questions context.reading site a) (OfUse site r)
-          (subst (λ (b : Address). Contains (address_questions context.reading site b) (OfUse site r)) is asked_there))
-      by (action.Constant to v) e is = absurd is
-      by (action.Symbol to g a) e is = absurd is
-      by (action.AddImmediate to from n) e is = absurd is
-      by (action.Add to left right) e is = absurd is
-      by (action.Compute o to left right) e is = absurd is
-      by (action.Compare left right) e is = absurd is
-      by (action.Write to) e is = absurd is
-      by action.Pass e is = absurd is
-      by (action.Call callee link) e is = absurd is
-      by action.Return e is = absurd is
-      by action.Stop e is = absurd is
-
   addressed : (site : ℕ) (a : Address) → site < length context.reading.actions → IsAddressOf a (action_at context.reading.actions site)
       → IsPointerOf IsFineTerm (pointer context site a)
   addressed site (address.Symbol g addend) less is = values (value.Sym g addend)
@@ -221,7 +192,7 @@ module _ (context : Context) (frame : IsFrameOf context.reading (calls_of contex
     where
       by : (b : Bool) → is_multi (context.reading.value_at site r) ≡ b
           → IsPointerOf IsFineTerm (cond b (Through (record { root = root.Named (merge_name context site r); word = [] }) k) (value_pointer context (plus (context.reading.value_at site r) k)))
-      by true e = (asks_address site r k (action_at context.reading.actions site) less refl is e, several (context.reading.value_at site r) e)
+      by true e = (asks-address context site r k (action_at context.reading.actions site) less refl is e, several (context.reading.value_at site r) e)
       by false e = values (plus (context.reading.value_at site r) k)
 
   -- Merges.

@@ -1,5 +1,5 @@
 -- Real definitions are one notion.
-use Rattle.std.proofs.Common.{◌≡◌, ◌∙◌, ◌⊎◌, inl, inr, ℕ, zero, suc, ◌+◌, ◌-◌, ◌<◌, ◌≤◌, pos, true, false, cond, ◌&&◌, nat_le, true≢false, Option, Some, None, List, [], ◌∷◌, ◌++◌, map, length, get_or, option_map, Contains, ap, arith, refl, subst, sym}
+use Rattle.std.proofs.Common.{◌≡◌, ◌∙◌, ◌⊎◌, inl, inr, ℕ, ◌+◌, ◌-◌, ◌<◌, ◌≤◌, pos, true, false, cond, ◌&&◌, nat_le, true≢false, Option, Some, None, List, [], ◌∷◌, ◌++◌, map, length, get_or, option_map, Contains, ap, arith, refl, subst, sym}
 use Rattle.std.specs.Prelude.{◌↔◌, IsTrue, slice_get}
 use Rattle.std.specs.List.{list_any}
 use Rattle.std.proofs.lemmas.Bool.{cases_lt}
@@ -34,6 +34,7 @@ use Rattle.rt_liveness.specs.Calls.{AreCallsAt, AreCallsIn, gives_result}
 use Rattle.rt_liveness.specs.Gives.{Gives, HasReal}
 use Rattle.rt_liveness.proofs.Meeting.{any_some, some_any}
 use Rattle.rt_frame.specs.Questions.{calls_at, first_gives, is_call_action, is_real}
+use Rattle.rt_agreement.proofs.Calling.{inside}
 
 -- no instruction is a call
 insn_no_call : (at : ℕ → ℕ) (link : Option Link) (insn : Insn) → is_call_action (insn_action at link insn) ≡ false
@@ -101,12 +102,6 @@ kind_call at link (kind.Plain insn) = insn_no_call at link insn
 kind_call at link (kind.Call callee register) = refl
 kind_call at link kind.Return = refl
 kind_call at link kind.Stop = refl
-
--- what a list holds inside, it gives
-inside : {X : Type 0} (xs : List X) (k : ℕ) → k < length xs → (x : X) × (slice_get xs k ≡ Some x)
-inside [] k less = absurd (omega (arith, less))
-inside (x ∷ xs) zero less = (x, refl)
-inside (x ∷ xs) (suc k) less = inside xs k (omega (arith, less))
 
 module _ (program : Program) (q : ℕ) (proc : Proc) (reading : Reading) (calls : List (List Call)) (is_proc : slice_get program.procs q ≡ Some proc)
     (is_read : slice_get program.readings q ≡ Some reading) (is : IsReading program.object proc reading) (are : AreCallsIn program q proc calls) (r : ℕ) (few : r ≤ 1) where

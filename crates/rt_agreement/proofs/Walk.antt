@@ -18,6 +18,7 @@ use Rattle.rt_track.specs.declared.value.Value.TheVariants as value
 use Rattle.rt_body.specs.declared.action.Action.{Action}
 use Rattle.rt_body.specs.declared.action.Action.TheVariants as action
 use Rattle.rt_body.specs.declared.action.Address.{Address}
+use Rattle.rt_body.specs.declared.action.Address.TheVariants as address
 use Rattle.rt_body.specs.declared.action.Loaded.{Loaded}
 use Rattle.rt_body.specs.declared.action.Loaded.TheVariants as loaded
 use Rattle.rt_body.specs.declared.action.Operation.{Operation}
@@ -34,7 +35,7 @@ use Rattle.rt_frame.specs.declared.question.Question.TheVariants.{OfUse, OfDefin
 use Rattle.rt_frame.specs.declared.spot.Spot.{Spot}
 use Rattle.rt_frame.specs.declared.spot.Spot.TheVariants as spot
 use Rattle.rt_frame.specs.Frames.{spot_at, is_frame}
-use Rattle.rt_frame.specs.Questions.{action_questions, addition_questions, address_value, address_questions, call_questions, calls_at, compute_questions, data_questions, is_call_action, is_kept, operand, questions, results, target_questions}
+use Rattle.rt_frame.specs.Questions.{action_questions, addition_questions, address_value, address_questions, call_questions, calls_at, compute_questions, data_questions, is_call_action, is_kept, is_multi, operand, questions, results, target_questions}
 use Rattle.rt_frame.specs.Questions.{addition as addition_at}
 use Rattle.rt_rows.specs.declared.name.Name.{Name}
 use Rattle.rt_rows.specs.declared.name.Name.TheVariants as name
@@ -143,6 +144,33 @@ asks-held context site linked r less there e plain =
     (Contains-append_left (target_questions site linked.call.is_plain linked.call.callee) (map uses (taken_registers linked.call)) (OfUse site r)
     (subst (λ (qs : List Question). Contains qs (OfUse site r)) (sym same) (Contains-here (OfUse site r) [])))
 
+-- several values of an address's register are asked for
+pub asks-address : (context : Context) (site r : ℕ) (k : ℤ) (act : Action) → site < length context.reading.actions → action_at context.reading.actions site ≡ act → IsAddressOf (address.Register r k) act
+    → is_multi (context.reading.value_at site r) ≡ true → IsAsked context site (OfUse site r)
+asks-address context site r k act less e is several_there = by act e is
+  where
+    asked_there : Contains (address_questions context.reading site (address.Register r k)) (OfUse site r)
+    asked_there = subst (λ b. Contains (cond b (OfUse site r ∷ []) []) (OfUse site r)) (sym several_there) (Contains-here (OfUse site r) [])
+
+    by : (act : Action) → action_at context.reading.actions site ≡ act → IsAddressOf (address.Register r k) act → IsAsked context site (OfUse site r)
+    by (action.Load l to a) e is =
+        asks-action context site (action.Load l to a) (OfUse site r) less e (subst (λ (b : Address). Contains (address_questions context.reading site b) (OfUse site r)) is asked_there)
+    by (action.Store w stored a) e is =
+        asks-action context site (action.Store w stored a) (OfUse site r) less e
+        (Contains-append_right (data_questions site stored w) (address_questions context.reading site a) (OfUse site r)
+        (subst (λ (b : Address). Contains (address_questions context.reading site b) (OfUse site r)) is asked_there))
+    by (action.Constant to v) e is = absurd is
+    by (action.Symbol to g a) e is = absurd is
+    by (action.AddImmediate to from n) e is = absurd is
+    by (action.Add to left right) e is = absurd is
+    by (action.Compute o to left right) e is = absurd is
+    by (action.Compare left right) e is = absurd is
+    by (action.Write to) e is = absurd is
+    by action.Pass e is = absurd is
+    by (action.Call callee link) e is = absurd is
+    by action.Return e is = absurd is
+    by action.Stop e is = absurd is
+
 -- Registers of arguments.
 
 first_part : (a b : Bool) → (a && b) ≡ true → a ≡ true
@@ -169,7 +197,7 @@ argument_there n less =
     by (suc (suc (suc (suc (suc (suc (suc zero))))))) less = refl
     by (suc (suc (suc (suc (suc (suc (suc (suc n)))))))) less = absurd (omega (arith, less))
 
-taken_least : (call : Call) (r : ℕ) → Contains (taken_registers call) r → 10 ≤ r
+pub taken_least : (call : Call) (r : ℕ) → Contains (taken_registers call) r → 10 ≤ r
 taken_least call r c =
     let takes : takes_register call r ≡ true = (filter-source (takes_register call) (10 ∷ 11 ∷ 12 ∷ 13 ∷ 14 ∷ 15 ∷ 16 ∷ 17 ∷ []) r c).1 in
     let least : nat_le 10 r ≡ true = first_part (nat_le 10 r) (nat_le r 17) (first_part (nat_le 10 r && nat_le r 17) (slice_index_or call.takes (r - 10) false) takes) in

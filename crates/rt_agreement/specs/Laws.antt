@@ -1,13 +1,17 @@
--- That real definitions are one notion, and that rows name only objects of the frame that are taken.
+-- That real definitions are one notion, that rows name only objects of the frame that are taken, and that schemes name
+-- only argument registers that are taken.
 use Rattle.std.specs.Prelude.{◌≡◌, ◌↔◌, ◌≤◌, ℕ, ℤ, Some, Option, true, List, Contains, slice_get}
 use Rattle.std.specs.List.{list_any}
+use Rattle.rt_lines.specs.Orders.{Below}
 use Rattle.rt_proc.specs.declared.proc.Proc.{Proc}
+use Rattle.rt_proc.specs.Procs.{AreProcs}
+use Rattle.rt_calls.specs.Calls.{AreGroupsOf}
 use Rattle.rt_body.specs.Readings.{Reading}
 use Rattle.rt_body.specs.Right.{IsReading}
 use Rattle.rt_lattice.specs.declared.roles.Roles.{Roles}
 use Rattle.rt_scheme.specs.declared.scheme.Scheme.{Scheme}
 use Rattle.rt_liveness.specs.declared.call.Call.{Call}
-use Rattle.rt_liveness.specs.Programs.{Program}
+use Rattle.rt_liveness.specs.Programs.{IsProgram, Program}
 use Rattle.rt_liveness.specs.Calls.{AreCallsIn}
 use Rattle.rt_liveness.specs.Gives.{HasReal, result_register}
 use Rattle.rt_frame.specs.Frames.{IsFrameOf}
@@ -17,7 +21,8 @@ use Rattle.rt_rows.specs.declared.row.Row.{Row}
 use Rattle.rt_rows.specs.Terms.{row_names}
 use Rattle.rt_table.specs.Table.{AreProcedureRows, Context, calls_of}
 use Rattle.rt_table.specs.Facts.{Knowledge, AreKnown}
-use Rattle.rt_table.specs.Lists.{IsContext}
+use Rattle.rt_table.specs.Lists.{AreRowsOf, IsContext}
+use Rattle.rt_solve.specs.Solved.{AreSolved}
 use Rattle.rt_agreement.specs.Objects.{AreToldCalls, NameTaken}
 
 -- Of a procedure of which this is known, with these calls at its sites: by the questions of its frame a real definition of the register of
@@ -46,3 +51,26 @@ CallsTold =
     (context : Context) → AreKnown program known → NameTaken program schemes group
     → IsContext program known roles schemes group number context
     → IsFrameOf context.reading (calls_of context) context.frame × AreToldCalls context
+
+-- Schemes that are chosen name only argument registers that their procedures take. Where the schemes of a program's
+-- procedures are solved, this is so of those outside a group, whatever the group, and so of all.
+abbrev pub ChosenTaken : Type 0
+ChosenTaken =
+    (program : Program) (ends : List ℕ) (roles : Roles) (order : Below) (groups : List (List ℕ))
+    (schemes : List (Option Scheme)) (group : List ℕ)
+    → IsProgram program → AreProcs program.object ends program.procs → AreGroupsOf program.procs groups
+    → AreSolved program.object roles order program.procs program.signatures groups schemes
+    → NameTaken program schemes group
+
+-- So the rows of a procedure, where callees have the schemes that are chosen for them, name only objects of its own,
+-- which begin at offsets that are taken in its frame.
+abbrev pub ChosenObjects : Type 0
+ChosenObjects =
+    (program : Program) (ends : List ℕ) (roles : Roles) (order : Below) (groups : List (List ℕ))
+    (schemes : List (Option Scheme)) (known : List Knowledge) (group : List ℕ) (number : ℕ) (rows : List Row) (row : Row)
+    (procedure : ℕ) (start : ℤ)
+    → AreKnown program known → AreProcs program.object ends program.procs → AreGroupsOf program.procs groups
+    → AreSolved program.object roles order program.procs program.signatures groups schemes
+    → (are_rows : AreRowsOf program known roles schemes group number rows)
+    → Contains rows row → Contains (row_names row) (Object procedure start)
+    → (procedure ≡ number) × Contains are_rows.context.frame.layout.taken start
