@@ -16,3 +16,5 @@ pub mod Opening
 pub mod Compared
 pub mod Going
 pub mod Anew
+pub mod Unbounded
+pub mod Made

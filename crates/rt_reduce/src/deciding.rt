@@ -1,5 +1,5 @@
 // Whether a line is derivable from others, which are some of the lines of arcs from outside.
-ghost use Rattle.std.specs.Prelude.{◌≡◌, ◌↔◌, ◌<◌, List, All, Contains, IsTrue, true, IfOk, IfSome};
+ghost use Rattle.std.specs.Prelude.{◌≡◌, ◌∷◌, ◌↔◌, ◌<◌, List, All, Contains, IsTrue, true, IfOk, IfSome};
 ghost use Rattle.rt_lines.specs.declared.line.Line.{Line as Given};
 ghost use Rattle.rt_lines.specs.declared.line.Line.TheVariants.{Low as LowerBound, Sub as Subtype, Up as UpperBound, Var as Exists};
 ghost use Rattle.rt_lines.specs.Lines.{HasConstantsBelow};
@@ -7,24 +7,28 @@ ghost use Rattle.rt_lines.specs.Orders.{Below};
 ghost use Rattle.rt_rules.specs.Rules.{Derivable};
 ghost use Rattle.rt_outline.specs.Lines.{standing};
 ghost use Rattle.rt_witness.specs.Witnesses.{IsLeft, IsWitnesses};
-ghost use Rattle.rt_reduce.specs.Deciding.{IsOuterFor, IsUpperWith, Tells};
+ghost use Rattle.rt_reduce.specs.Deciding.{IsInnerFor, IsOuterFor, IsShapeAmong, IsUpperWith, Tells};
 
 use crate::bounds::{lows, ups};
 use crate::derivable::derives_line;
+use crate::early::is_told;
 use crate::merging::push_sides;
 use crate::opened::seen;
 use rt_base::Memory;
 use rt_lines::{Dtv, Line, Order};
-use rt_outline::{Led, Upper};
+use rt_outline::{Led, Lower, Upper};
+use rt_shape::Shape;
 use rt_witness::Witnesses;
 use std::alloc::Global;
 use std::slice;
 
 // Whether the line is derivable from the lines left: by arcs from outside and by which lines name which variables, where these
-// tell, else by what is left.
+// tell, else by a shape and arcs from inside that were made before, else by what is left.
 pub fn is_derivable(
     alloc: Global,
     outer: Option<&Upper>,
+    inner: Option<&Lower>,
+    front: Option<&Shape>,
     witnesses: &Witnesses,
     stands: &[bool],
     left: &[Line],
@@ -32,16 +36,22 @@ pub fn is_derivable(
     line: &Line,
 ) -> Result<bool, Memory>
     requires outer { IfSome outer (λ t. IsOuterFor left.now stands.now line.now t.now) }
+    requires inner { IfSome inner (λ t. IsInnerFor order.now (line.now ∷ left.now) t.now) }
+    requires front { IfSome front (λ s. IsShapeAmong left.now s.now) }
     requires witnesses { (lines : List Given) × IsWitnesses lines witnesses.now × IsLeft lines stands.now left.now }
     requires constants { All (HasConstantsBelow order.now.count) left.now }
     requires constant { HasConstantsBelow order.now.count line.now }
     ensures { IfOk result (λ yes. IsTrue yes ↔ Derivable order.now left.now line.now) }
 {
     match told(alloc, outer, witnesses, stands, left, order, line)? {
-        Led::No => Ok(false),
-        Led::Yes => Ok(true),
-        Led::Open => derives_open(alloc, left, order, line),
+        Led::No => return Ok(false),
+        Led::Yes => return Ok(true),
+        Led::Open => {}
     }
+    if is_told(alloc, inner, front, witnesses, stands, left, order, line)? {
+        return Ok(true);
+    }
+    derives_open(alloc, left, order, line)
 }
 
 // Whether the line is derivable from the lines left, where arcs from outside of more lines leave it open.
@@ -146,7 +156,7 @@ pub(crate) fn is_missing(witnesses: &Witnesses, stands: &[bool], line: &Line) ->
 }
 
 // Whether the variable exists, as far as the lines that stand tell which name it, and which name one of its shape.
-fn told_named(witnesses: &Witnesses, stands: &[bool], x: &Dtv) -> Led
+pub(crate) fn told_named(witnesses: &Witnesses, stands: &[bool], x: &Dtv) -> Led
     ensures { (order : Below) (lines left : List Given) → IsWitnesses lines witnesses.now → IsLeft lines stands.now left →
         Tells order left (Exists x.now) result }
 {

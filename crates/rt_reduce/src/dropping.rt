@@ -1,41 +1,108 @@
 // Lines that others derive, dropped from the end.
-ghost use Rattle.std.specs.Prelude.{◌≡◌, ◌+◌, ◌<◌, ◌↔◌, [], List, All, Contains, IsTrue, OnOk, IfOk, IfSome, length};
+ghost use Rattle.std.specs.Prelude.{◌≡◌, ◌+◌, ◌<◌, ◌≤◌, ◌↔◌, [], List, All, Contains, IsTrue, OnOk, IfOk, IfSome, length, take};
 ghost use Rattle.rt_lines.specs.declared.line.Line.{Line as Given};
 ghost use Rattle.rt_lines.specs.Lines.{HasConstantsBelow};
+ghost use Rattle.rt_shape.specs.Shapes.{IsShapeOf};
 ghost use Rattle.rt_reduction.specs.Drops.{Drops};
 ghost use Rattle.rt_reduction.specs.Emits.{is_flow as is_flow_line};
 ghost use Rattle.rt_witness.specs.Witnesses.{IsWitnesses};
-ghost use Rattle.rt_reduce.specs.Deciding.{AreStanding, AreWitnessed, IsOwnOuter};
+ghost use Rattle.rt_reduce.specs.Deciding.{AreStanding, AreWitnessed, IsInnerFor, IsLowerWith, IsOwnOuter, IsShapeAmong};
 ghost use Rattle.rt_reduce.specs.Dropping.{Decides, IsKeptOrGone, IsMoved};
 
 use crate::copying::copies;
 use crate::deciding::{is_derivable, is_missing};
 use rt_base::{Memory, Sequence};
 use rt_lines::{Line, Lines, Order};
-use rt_outline::Upper;
+use rt_outline::{Lower, Upper};
+use rt_shape::Shape;
 use rt_witness::Witnesses;
 use std::alloc::Global;
 
 /// What stays of the lines when, from the last to the first, each line goes that the lines before it and those that stayed
-/// behind it derive with the order of constants. A line that arcs from outside don't give isn't derivable; of another one arcs
-/// from inside and from outside of what is left tell, or it is saturated. The error is want of memory.
+/// behind it derive with the order of constants. A line that arcs from outside don't give isn't derivable; of another one the
+/// shape of the first lines and arcs from inside of all lines tell, which are made once, or arcs from inside and from outside
+/// of what is left, or it is saturated. The error is want of memory.
 pub fn drop_derivable(alloc: Global, lines: &[Line], order: &Order) -> Result<Lines, Memory>
     requires { All (HasConstantsBelow order.now.count) lines.now }
     ensures drops { IfOk result (λ left. Drops order.now [] lines.now left) }
     ensures stood { IfOk result (λ left. (l : Given) → Contains left l → Contains lines.now l) }
 {
-    let made = outer_of(alloc, lines)?;
-    let outer = made.as_ref();
     let witnesses = Witnesses::of(alloc, lines)?;
+    let count = flow_count(lines);
+    let front = front_of(alloc, lines, count)?;
+    drop_by(alloc, lines, &front, count, &witnesses, order)
+}
+
+// The shape of so many of the first lines.
+fn front_of(alloc: Global, lines: &[Line], count: usize) -> Result<Shape, Memory>
+    requires { count ≤ length lines.now }
+    ensures { IfOk result (λ front. IsShapeOf (take count lines.now) front) }
+{
+    let front = rt_shape::of(alloc, &lines[..count])?;
+    Ok(front)
+}
+
+// What stays of the lines, where the shape of so many of the first, and which of them name which variables are given.
+fn drop_by(
+    alloc: Global,
+    lines: &[Line],
+    front: &Shape,
+    count: usize,
+    witnesses: &Witnesses,
+    order: &Order,
+) -> Result<Lines, Memory>
+    requires front { IsShapeOf (take count lines.now) front.now }
+    requires witnesses { IsWitnesses lines.now witnesses.now }
+    requires constants { All (HasConstantsBelow order.now.count) lines.now }
+    ensures drops { IfOk result (λ left. Drops order.now [] lines.now left) }
+    ensures stood { IfOk result (λ left. (l : Given) → Contains left l → Contains lines.now l) }
+{
+    let outer = outer_of(alloc, lines)?;
+    let inner = inner_of(alloc, lines)?;
+    drop_each(
+        alloc,
+        lines,
+        outer.as_ref(),
+        inner.as_ref(),
+        front,
+        count,
+        witnesses,
+        order,
+    )
+}
+
+// What stays of the lines, where arcs of them, the shape of so many of the first, and which of them name which variables are
+// given.
+fn drop_each(
+    alloc: Global,
+    lines: &[Line],
+    outer: Option<&Upper>,
+    inner: Option<&Lower>,
+    front: &Shape,
+    count: usize,
+    witnesses: &Witnesses,
+    order: &Order,
+) -> Result<Lines, Memory>
+    requires outer { IfSome outer (λ t. IsOwnOuter lines.now t.now) }
+    requires inner { IfSome inner (λ t. IsLowerWith lines.now [] t.now) }
+    requires front { IsShapeOf (take count lines.now) front.now }
+    requires witnesses { IsWitnesses lines.now witnesses.now }
+    requires constants { All (HasConstantsBelow order.now.count) lines.now }
+    ensures drops { IfOk result (λ left. Drops order.now [] lines.now left) }
+    ensures stood { IfOk result (λ left. (l : Given) → Contains left l → Contains lines.now l) }
+{
     let mut stands = vec![in alloc; true; lines.len()]?;
     let mut left = copies(alloc, lines)?;
     let mut place = left.len();
     while place > 0 {
         place -= 1;
+        let told = front_at(front, count, place);
         drop_at(
             alloc,
             outer,
-            &witnesses,
+            inner,
+            told,
+            witnesses,
             &mut stands,
             &mut left,
             order,
@@ -54,6 +121,54 @@ fn outer_of(alloc: Global, lines: &[Line]) -> Result<Option<Upper>, Memory>
     }
     let outer = Upper::of(alloc, lines, &[])?;
     Ok(Some(outer))
+}
+
+// Arcs from inside of the lines, if there is a bound among them.
+fn inner_of(alloc: Global, lines: &[Line]) -> Result<Option<Lower>, Memory>
+    ensures { IfOk result (λ inner. IfSome inner (λ t. IsLowerWith lines.now [] t)) }
+{
+    if !has_bound(lines) {
+        return Ok(None);
+    }
+    let inner = Lower::of(alloc, lines, &[])?;
+    Ok(Some(inner))
+}
+
+// Whether there is a bound among the lines.
+fn has_bound(lines: &[Line]) -> bool {
+    for line in lines {
+        if is_bound(line) {
+            return true;
+        }
+    }
+    false
+}
+
+// Whether the line is a bound.
+fn is_bound(line: &Line) -> bool {
+    match line {
+        Line::Var(_) | Line::Same(_, _) | Line::Sub(_, _) => false,
+        Line::Low(_, _) | Line::Up(_, _) => true,
+    }
+}
+
+// How many `<=` lines and bounds the lines begin with.
+fn flow_count(lines: &[Line]) -> usize
+    ensures { result ≤ length lines.now }
+{
+    for i in 0..lines.len() {
+        if !is_flow(&lines[i]) {
+            return i;
+        }
+    }
+    lines.len()
+}
+
+// The shape of so many lines, where all of them stand before the place.
+fn front_at(front: &Shape, count: usize, place: usize) -> Option<&Shape>
+    ensures { IfSome result (λ s. (s.now ≡ front.now) × (count ≤ place)) }
+{
+    if count <= place { Some(front) } else { None }
 }
 
 // Whether there is a `<=` line or a bound among the lines.
@@ -83,6 +198,8 @@ fn is_flow(line: &Line) -> bool
 fn drop_at(
     alloc: Global,
     outer: Option<&Upper>,
+    inner: Option<&Lower>,
+    front: Option<&Shape>,
     witnesses: &Witnesses,
     stands: &mut Vec<bool>,
     left: &mut Vec<Line>,
@@ -93,6 +210,8 @@ fn drop_at(
     requires flags { place < length stands.old.items }
     requires constants { All (HasConstantsBelow order.now.count) left.old.items }
     requires standing { IfSome outer (λ t. AreStanding left.old.items stands.old.items (place + 1) t.now) }
+    requires inner { IfSome inner (λ t. IsInnerFor order.now left.old.items t.now) }
+    requires front { IfSome front (λ s. IsShapeAmong (take place left.old.items) s.now) }
     requires witnesses { (lines : List Given) × IsWitnesses lines witnesses.now
         × AreWitnessed lines left.old.items stands.old.items (place + 1) }
     ensures lines { OnOk result (IsKeptOrGone left.old.items place left.new.items) }
@@ -105,7 +224,9 @@ fn drop_at(
         return Ok(());
     }
     let line = left.remove(place);
-    let derived = is_derivable(alloc, outer, witnesses, stands, left, order, &line)?;
+    let derived = is_derivable(
+        alloc, outer, inner, front, witnesses, stands, left, order, &line,
+    )?;
     if derived {
         return Ok(());
     }

@@ -11,6 +11,7 @@ mod copying;
 mod deciding;
 mod derivable;
 mod dropping;
+mod early;
 mod merging;
 mod opened;
 mod reducing;

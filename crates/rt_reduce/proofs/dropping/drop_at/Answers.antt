@@ -1,12 +1,13 @@
-use Rattle.std.proofs.Common.{◌≡◌, List, Bool, inr, refl, sym, subst, ◌∙◌}
+use Rattle.std.proofs.Common.{◌≡◌, List, ◌∷◌, Bool, inr, refl, sym, subst, ◌∙◌}
 use Rattle.std.specs.List.{remove}
 use Rattle.std.proofs.lemmas.List.{get_or_default}
 use Rattle.std.proofs.lemmas.Option.{IfSome_then}
 use Rattle.rt_lines.specs.declared.line.Line.{Line}
 use Rattle.rt_rules.specs.Rules.{Derivable}
-use Rattle.rt_reduce.specs.Deciding.{IsOuterFor}
+use Rattle.rt_reduce.specs.Deciding.{IsInnerFor, IsOuterFor, IsShapeAmong}
 use Rattle.rt_witness.specs.Witnesses.{IsLeft}
 use Rattle.rt_reduce.proofs.Flags.{left_gone, outer_for}
+use Rattle.rt_reduce.proofs.Made.{inner_out, shape_out}
 use Rattle.rt_reduce.proofs.dropping.drop_at.Goals as goal
 
 pub is_derivable-requires-clause-outer : goal.is_derivable-requires-clause-outer
@@ -18,6 +19,21 @@ is_derivable-requires-clause-outer c =
     subst (λ (ls : List Line). IsOuterFor ls c.deref-2.result.now line t.now) (sym (c.deref-3.ensures.value ∙ c.remove-line.ensures.items))
     (subst (λ (fs : List Bool). IsOuterFor (remove left c.args.place) fs line t.now) (sym c.deref-2.ensures.value)
     (outer_for left stands c.args.place t.now are line (c.args.place, c.requires.within, sym c.remove-line.ensures.value))))
+
+pub is_derivable-requires-clause-inner : goal.is_derivable-requires-clause-inner
+is_derivable-requires-clause-inner c =
+    let left = c.args.left.now.items in
+    let line = c.remove-line.result in
+    IfSome_then c.args.inner c.requires.inner (λ t is.
+    subst (λ (ls : List Line). IsInnerFor c.args.order.now (line ∷ ls) t.now) (sym (c.deref-3.ensures.value ∙ c.remove-line.ensures.items))
+    (inner_out c.args.order.now left c.args.place t.now is line c.requires.within c.remove-line.ensures.value))
+
+pub is_derivable-requires-clause-front : goal.is_derivable-requires-clause-front
+is_derivable-requires-clause-front c =
+    let left = c.args.left.now.items in
+    IfSome_then c.args.front c.requires.front (λ s is.
+    subst (λ (ls : List Line). IsShapeAmong ls s.now) (sym (c.deref-3.ensures.value ∙ c.remove-line.ensures.items))
+    (shape_out left c.args.place s.now is))
 
 pub is_derivable-requires-clause-witnesses : goal.is_derivable-requires-clause-witnesses
 is_derivable-requires-clause-witnesses c =

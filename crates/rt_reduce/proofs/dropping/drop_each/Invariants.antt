@@ -2,9 +2,9 @@ use Rattle.std.proofs.Common.{◌≤◌, All, Contains, length}
 use Rattle.std.specs.Option.{IfSome}
 use Rattle.rt_lines.specs.declared.line.Line.{Line}
 use Rattle.rt_lines.specs.Lines.{HasConstantsBelow}
-use Rattle.rt_reduce.specs.Deciding.{AreStanding, AreWitnessed}
+use Rattle.rt_reduce.specs.Deciding.{AreStanding, AreWitnessed, IsInnerFor}
 use Rattle.rt_reduce.proofs.Leaving.{AreLeft}
-use Rattle.rt_reduce.proofs.dropping.drop_derivable.Given as goal
+use Rattle.rt_reduce.proofs.dropping.drop_each.Given as goal
 
 abbrev pub invariant-loop-place : goal.invariant-loop-place
 invariant-loop-place l = record {
@@ -16,6 +16,7 @@ invariant-loop-place l = record {
   flags : l.place ≤ length l.stands.items;
   standing : IfSome l.outer (λ t. AreStanding l.left.items l.stands.items l.place t.now);
   witnessed : AreWitnessed l.lines l.left.items l.stands.items l.place;
+  inner : IfSome l.inner (λ t. IsInnerFor l.order l.left.items t.now);
 }
 
 abbrev pub decreases-loop-place : goal.decreases-loop-place

@@ -1,0 +1,122 @@
+-- What was made before, as lines go.
+use Rattle.std.proofs.Common.{◌≡◌, ℕ, zero, suc, ◌+◌, ◌<◌, ◌≤◌, ◌⊎◌, inl, inr, List, [], ◌∷◌, ◌++◌, take, drop, get_or, length, Contains}
+use Rattle.std.proofs.Common.{sym, subst, ◌∙◌, arith}
+use Rattle.std.specs.List.{remove}
+use Rattle.std.proofs.lemmas.List.{get_or_default}
+use Rattle.std.proofs.lemmas.List.Elements.{All-contains, Contains-append_left}
+use Rattle.rt_base.proofs.Lists.{All-from_contains, Contains-none, Contains-here, Contains-there, Contains-cons_cases}
+use Rattle.rt_lines.specs.declared.line.Line.{Line}
+use Rattle.rt_lines.specs.declared.line.Line.TheVariants.{Var}
+use Rattle.rt_lines.specs.Orders.{Below}
+use Rattle.rt_rules.specs.Rules.{Derivable}
+use Rattle.rt_rules.specs.Put.{exist}
+use Rattle.rt_rules.proofs.Carry.{given}
+use Rattle.rt_rules.proofs.Covering.{derives_more}
+use Rattle.rt_sat.proofs.Frames.{side_named}
+use Rattle.rt_shape.specs.Graphs.{Graph}
+use Rattle.rt_outline.specs.Lines.{Lined}
+use Rattle.rt_reduce.specs.Deciding.{IsInnerFor, IsLowerWith, IsShapeAmong}
+use Rattle.rt_reduce.specs.Dropping.{Decides}
+use Rattle.rt_reduce.proofs.Places.{All-removed}
+use Rattle.rt_reduce.proofs.Leaving.{AreLeft}
+
+-- an element that is taken out, before the others
+pub Contains-taken_out : {X : Type 0} (xs : List X) (i : ℕ) (x y : X) → i < length xs → x ≡ get_or xs i x → Contains xs y →
+    Contains (x ∷ remove xs i) y
+Contains-taken_out [] i x y h e c = absurd (Contains-none y c)
+Contains-taken_out (z ∷ xs) zero x y h e c = subst (λ v. Contains (v ∷ xs) y) (sym e) c
+Contains-taken_out (z ∷ xs) (suc i) x y h e c = elim (Contains-cons_cases z xs y c) [
+  | inl f ↦ Contains-there x (z ∷ remove xs i) y (subst (Contains (z ∷ remove xs i)) f (Contains-here z (remove xs i)))
+  | inr d ↦ (elim (Contains-cons_cases x (remove xs i) y (Contains-taken_out xs i x y (omega (arith, h)) e d)) [
+    | inl f ↦ subst (Contains (x ∷ z ∷ remove xs i)) f (Contains-here x (z ∷ remove xs i))
+    | inr g ↦ Contains-there x (z ∷ remove xs i) y (Contains-there z (remove xs i) y g)
+  ])
+]
+
+of_removed : {X : Type 0} (xs : List X) (i : ℕ) (y : X) → Contains (remove xs i) y → Contains xs y
+of_removed xs i y c =
+    All-contains (Contains xs) (remove xs i) y (All-removed (Contains xs) xs i (All-from_contains (Contains xs) xs (λ k d. d))) c
+
+-- and the other way
+of_taken_out : {X : Type 0} (xs : List X) (i : ℕ) (x y : X) → i < length xs → x ≡ get_or xs i x → Contains (x ∷ remove xs i) y → Contains xs y
+of_taken_out xs i x y h e c = elim (Contains-cons_cases x (remove xs i) y c) [
+  | inl f ↦ (i, h, sym (subst (λ v. v ≡ get_or xs i v) f e))
+  | inr d ↦ of_removed xs i y d
+]
+
+-- first elements, where more of them have others behind
+of_front : {X : Type 0} (count place at : ℕ) (xs behind : List X) (y : X) → count ≤ place → place ≤ at → Contains (take count xs) y →
+    Contains (take place (take at xs ++ behind)) y
+of_front zero place at xs behind y h k c = absurd (Contains-none y c)
+of_front (suc count) zero at xs behind y h k c = absurd (omega (arith, h))
+of_front (suc count) (suc place) zero xs behind y h k c = absurd (omega (arith, k))
+of_front (suc count) (suc place) (suc at) [] behind y h k c = absurd (Contains-none y c)
+of_front (suc count) (suc place) (suc at) (x ∷ xs) behind y h k c = elim (Contains-cons_cases x (take count xs) y c) [
+  | inl f ↦ subst (Contains (x ∷ take place (take at xs ++ behind))) f (Contains-here x (take place (take at xs ++ behind)))
+  | inr d ↦ Contains-there x (take place (take at xs ++ behind)) y
+      (of_front count place at xs behind y (omega (arith, h)) (omega (arith, k)) d)
+]
+
+-- arcs from inside of all lines
+pub first_inner : (order : Below) (lines left : List Line) (inner : Lined) → IsLowerWith lines [] inner → left ≡ lines →
+    IsInnerFor order left inner
+first_inner order lines left inner is e = record {
+  derived = λ l c. given order left l (subst (λ ls. Contains ls l) (is.own ∙ sym e) c);
+  sides = λ l x c h. side_named lines is.extra inner.named is.names l x (subst (λ ls. Contains ls l) e c) h;
+}
+
+module _ (order : Below) (left : List Line) (place : ℕ) (inner : Lined) (is : IsInnerFor order left inner) where
+  -- with the line at the place before the others
+  pub inner_out : (line : Line) → place < length left → line ≡ get_or left place line → IsInnerFor order (line ∷ remove left place) inner
+  inner_out line h e = record {
+    derived = λ l c. derives_more order left (line ∷ remove left place)
+        (λ m d. given order (line ∷ remove left place) m (Contains-taken_out left place line m h e d)) (is.derived l c);
+    sides = λ l x c s. is.sides l x (of_taken_out left place line l h e c) s;
+  }
+
+  fewer : (line : Line) → place < length left → line ≡ get_or left place line → Derivable order (remove left place) line →
+      IsInnerFor order (remove left place) inner
+  fewer line h e d = record {
+    derived = λ l c. derives_more order left (remove left place) by (is.derived l c);
+    sides = λ l x c s. is.sides l x (of_removed left place l c) s;
+  }
+    where
+      by : (m : Line) → Contains left m → Derivable order (remove left place) m
+      by m k = elim (Contains-cons_cases line (remove left place) m (Contains-taken_out left place line m h e k)) [
+        | inl f ↦ subst (Derivable order (remove left place)) f d
+        | inr g ↦ given order (remove left place) m g
+      ]
+
+  -- as the line at the place goes or stays
+  pub inner_next : (now : List Line) (line : Line) → place < length left → line ≡ get_or left place line → Decides order left place now →
+      IsInnerFor order now inner
+  inner_next now line h e decides = by (decides line e)
+    where
+      by : (Derivable order (remove left place) line × (now ≡ remove left place))
+          ⊎ ((Derivable order (remove left place) line → ⊥) × (now ≡ left)) → IsInnerFor order now inner
+      by (inl (d, f)) = subst (λ ls. IsInnerFor order ls inner) (sym f) (fewer line h e d)
+      by (inr (none, f)) = subst (λ ls. IsInnerFor order ls inner) (sym f) is
+
+-- whatever the line is
+pub inner_stays : (order : Below) (left : List Line) (place : ℕ) (inner : Lined) → IsInnerFor order left inner → (now : List Line) →
+    place < length left → Decides order left place now → IsInnerFor order now inner
+inner_stays order left place inner is now h decides =
+    let line = get_or left place (Var (exist 0)) in
+    inner_next order left place inner is now line h (sym (get_or_default left place line (Var (exist 0)) h)) decides
+
+-- a shape of first lines
+pub front_among : (order : Below) (lines left : List Line) (count place at : ℕ) (graph : Graph) → AreLeft order lines at left →
+    place ≤ at → count ≤ place → IsShapeAmong (take count lines) graph → IsShapeAmong (take place left) graph
+front_among order lines left count place at graph are h k is = record {
+  lines = is.lines;
+  shape = is.shape;
+  among = λ l c. subst (λ ls. Contains (take place ls) l) (sym are.stand)
+      (of_front count place at lines are.kept l k h (is.among l c));
+}
+
+pub shape_out : (left : List Line) (place : ℕ) (graph : Graph) → IsShapeAmong (take place left) graph → IsShapeAmong (remove left place) graph
+shape_out left place graph is = record {
+  lines = is.lines;
+  shape = is.shape;
+  among = λ l c. Contains-append_left (take place left) (drop (suc place) left) l (is.among l c);
+}

@@ -1,0 +1,131 @@
+// Lines that a shape and arcs from inside, which were made before, tell to be derivable.
+ghost use Rattle.std.specs.Prelude.{◌∷◌, ◌<◌, List, All, IsTrue, IfOk, IfSome};
+ghost use Rattle.rt_lines.specs.declared.line.Line.{Line as Given};
+ghost use Rattle.rt_lines.specs.declared.line.Line.TheVariants.{Low as LowerBound, Up as UpperBound, Var as Exists};
+ghost use Rattle.rt_lines.specs.Lines.{HasConstantsBelow};
+ghost use Rattle.rt_lines.specs.Orders.{Below};
+ghost use Rattle.rt_rules.specs.Rules.{Derivable};
+ghost use Rattle.rt_witness.specs.Witnesses.{IsLeft, IsWitnesses};
+ghost use Rattle.rt_reduce.specs.Deciding.{IsInnerFor, IsShapeAmong};
+
+use crate::bounds::{lows, ups};
+use crate::deciding::told_named;
+use crate::derivable::{are_one, exists};
+use rt_base::Memory;
+use rt_lines::{Dtv, Line, Order};
+use rt_outline::{Led, Lower};
+use rt_shape::Shape;
+use rt_witness::Witnesses;
+use std::alloc::Global;
+use std::slice;
+
+// Whether the line is derivable from the lines left, as far as the shape of some of these tells, and arcs from inside of
+// lines that these and the line derive. No bound has an arc, so a bound itself may be among those.
+pub(crate) fn is_told(
+    alloc: Global,
+    inner: Option<&Lower>,
+    front: Option<&Shape>,
+    witnesses: &Witnesses,
+    stands: &[bool],
+    left: &[Line],
+    order: &Order,
+    line: &Line,
+) -> Result<bool, Memory>
+    requires inner { IfSome inner (λ t. IsInnerFor order.now (line.now ∷ left.now) t.now) }
+    requires front { IfSome front (λ s. IsShapeAmong left.now s.now) }
+    requires witnesses { (lines : List Given) × IsWitnesses lines witnesses.now × IsLeft lines stands.now left.now }
+    requires constants { All (HasConstantsBelow order.now.count) left.now }
+    requires constant { HasConstantsBelow order.now.count line.now }
+    ensures { IfOk result (λ yes. IsTrue yes → Derivable order.now left.now line.now) }
+{
+    match line {
+        Line::Var(_) | Line::Sub(_, _) => Ok(false),
+        Line::Same(x, y) => match front {
+            Some(front) => Ok(are_one(front, x, y)),
+            None => Ok(false),
+        },
+        Line::Low(k, x) => match inner {
+            Some(inner) => has_low(alloc, inner, witnesses, stands, left, order, *k, x),
+            None => Ok(false),
+        },
+        Line::Up(x, k) => match inner {
+            Some(inner) => has_up(alloc, inner, witnesses, stands, left, order, x, *k),
+            None => Ok(false),
+        },
+    }
+}
+
+// Whether the variable exists, as far as the lines that stand tell which name it, else by the shape of what is left.
+fn is_there(
+    alloc: Global,
+    witnesses: &Witnesses,
+    stands: &[bool],
+    left: &[Line],
+    x: &Dtv,
+) -> Result<bool, Memory>
+    requires { (lines : List Given) × IsWitnesses lines witnesses.now × IsLeft lines stands.now left.now }
+    ensures { IfOk result (λ yes. IsTrue yes → (order : Below) → Derivable order left.now (Exists x.now)) }
+{
+    match told_named(witnesses, stands, x) {
+        Led::No => Ok(false),
+        Led::Yes => Ok(true),
+        Led::Open => {
+            let shape = rt_shape::of(alloc, left)?;
+            Ok(exists(&shape, x))
+        }
+    }
+}
+
+// Whether the constant is a lower bound of the variable, as far as arcs tell that lead from those of other lower bounds.
+fn has_low(
+    alloc: Global,
+    inner: &Lower,
+    witnesses: &Witnesses,
+    stands: &[bool],
+    left: &[Line],
+    order: &Order,
+    k: u16,
+    x: &Dtv,
+) -> Result<bool, Memory>
+    requires inner { IsInnerFor order.now (LowerBound k x.now ∷ left.now) inner.now }
+    requires witnesses { (lines : List Given) × IsWitnesses lines witnesses.now × IsLeft lines stands.now left.now }
+    requires constants { All (HasConstantsBelow order.now.count) left.now }
+    requires constant { k < order.now.count }
+    ensures { IfOk result (λ yes. IsTrue yes → Derivable order.now left.now (LowerBound k x.now)) }
+{
+    // The call says that the order is transitive.
+    order.count();
+    if !is_there(alloc, witnesses, stands, left, x)? {
+        return Ok(false);
+    }
+    let from = lows(alloc, left, order, k)?;
+    let led = inner.leads(alloc, &from, slice::from_ref(x))?;
+    Ok(led)
+}
+
+// Whether the constant is an upper bound of the variable, as far as arcs tell that lead to those of other upper bounds.
+fn has_up(
+    alloc: Global,
+    inner: &Lower,
+    witnesses: &Witnesses,
+    stands: &[bool],
+    left: &[Line],
+    order: &Order,
+    x: &Dtv,
+    k: u16,
+) -> Result<bool, Memory>
+    requires inner { IsInnerFor order.now (UpperBound x.now k ∷ left.now) inner.now }
+    requires witnesses { (lines : List Given) × IsWitnesses lines witnesses.now × IsLeft lines stands.now left.now }
+    requires constants { All (HasConstantsBelow order.now.count) left.now }
+    requires constant { k < order.now.count }
+    ensures { IfOk result (λ yes. IsTrue yes → Derivable order.now left.now (UpperBound x.now k)) }
+{
+    // The call says that the order is transitive.
+    order.count();
+    if !is_there(alloc, witnesses, stands, left, x)? {
+        return Ok(false);
+    }
+    let to = ups(alloc, left, order, k)?;
+    let led = inner.leads(alloc, slice::from_ref(x), &to)?;
+    Ok(led)
+}
