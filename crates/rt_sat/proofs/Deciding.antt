@@ -1,6 +1,6 @@
 -- What lines name and what flips, by tests.
-use Rattle.std.proofs.Common.{◌≡◌, ℕ, inl, inr, Bool, true, false, List, [], ◌∷◌, Contains, Option, Some, None, IsSome, refl, sym, ap, ◌∙◌}
-use Rattle.std.specs.Prelude.{is_some, ◌&&◌}
+use Rattle.std.proofs.Common.{◌≡◌, ℕ, inl, inr, true, List, [], ◌∷◌, Contains, Option, Some, None, IsSome, refl, sym, ap, ◌∙◌}
+use Rattle.std.specs.Prelude.{is_some}
 use Rattle.std.specs.List.{list_any, Any}
 use Rattle.std.proofs.lemmas.List.{get_or_default}
 use Rattle.std.proofs.lemmas.List.Folds.{list_any_at, Any-from_list_any}
@@ -11,7 +11,6 @@ use Rattle.rt_lines.specs.declared.line.Line.{Line}
 use Rattle.rt_lines.specs.declared.line.Line.TheVariants.{Var as VarLine, Same, Sub, Low, Up}
 use Rattle.rt_lines.specs.Orders.{Below}
 use Rattle.rt_lines.specs.Equality.{variable_eq}
-use Rattle.rt_lines.specs.contracts.variable.DtvEq.TheImpl.Laws as variable_laws
 use Rattle.rt_lines.proofs.Equal.{variable_equal}
 use Rattle.rt_rules.specs.Rules.{longer, extended, HasSide, Derivable}
 use Rattle.rt_rules.specs.Rules.Derivable.{named, prefix, left_side, right_side, same_letter, same_line, same_sub, same_self, same_back, same_chain, same_longer, sub_line, sub_self, sub_chain, sub_co, sub_contra, sub_pointer, low_line, up_line, low_sub, up_sub}
@@ -26,7 +25,8 @@ use Rattle.rt_shape.proofs.ReadWrite.{read_write_lem}
 use Rattle.rt_named.specs.Naming.{named as named_by}
 use Rattle.rt_named.specs.Laws.{IsPrefix, IsGiven}
 use Rattle.rt_named.proofs.Contents.{contents_law}
-use Rattle.rt_sat.specs.Deciding.{is_among, flips_at, flips_by, DecidingLaw}
+use Rattle.rt_named.specs.Nodes.{flips_at}
+use Rattle.rt_sat.specs.Deciding.{is_among, flips_by, DecidingLaw}
 use Rattle.rt_lines.proofs.Same.{variable_self}
 use Rattle.std.proofs.lemmas.Bool.{and_parts, and_from}
 

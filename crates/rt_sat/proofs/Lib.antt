@@ -4,6 +4,7 @@ pub mod Searching
 pub mod Indices
 pub mod Numbered
 pub mod Pushed
+pub mod Places
 pub mod Closed
 pub mod Children
 pub mod Growing

@@ -1,5 +1,5 @@
 -- Marks that each edge of a graph keeps to.
-use Rattle.std.proofs.Common.{◌≡◌, ℕ, ◌<◌, ◌⊎◌, Bool, true, List, Option, Some, length, sym, subst}
+use Rattle.std.proofs.Common.{◌≡◌, ℕ, ◌<◌, ◌⊎◌, Bool, true, List, Some, length, sym, subst}
 use Rattle.std.specs.Prelude.{nat_eq, slice_get}
 use Rattle.std.proofs.lemmas.Bool.{eqb-true, and_parts}
 use Rattle.std.proofs.lemmas.Option.{slice_get_within}
@@ -7,7 +7,7 @@ use Rattle.std.proofs.lemmas.Map.Entries.{place_from_lookup}
 use Rattle.rt_lines.specs.declared.label.Label.{Label}
 use Rattle.rt_lines.specs.Equality.{label_eq}
 use Rattle.rt_shape.specs.Graphs.{Graph, letter_eq}
-use Rattle.rt_sat.specs.Deciding.{flips_at}
+use Rattle.rt_named.specs.Nodes.{flips_at}
 use Rattle.rt_sat.specs.Mattering.{mark_at, AreMarked, IsKeptAt}
 
 pub kept_all : (graph : Graph) (marks : List Bool) → ((i : ℕ) → i < length graph.edges → IsKeptAt graph marks i) → AreMarked graph marks

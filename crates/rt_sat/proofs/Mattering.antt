@@ -1,11 +1,11 @@
 -- Where counts matter: one class for all of one shape, upwards, and where it can be read and written through.
 use Rattle.std.proofs.Common.{◌≡◌, ℕ, ◌<◌, ◌⊎◌, inl, inr, Bool, true, false, List, [], Option, Some, None, IsSome, length, refl, sym, ap, subst, ◌∙◌, arith}
-use Rattle.std.specs.Prelude.{IsTrue, is_some}
+use Rattle.std.specs.Prelude.{is_some}
 use Rattle.rt_lines.specs.declared.label.Label.{Label}
 use Rattle.rt_lines.specs.declared.label.Label.TheVariants.{Load, Store}
 use Rattle.rt_lines.specs.declared.label.Variance.TheVariants.{Co}
 use Rattle.rt_lines.specs.declared.variable.Dtv.{Dtv}
-use Rattle.rt_lines.specs.declared.line.Line.TheVariants.{Var as VarLine, Same}
+use Rattle.rt_lines.specs.declared.line.Line.TheVariants.{Var as VarLine}
 use Rattle.rt_rules.specs.Rules.{Derivable}
 use Rattle.rt_rules.proofs.Carry.{are_there}
 use Rattle.rt_bridge.specs.Growing.{Var, dot, dv, vd, Given, Fact, V, E, S, Der}
@@ -17,15 +17,14 @@ use Rattle.rt_bridge.proofs.Tables.{covered_where}
 use Rattle.rt_bridge.proofs.Eliminating.{complete}
 use Rattle.rt_shape.specs.Graphs.{Graph, node_of, step_of}
 use Rattle.rt_shape.specs.Shapes.{IsShapeOf}
+use Rattle.rt_named.specs.Nodes.{flips_at, stepped}
+use Rattle.rt_named.proofs.Noding.{node_longer}
 use Rattle.rt_sat.specs.Closings.{IsClosedWhere}
-use Rattle.rt_sat.specs.Deciding.{flips_at}
 use Rattle.rt_sat.specs.Mattering.{mark_at, AreMarked, Matters, AreMattering}
 use Rattle.rt_sat.specs.Numbered.{at_number}
 use Rattle.rt_sat.specs.Pushes.{asked_of, matter_at}
 use Rattle.rt_sat.specs.Searches.{Allows}
-use Rattle.rt_sat.specs.Tables.{stepped}
 use Rattle.rt_sat.proofs.Deciding.{are_flips}
-use Rattle.rt_sat.proofs.Frames.{node_longer}
 use Rattle.std.proofs.lemmas.Bool.{and_parts}
 use Rattle.rt_bridge.proofs.Lawful.{decide}
 

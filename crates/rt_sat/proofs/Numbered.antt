@@ -12,7 +12,6 @@ use Rattle.rt_lines.specs.declared.label.Variance.TheVariants.{Co, Contra}
 use Rattle.rt_lines.specs.declared.variable.Dtv.{Dtv}
 use Rattle.rt_lines.specs.Words.{times}
 use Rattle.rt_lines.specs.Equality.{variable_eq}
-use Rattle.rt_lines.specs.contracts.variable.DtvEq.TheImpl.Laws as variable_laws
 use Rattle.rt_lines.proofs.Equal.{variable_equal}
 use Rattle.rt_bridge.specs.Growing.{dv, vd}
 use Rattle.rt_bridge.specs.Counted.{State, st}

@@ -7,7 +7,6 @@ use Rattle.rt_lines.specs.declared.variable.Dtv.{Dtv}
 use Rattle.rt_lines.specs.declared.line.Line.{Line}
 use Rattle.rt_lines.specs.declared.line.Line.TheVariants.{Var as VarLine, Same, Sub, Low, Up}
 use Rattle.rt_lines.specs.Equality.{label_eq}
-use Rattle.rt_lines.specs.contracts.label.LabelEq.TheImpl.Laws as label_laws
 use Rattle.rt_lines.proofs.Equal.{label_equal}
 use Rattle.rt_rules.specs.Rules.{longer, extended, HasSide}
 use Rattle.rt_rules.specs.Rules.Derivable.{named}

@@ -1,26 +1,24 @@
 -- Edges more, and what is pushed to children.
 use Rattle.std.proofs.Common.{◌≡◌, ℕ, ◌<◌, ◌≤◌, ◌⊎◌, inl, inr, Bool, true, false, List, [], length, get_or, Contains, refl, sym, ap, subst, ◌∙◌, arith}
 use Rattle.rt_lines.specs.declared.label.Label.{Label}
+use Rattle.rt_lines.specs.declared.label.Label.TheVariants.{Load, Store, In, Out, Field}
 use Rattle.rt_lines.specs.declared.label.Variance.{Variance}
-use Rattle.rt_lines.specs.declared.label.Variance.TheVariants.{Co, Contra}
 use Rattle.rt_lines.specs.declared.variable.Base.{Base}
 use Rattle.rt_lines.specs.declared.variable.Dtv.{Dtv}
 use Rattle.rt_lines.specs.Words.{label_variance, times}
 use Rattle.rt_rules.specs.Rules.{longer}
-use Rattle.rt_bridge.specs.Growing.{Var, at, dot, dv, vd}
-use Rattle.rt_bridge.specs.Counted.{bit, IsPointer}
-use Rattle.rt_bridge.proofs.Growing.{dv-vd, vd-longer}
+use Rattle.rt_bridge.specs.Counted.{IsPointer}
 use Rattle.rt_sat.specs.declared.state.State.{State}
 use Rattle.rt_sat.specs.declared.state.Edge.{Edge}
 use Rattle.rt_sat.specs.Numbered.{sign_of, is_contra, at_number, AreDistinct}
-use Rattle.rt_sat.specs.Pushes.{IsChildOf, AreChildren, PushBy, IsHalf, asked_of, matter_at, IsPushed, IsPushedTo, IsPushedOn, IsDoneAt, IsDoneTo, IsDoneOn, IsGrown, IsClosedFrom, flip_at}
+use Rattle.rt_sat.specs.Pushes.{IsChildOf, AreChildren, PushBy, asked_of, matter_at, IsPushed, IsPushedTo, IsPushedOn, IsDoneAt, IsDoneTo, IsDoneOn, IsGrown, IsClosedFrom, IsNeeding, flip_at, needed_of}
 use Rattle.rt_sat.specs.Searches.{state_eq, Allows, IsKnown, IsWithin, IsSearch}
 use Rattle.rt_sat.proofs.Searching.{state_equal, allows_less}
-use Rattle.std.specs.Prelude.{slice_get, Option, Some}
+use Rattle.std.specs.Prelude.{slice_get, Option, Some, None}
 use Rattle.std.proofs.lemmas.Option.{slice_get_within}
 use Rattle.std.proofs.lemmas.List.{get_or_default}
 use Rattle.std.proofs.lemmas.Map.Entries.{place_from_lookup}
-use Rattle.rt_sat.proofs.Numbered.{sign_contra, contra_sign, sign_one, number_one}
+use Rattle.rt_sat.proofs.Numbered.{sign_contra, contra_sign, number_one}
 use Rattle.rt_named.proofs.Making.{no_base, last_letter}
 use Rattle.rt_chain.proofs.Digits.{bit-small, times-twice}
 
@@ -149,32 +147,75 @@ known_entry found s k h =
     let p : (i : ℕ) × (t : State) × (slice_get found i ≡ Some (t, k)) × (state_eq s t ≡ true) = place_from_lookup (state_eq s) found k h in
     (p.0, slice_get_within found p.0 (p.1, k) p.2, p.2 ∙ ap (λ (t : State). Some (t, k)) (sym (state_equal s p.1 p.3)))
 
--- a state has one parent, by one letter
-pub source_one : (known : List Dtv) → AreDistinct known → (child parent other : State) (l m : Label) → IsChildOf known child parent l → IsChildOf known child other m → (parent ≡ other) × (l ≡ m)
-source_one known apart child parent other l m c d =
-    let p : (parent.variable ≡ other.variable) × (l ≡ m) = parent_one known apart child parent l other.variable m d.above d.is c in
-    let s : parent.contra ≡ other.contra = sign_one parent.contra other.contra (sym c.sign ∙ ap (λ (k : Label). times (label_variance k) (sign_of child.contra)) p.1 ∙ d.sign) in
-    (λ i. record { variable = p.0 i; contra = s i }, p.1)
+-- from what a child's bound allows comes all that is asked for of it
+pub needed_enough : (matters flip : Bool) (l m : Label) (d k : ℕ) (a b : Variance) → PushBy flip l m d a b k → Allows (asked_of matters) k → Allows (needed_of matters flip l) d
+needed_enough true flip l m d k a b p h = tt
+needed_enough false false l m d k a b p h = nought_kept false l m d k a b (λ e i. absurd (cc)) p h
+needed_enough false true Load m d k a b p h = nought_pushed true Load m d k a b p h
+needed_enough false true Store m d k a b p h = nought_pushed true Store m d k a b p h
+needed_enough false true (In i) m d k a b p h = nought_kept true (In i) m d k a b (λ e i. i) p h
+needed_enough false true (Out i) m d k a b p h = nought_kept true (Out i) m d k a b (λ e i. i) p h
+needed_enough false true (Field i j) m d k a b p h = nought_kept true (Field i j) m d k a b (λ e i. i) p h
 
-pub state_done : (known : List Dtv) (flips matters : List Bool) (edges pushed : List Edge) → AreDistinct known → (source above : State) (first : Label) → IsChildOf known source above first → IsClosedFrom known flips matters edges pushed source above first →
-    (child other : State) (l : Label) → child.variable ≡ source.variable → child.contra ≡ source.contra → IsChildOf known child other l → IsClosedFrom known flips matters edges pushed child other l
-state_done known flips matters edges pushed apart source above first own done child other l e f k =
-    let s : source ≡ child = (λ i. record { variable = sym e i; contra = sym f i }) in
-    let o : (above ≡ other) × (first ≡ l) = source_one known apart source above other first l own (subst (λ z. IsChildOf known z other l) (sym s) k) in
-    subst (λ z. IsClosedFrom known flips matters edges pushed z other l) s (subst (λ z. IsClosedFrom known flips matters edges pushed source z l) o.0 (subst (λ m. IsClosedFrom known flips matters edges pushed source above m) o.1 done))
+-- there are three bounds
+pub three_bounds : (matters flip : Bool) (l : Label) → (needed_of matters flip l ≡ None) ⊎ (needed_of matters flip l ≡ Some 0) ⊎ (needed_of matters flip l ≡ Some 1)
+three_bounds true flip l = inl refl
+three_bounds false false l = inr (inl refl)
+three_bounds false true Load = inr (inr refl)
+three_bounds false true Store = inr (inr refl)
+three_bounds false true (In i) = inr (inl refl)
+three_bounds false true (Out i) = inr (inl refl)
+three_bounds false true (Field i j) = inr (inl refl)
 
-pub state_child : (known : List Dtv) (number parent : ℕ) (contra turned : Bool) (m : Label) → number < length known → parent < number → at_number known number ≡ longer (at_number known parent) m → turned ≡ is_contra (times (label_variance m) (sign_of contra)) →
-    IsChildOf known (record { variable = number; contra = contra }) (record { variable = parent; contra = turned }) m
-state_child known number parent contra turned m h less e f = record {
-  within = h;
-  above = omega (arith, less, h);
-  is = e;
-  sign = sym (ap sign_of f ∙ sign_contra (times (label_variance m) (sign_of contra)));
-}
+module _ (known : List Dtv) (flips matters : List Bool) (bound : Option ℕ) where
+  pub needing_child : (parent : State) (number : ℕ) (contra : Bool) (m : Label) → IsNeeding known flips matters bound parent.variable number m → contra ≡ is_contra (times (label_variance m) (sign_of parent.contra)) →
+      IsChildOf known (record { variable = number; contra = contra }) parent m
+  needing_child parent number contra m n e = record {
+    within = n.within;
+    above = n.above;
+    is = n.is;
+    sign = ap (λ b. times (label_variance m) (sign_of b)) e ∙ child_sign (label_variance m) parent.contra;
+  }
 
-pub two_signs : (b : Bool) → (b ≡ false) ⊎ (b ≡ true)
-two_signs false = inl refl
-two_signs true = inr refl
+  pub child_needing : (child parent : State) (l : Label) → IsChildOf known child parent l → needed_of (matter_at matters child.variable) (flip_at flips parent.variable) l ≡ bound → IsNeeding known flips matters bound parent.variable child.variable l
+  child_needing child parent l c e = record { within = c.within; above = c.above; is = c.is; bounded = e }
+
+  -- and is listed below it
+  pub listed : (children : List (List ℕ)) (numbers : List ℕ) (parent child : ℕ) (l : Label) → AreChildren known children → numbers ≡ get_or children parent [] → IsNeeding known flips matters bound parent child l →
+      (i : ℕ) × (i < length numbers) × (get_or numbers i 0 ≡ child)
+  listed children numbers parent child l are e n =
+      let h : Contains numbers child = subst (λ xs. Contains xs child) (sym e) (are.all parent child l n.above n.within n.is) in
+      (h.0, h.1, get_or_default numbers h.0 0 child h.1 ∙ h.2)
+
+-- a parent's state has one child of a number
+pub closed_one : (known : List Dtv) (flips matters : List Bool) (edges pushed : List Edge) → AreDistinct known → (source parent : State) (first : Label) → IsChildOf known source parent first → IsClosedFrom known flips matters edges pushed source parent first →
+    (child : State) (l : Label) → child.variable ≡ source.variable → IsChildOf known child parent l → IsClosedFrom known flips matters edges pushed child parent l
+closed_one known flips matters edges pushed apart source parent first own done child l e k =
+    let o : (source ≡ child) × (first ≡ l) = child_one known apart child source parent l first e own k in
+    subst (λ z. IsClosedFrom known flips matters edges pushed z parent l) o.0 (subst (λ m. IsClosedFrom known flips matters edges pushed source parent m) o.1 done)
+
+-- all bounds
+pub bounds_closed : (known : List Dtv) (flips matters : List Bool) (edges pushed : List Edge) (parent : State) →
+    ((bound : Option ℕ) → (bound ≡ None) ⊎ (bound ≡ Some 0) ⊎ (bound ≡ Some 1) → (child : State) (l : Label) → IsChildOf known child parent l → IsNeeding known flips matters bound parent.variable child.variable l → IsClosedFrom known flips matters edges pushed child parent l) →
+    (child : State) (l : Label) → IsChildOf known child parent l → IsClosedFrom known flips matters edges pushed child parent l
+bounds_closed known flips matters edges pushed parent done child l k =
+    let bound : Option ℕ = needed_of (matter_at matters child.variable) (flip_at flips parent.variable) l in
+    done bound (three_bounds (matter_at matters child.variable) (flip_at flips parent.variable) l) child l k (child_needing known flips matters bound child parent l k refl)
+
+-- both signs
+pub both_signs : (known : List Dtv) (flips matters : List Bool) (edges pushed : List Edge) (number : ℕ) →
+    ((child : State) (l : Label) → IsChildOf known child (record { variable = number; contra = false }) l → IsClosedFrom known flips matters edges pushed child (record { variable = number; contra = false }) l) →
+    ((child : State) (l : Label) → IsChildOf known child (record { variable = number; contra = true }) l → IsClosedFrom known flips matters edges pushed child (record { variable = number; contra = true }) l) →
+    (child parent : State) (l : Label) → parent.variable ≡ number → IsChildOf known child parent l → IsClosedFrom known flips matters edges pushed child parent l
+both_signs known flips matters edges pushed number forth back child parent l e k = by parent.contra refl
+  where
+    by : (b : Bool) → parent.contra ≡ b → IsClosedFrom known flips matters edges pushed child parent l
+    by false f =
+        let s : parent ≡ record { variable = number; contra = false } = (λ i. record { variable = e i; contra = f i }) in
+        subst (λ z. IsClosedFrom known flips matters edges pushed child z l) (sym s) (forth child l (subst (λ z. IsChildOf known child z l) s k))
+    by true f =
+        let s : parent ≡ record { variable = number; contra = true } = (λ i. record { variable = e i; contra = f i }) in
+        subst (λ z. IsClosedFrom known flips matters edges pushed child z l) (sym s) (back child l (subst (λ z. IsChildOf known child z l) s k))
 
 pub entry_one : (s t : State) (j k : ℕ) → ◌≡◌ {A = Option (State × ℕ)} (Some (s, j)) (Some (t, k)) → (s ≡ t) × (j ≡ k)
 entry_one s t j k e = let p : ◌≡◌ {A = State × ℕ} (s, j) (t, k) = cc in (ap (λ (z : State × ℕ). z.0) p, ap (λ (z : State × ℕ). z.1) p)

@@ -1,23 +1,18 @@
 -- Tests of variables: which are named, and which can be read and written through.
-use Rattle.std.specs.Prelude.{ℕ, List, Bool, false, ◌&&◌, Option, Some, None, is_some}
+use Rattle.std.specs.Prelude.{List, Bool}
 use Rattle.std.specs.List.{list_any}
-use Rattle.rt_lines.specs.declared.label.Label.TheVariants.{Load, Store}
 use Rattle.rt_lines.specs.declared.variable.Dtv.{Dtv}
 use Rattle.rt_lines.specs.Equality.{variable_eq}
 use Rattle.rt_bridge.specs.Growing.{Var, dv, Given}
 use Rattle.rt_bridge.specs.Laws.{AreNamed, AreFlips}
-use Rattle.rt_shape.specs.Graphs.{Graph, node_of, step_of}
+use Rattle.rt_shape.specs.Graphs.{Graph, node_of}
 use Rattle.rt_shape.specs.Shapes.{IsShapeOf}
 use Rattle.rt_named.specs.Naming.{named}
+use Rattle.rt_named.specs.Nodes.{flips_at}
 
 -- the variable is in the list
 abbrev pub is_among : List Dtv → Var → Bool
 is_among known x = list_any (variable_eq (dv x)) known
-
--- the node has a load and a store
-abbrev pub flips_at : Graph → Option ℕ → Bool
-flips_at graph None = false
-flips_at graph (Some n) = is_some (step_of graph n Load) && is_some (step_of graph n Store)
 
 -- the variable can be read and written through, by its node
 abbrev pub flips_by : Graph → Var → Bool

@@ -2,6 +2,7 @@ pub mod Counts
 pub mod Probe
 pub mod Deciding
 pub mod Searches
+pub mod Reached
 pub mod Numbered
 pub mod Pushes
 pub mod Mattering

@@ -4,7 +4,7 @@ use Rattle.rt_lines.specs.declared.label.Label.{Label}
 use Rattle.rt_lines.specs.declared.variable.Dtv.{Dtv}
 use Rattle.rt_bridge.specs.Growing.{Var, dv}
 use Rattle.rt_shape.specs.Graphs.{Graph, node_of, step_of}
-use Rattle.rt_sat.specs.Deciding.{flips_at}
+use Rattle.rt_named.specs.Nodes.{flips_at}
 use Rattle.rt_sat.specs.Numbered.{at_number}
 use Rattle.rt_sat.specs.Pushes.{matter_at}
 

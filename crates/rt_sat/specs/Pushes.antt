@@ -2,6 +2,7 @@
 use Rattle.std.specs.Prelude.{◌≡◌, ℕ, ◌+◌, ◌<◌, ◌≤◌, ◌⊎◌, ◌↔◌, List, [], Contains, Bool, true, false, Option, Some, None, length, drop}
 use Rattle.std.specs.Prelude.{slice_index_or}
 use Rattle.rt_lines.specs.declared.label.Label.{Label}
+use Rattle.rt_lines.specs.declared.label.Label.TheVariants.{Load, Store}
 use Rattle.rt_lines.specs.declared.label.Variance.{Variance}
 use Rattle.rt_lines.specs.declared.variable.Dtv.{Dtv}
 use Rattle.rt_lines.specs.Words.{label_variance, times}
@@ -69,6 +70,22 @@ asked_of false = Some 0
 -- whether counts above nought matter at a number's variable
 abbrev pub matter_at : List Bool → ℕ → Bool
 matter_at matters n = slice_index_or matters n false
+
+-- the bound of the counts from which those that are asked for of a child are pushed: half pushes give nought from one
+abbrev pub needed_of : Bool → Bool → Label → Option ℕ
+needed_of true flip l = None
+needed_of false false l = Some 0
+needed_of false true Load = Some 1
+needed_of false true Store = Some 1
+needed_of false true l = Some 0
+
+-- the variable of the second number is that of the first with the letter, and needs the bound
+pub record IsNeeding (known : List Dtv) (flips matters : List Bool) (bound : Option ℕ) (parent child : ℕ) (l : Label) :
+    Type 0 where
+  pub within : child < length known
+  pub above : parent < length known
+  pub is : at_number known child ≡ longer (at_number known parent) l
+  pub bounded : needed_of (matter_at matters child) (flip_at flips parent) l ≡ bound
 
 -- whatever is pushed from ways of a child's parent, at counts that are asked for, has a walk along the pushed edges
 abbrev pub IsClosedFrom : List Dtv → List Bool → List Bool → List Edge → List Edge → State → State → Label → Type 0

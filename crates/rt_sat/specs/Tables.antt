@@ -1,35 +1,22 @@
 -- Which named variable lies below which, by numbered edges.
-use Rattle.std.specs.Prelude.{◌≡◌, ℕ, ◌<◌, ◌↔◌, ◌⊎◌, List, Contains, Bool, [], false, Option, Some, None, length, slice_get, slice_index_or}
-use Rattle.rt_lines.specs.declared.label.Label.{Label}
+use Rattle.std.specs.Prelude.{◌≡◌, ℕ, ◌<◌, ◌↔◌, ◌⊎◌, List, Contains, Bool, [], false, Some, length, slice_get}
 use Rattle.rt_lines.specs.declared.variable.Dtv.{Dtv}
 use Rattle.rt_lines.specs.declared.line.Line.{Line}
 use Rattle.rt_lines.specs.declared.line.Line.TheVariants.{Var, Sub, Low, Up}
 use Rattle.rt_lines.specs.Orders.{Below, IsAtOrBelow}
 use Rattle.rt_rules.specs.Rules.{Derivable}
 use Rattle.rt_bridge.specs.Growing.{Given}
-use Rattle.rt_shape.specs.Graphs.{Graph, node_of, step_of, bare}
+use Rattle.rt_shape.specs.Graphs.{Graph, node_of}
 use Rattle.rt_shape.specs.Shapes.{IsShapeOf}
-use Rattle.rt_named.specs.declared.origin.Origin.{Origin}
-use Rattle.rt_named.specs.declared.origin.Origin.TheVariants.{Bare, Longer}
 use Rattle.rt_named.specs.Naming.{named}
+use Rattle.rt_named.specs.Nodes.{flips_at}
 use Rattle.rt_sat.specs.declared.state.State.{State}
 use Rattle.rt_sat.specs.declared.state.Edge.{Edge}
-use Rattle.rt_sat.specs.Deciding.{flips_at}
 use Rattle.rt_sat.specs.Numbered.{at_number}
 use Rattle.rt_sat.specs.Pushes.{flip_at, IsFrame, IsClosing}
 use Rattle.rt_sat.specs.Mattering.{AreMarked, AreMattering}
 use Rattle.rt_sat.specs.Closings.{AreLineEdges}
 use Rattle.rt_sat.specs.Searches.{Walk}
-
--- the node after a node, where there is one
-abbrev pub stepped : Graph → Option ℕ → Label → Option ℕ
-stepped graph None l = None
-stepped graph (Some n) l = step_of graph n l
-
--- the node of a variable that is made of an earlier one, by the nodes of those
-abbrev pub node_made : Graph → List (Option ℕ) → Origin → Option ℕ
-node_made graph nodes (Bare b) = node_of graph (bare b)
-node_made graph nodes (Longer n l) = stepped graph (slice_index_or nodes n None) l
 
 -- the flags say of each variable whether its node has a load and a store
 abbrev pub AreFlagged : Graph → List Dtv → List Bool → Type 0

@@ -1,8 +1,6 @@
 // Edges with all that is pushed from their ways.
 ghost use Rattle.std.specs.Prelude.{◌≡◌, ◌<◌, ◌≤◌, ◌++◌, ℕ, [], List, drop, length, slice_index_or, IfOk, OnOk, Contains};
 ghost use Rattle.rt_lines.specs.declared.label.Label.{Label as Letter};
-ghost use Rattle.rt_named.specs.Origins.{no_variable};
-ghost use Rattle.rt_rules.specs.Rules.{longer};
 ghost use Rattle.rt_sat.specs.declared.state.State.{State as Place};
 ghost use Rattle.rt_sat.specs.declared.state.Edge.{Edge as Arrow};
 ghost use Rattle.rt_sat.specs.Numbered.{AreDistinct};
@@ -10,10 +8,10 @@ ghost use Rattle.rt_sat.specs.Pushes.{AreChildren, IsChildOf, IsClosedBy, IsClos
 ghost use Rattle.rt_sat.specs.Searches.{IsIndexed};
 
 use crate::indexing::indexed;
-use crate::pushing::{Frame, Layer, push_from, sign, turns};
+use crate::pushing::{Frame, Layer, push_below};
+use crate::reached::Reached;
 use crate::state::{Edge, State};
 use rt_base::{Memory, Sequence};
-use rt_lines::Label;
 use rt_named::{Named, Origin};
 use std::alloc::Global;
 
@@ -104,13 +102,25 @@ fn pass(
         out: &leaving_pushed,
     };
     let mut fresh = Vec::new(alloc);
+    let mut above = Reached::new(alloc);
+    let mut below = Reached::new(alloc);
     for number in 0..frame.named.len() {
-        push_number(alloc, frame, &all, &known, &mut fresh, number as u32, limit)?;
+        push_number(
+            alloc,
+            frame,
+            &all,
+            &known,
+            &mut fresh,
+            number as u32,
+            limit,
+            &mut above,
+            &mut below,
+        )?;
     }
     Ok(fresh)
 }
 
-// Notes what is pushed to edges of a variable with a letter, of both signs.
+// Notes what is pushed from ways of a variable, of both signs.
 fn push_number(
     alloc: Global,
     frame: &Frame,
@@ -119,66 +129,32 @@ fn push_number(
     fresh: &mut Vec<Edge>,
     number: u32,
     limit: usize,
+    reached: &mut Reached,
+    known: &mut Reached,
 ) -> Result<(), Memory>
     requires children { AreChildren frame.now.named frame.now.children.items }
     requires distinct { AreDistinct frame.now.named }
     requires indexed { IsIndexed all.now.edges.now all.now.out.now × IsIndexed pushed.now.edges.now pushed.now.out.now }
-    requires number { number < length frame.now.named }
     requires limit { 0 < limit }
     ensures grown { OnOk result (IsGrown (IsPushed frame.now.named frame.now.flips.items all.now.edges.now)
         fresh.old.items fresh.new.items) }
-    ensures done { OnOk result (fresh.new.items ≡ [] → (child parent : Place) (l : Letter) → child.variable ≡ number →
+    ensures done { OnOk result (fresh.new.items ≡ [] → (child parent : Place) (l : Letter) → parent.variable ≡ number →
         IsChildOf frame.now.named child parent l →
         IsClosedFrom frame.now.named frame.now.flips.items frame.now.matters.items all.now.edges.now pushed.now.edges.now child parent l) }
 {
-    if let Origin::Longer(parent, first) = frame.named.origin(number) {
-        push_state(
-            alloc, frame, all, pushed, fresh, number, false, first, parent, limit,
-        )?;
-        push_state(
-            alloc, frame, all, pushed, fresh, number, true, first, parent, limit,
-        )?;
-    }
-    Ok(())
-}
-
-// Notes what is pushed to edges of a state of a variable with a letter.
-fn push_state(
-    alloc: Global,
-    frame: &Frame,
-    all: &Layer<'_>,
-    pushed: &Layer<'_>,
-    fresh: &mut Vec<Edge>,
-    number: u32,
-    contra: bool,
-    first: Label,
-    parent: u32,
-    limit: usize,
-) -> Result<(), Memory>
-    requires children { AreChildren frame.now.named frame.now.children.items }
-    requires distinct { AreDistinct frame.now.named }
-    requires indexed { IsIndexed all.now.edges.now all.now.out.now × IsIndexed pushed.now.edges.now pushed.now.out.now }
-    requires number { number < length frame.now.named }
-    requires limit { 0 < limit }
-    requires below { parent < number }
-    requires longer { slice_index_or frame.now.named number no_variable ≡ longer (slice_index_or frame.now.named parent no_variable) first }
-    ensures grown { OnOk result (IsGrown (IsPushed frame.now.named frame.now.flips.items all.now.edges.now)
-        fresh.old.items fresh.new.items) }
-    ensures done { OnOk result (fresh.new.items ≡ [] → (child above : Place) (l : Letter) → child.variable ≡ number →
-        child.contra ≡ contra → IsChildOf frame.now.named child above l →
-        IsClosedFrom frame.now.named frame.now.flips.items frame.now.matters.items all.now.edges.now pushed.now.edges.now child above l) }
-{
-    let source = State {
+    let forth = State {
         variable: number,
-        contra,
+        contra: false,
     };
-    let turned = turns(first.variance().times(sign(contra)));
-    let above = State {
-        variable: parent,
-        contra: turned,
+    let back = State {
+        variable: number,
+        contra: true,
     };
-    push_from(
-        alloc, frame, all, pushed, fresh, source, first, above, limit,
+    push_below(
+        alloc, frame, all, pushed, fresh, forth, limit, reached, known,
+    )?;
+    push_below(
+        alloc, frame, all, pushed, fresh, back, limit, reached, known,
     )?;
     Ok(())
 }

@@ -42,6 +42,9 @@ impl Count {
     pub fn copy(&self, alloc: Global) -> Result<Count, Memory>
         ensures { IfOk result (λ copy. copy ≡ self.now) }
     {
+        if self.high.is_empty() {
+            return Ok(Count::small(alloc, self.low));
+        }
         let high = self.high.as_slice().to_vec(alloc)?;
         Ok(Count {
             low: self.low,
@@ -54,6 +57,9 @@ impl Count {
         ensures { IfOk result (λ sum. sum ≡ self.now + other.now) }
     {
         let low = u64::from(self.low) + u64::from(other.low);
+        if self.high.is_empty() && other.high.is_empty() && low <= 0xffff_ffff {
+            return Ok(Count::small(alloc, low as u32));
+        }
         let high = digits::sum(alloc, &self.high, &other.high, low > 0xffff_ffff)?;
         Ok(Count {
             low: (low % 0x1_0000_0000) as u32,
@@ -86,6 +92,9 @@ impl Count {
     pub fn is_less(&self, other: &Count) -> bool
         ensures { IsTrue result ↔ (self.now < other.now) }
     {
+        if self.high.is_empty() && other.high.is_empty() {
+            return self.low < other.low;
+        }
         if digits::is_less(&self.high, &other.high) {
             return true;
         }

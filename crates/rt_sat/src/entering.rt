@@ -1,5 +1,5 @@
 // The edges of subtype lines.
-ghost use Rattle.std.specs.Prelude.{◌≡◌, ◌++◌, ◌∷◌, ℕ, [], List, Contains, Some, slice_get, IfOk, OnOk};
+ghost use Rattle.std.specs.Prelude.{◌≡◌, ◌++◌, ◌∷◌, ℕ, [], List, Contains, IfOk, OnOk};
 ghost use Rattle.rt_lines.specs.declared.variable.Dtv.{Dtv as Variable};
 ghost use Rattle.rt_lines.specs.declared.line.Line.{Line as Given};
 ghost use Rattle.rt_rules.specs.Rules.{HasSide};
@@ -59,8 +59,8 @@ fn enter_sub(
     requires right { Contains named.now y.now }
     ensures { OnOk result (IsLineEntered named.now x.now y.now edges.old.items edges.new.items) }
 {
-    let left = number(named, x);
-    let right = number(named, y);
+    let left = named.number(x);
+    let right = named.number(y);
     edges.push(edge(alloc, left, right, false))?;
     edges.push(edge(alloc, right, left, true))?;
     Ok(())
@@ -82,16 +82,5 @@ pub(crate) fn edge(alloc: Global, from: u32, to: u32, contra: bool) -> Edge
             contra,
         },
         count: Count::small(alloc, 0),
-    }
-}
-
-// The number of a named variable.
-pub(crate) fn number(named: &Named, x: &Dtv) -> u32
-    requires { Contains named.now x.now }
-    ensures { slice_get named.now result ≡ Some x.now }
-{
-    match named.index(x) {
-        Some(number) => number,
-        None => unreachable!(),
     }
 }

@@ -9,7 +9,6 @@ ghost use Rattle.rt_rules.specs.Rules.{Derivable, HasSide, line_of};
 ghost use Rattle.rt_shape.specs.Shapes.{IsShapeOf};
 ghost use Rattle.rt_sat.specs.Tables.{AreLows, AreUps};
 
-use crate::entering::number;
 use crate::table::{meets, saturated};
 use rt_base::Memory;
 use rt_lines::{Dtv, Judge, Line, Order};
@@ -67,8 +66,8 @@ fn is_below(alloc: Global, lines: &[Line], shape: &Shape, x: &Dtv, y: &Dtv) -> R
     }
     let extra = both(alloc, x, y)?;
     let table = saturated(alloc, lines, shape, &extra)?;
-    let left = number(&table.named, x);
-    let right = number(&table.named, y);
+    let left = table.named.number(x);
+    let right = table.named.number(y);
     let sources = one(alloc, left)?;
     let targets = one(alloc, right)?;
     let yes = meets(alloc, table, &sources, &targets)?;
@@ -96,7 +95,7 @@ fn has_low(
     }
     let extra = alone(alloc, x)?;
     let table = saturated(alloc, lines, shape, &extra)?;
-    let right = number(&table.named, x);
+    let right = table.named.number(x);
     let sources = lows(alloc, &table.named, lines, order, k)?;
     let targets = one(alloc, right)?;
     let yes = meets(alloc, table, &sources, &targets)?;
@@ -124,7 +123,7 @@ fn has_up(
     }
     let extra = alone(alloc, x)?;
     let table = saturated(alloc, lines, shape, &extra)?;
-    let left = number(&table.named, x);
+    let left = table.named.number(x);
     let sources = one(alloc, left)?;
     let targets = ups(alloc, &table.named, lines, order, k)?;
     let yes = meets(alloc, table, &sources, &targets)?;
@@ -196,7 +195,7 @@ fn enter_low(
     match line {
         Line::Low(bound, x) => {
             if order.le(k, *bound) {
-                numbers.push(number(named, x))?;
+                numbers.push(named.number(x))?;
             }
             Ok(())
         }
@@ -244,7 +243,7 @@ fn enter_up(
     match line {
         Line::Up(x, bound) => {
             if order.le(*bound, k) {
-                numbers.push(number(named, x))?;
+                numbers.push(named.number(x))?;
             }
             Ok(())
         }

@@ -1,11 +1,14 @@
 // The nodes of a shape at which counts above nought matter.
-ghost use Rattle.std.specs.Prelude.{◌≡◌, ◌<◌, ◌⊎◌, true, length, IsTrue, IfOk, OnOk};
-ghost use Rattle.rt_sat.specs.Mattering.{AreMarked, IsKeptAt, mark_at};
+ghost use Rattle.std.specs.Prelude.{◌≡◌, ◌<◌, ◌⊎◌, List, true, length, IsTrue, IfOk, OnOk};
+ghost use Rattle.rt_lines.specs.declared.variable.Dtv.{Dtv as Variable};
+ghost use Rattle.rt_shape.specs.Graphs.{Graph};
+ghost use Rattle.rt_named.specs.Nodes.{AreNodesOf};
+ghost use Rattle.rt_sat.specs.Mattering.{AreMarked, AreMattering, IsKeptAt, mark_at};
 
 use crate::closing::no_numbers;
-use crate::nodes::is_flip;
 use crate::pushing::numbers_at;
 use rt_base::{Memory, Sequence};
+use rt_named::nodes::is_flip;
 use rt_shape::Shape;
 use std::alloc::Global;
 
@@ -82,6 +85,22 @@ pub(crate) fn is_marked(marks: &[bool], node: Option<u32>) -> bool
         },
         None => false,
     }
+}
+
+// For each node of a list whether it is marked.
+pub(crate) fn matters(
+    alloc: Global,
+    nodes: &[Option<u32>],
+    marks: &[bool],
+) -> Result<Vec<bool>, Memory>
+    ensures { IfOk result (λ matters. (graph : Graph) (named : List Variable) → AreNodesOf graph named nodes.now →
+        AreMattering graph marks.now named matters.items) }
+{
+    let mut matters = Vec::new(alloc);
+    for node in nodes {
+        matters.push(is_marked(marks, *node))?;
+    }
+    Ok(matters)
 }
 
 // Whether each edge keeps to the marks.

@@ -1,22 +1,6 @@
 // Pushes from ways between variables to edges between those with a letter more.
-ghost use Rattle.std.specs.Prelude.{
-  ◌≡◌,
-  ℕ,
-  ◌<◌,
-  ◌≤◌,
-  ◌↔◌,
-  [],
-  List,
-  Bool,
-  false,
-  true,
-  length,
-  slice_index_or,
-  IsTrue,
-  IfOk,
-  OnOk,
-  Contains,
-};
+ghost use Rattle.std.specs.Prelude.{◌≡◌, ℕ, ◌<◌, ◌≤◌, ◌↔◌, [], List, Bool, false, true, None};
+ghost use Rattle.std.specs.Prelude.{length, slice_index_or, IsTrue, IfOk, IfSome, OnOk, Contains};
 ghost use Rattle.rt_lines.specs.declared.label.Label.{Label as Letter};
 ghost use Rattle.rt_lines.specs.declared.label.Variance.{Variance as Sign};
 ghost use Rattle.rt_lines.specs.Words.{label_variance, times};
@@ -24,33 +8,16 @@ ghost use Rattle.rt_bridge.specs.Counted.{IsPointer};
 ghost use Rattle.rt_sat.specs.declared.state.State.{State as Place};
 ghost use Rattle.rt_sat.specs.declared.state.Edge.{Edge as Arrow};
 ghost use Rattle.rt_sat.specs.Numbered.{AreDistinct, AreWithin, is_contra, sign_of};
-ghost use Rattle.rt_sat.specs.Pushes.{
-  AreChildren,
-  asked_of,
-  matter_at,
-  HasWalk,
-  IsChildOf,
-  IsClosedBy,
-  IsClosedFrom,
-  IsDoneAt,
-  IsDoneOn,
-  IsDoneTo,
-  IsGrown,
-  IsHalf,
-  IsPushed,
-  IsPushedOn,
-  IsPushedTo,
-  PushBy,
-  flip_at,
-};
+ghost use Rattle.rt_sat.specs.Pushes.{AreChildren, asked_of, matter_at, HasWalk, IsChildOf, IsClosedBy, IsClosedFrom, IsDoneAt};
+ghost use Rattle.rt_sat.specs.Pushes.{IsNeeding, needed_of};
+ghost use Rattle.rt_sat.specs.Pushes.{IsDoneOn, IsDoneTo, IsGrown, IsHalf, IsPushed, IsPushedOn, IsPushedTo, PushBy, flip_at};
 ghost use Rattle.rt_sat.specs.Counts.{IsLeastHalf};
 ghost use Rattle.rt_sat.specs.Searches.{Allows, IsIndexed, IsSearch, IsWithin, Walk};
 
 use crate::count::Count;
-use crate::indexing::indexed;
+use crate::reached::Reached;
 use crate::search::{allows, search};
 use crate::state::{Edge, State};
-use indexmap::IndexMap;
 use rt_base::{Memory, Sequence};
 use rt_lines::{Label, Variance};
 use rt_named::{Named, Origin};
@@ -102,19 +69,19 @@ fn note(
     alloc: Global,
     fresh: &mut Vec<Edge>,
     most: Option<u32>,
-    known: &IndexMap<State, Count>,
+    known: &Reached,
     from: State,
     to: State,
     count: Count,
 ) -> Result<(), Memory>
     ensures grown { OnOk result (IsGrown (λ (e : Arrow). (e.from ≡ from) × (e.to ≡ to) ×
         (e.count ≡ count)) fresh.old.items fresh.new.items) }
-    ensures done { OnOk result (fresh.new.items ≡ [] → Allows most count → IsWithin known.now.entries to count) }
+    ensures done { OnOk result (fresh.new.items ≡ [] → Allows most count → IsWithin known.now to count) }
 {
     if !allows(alloc, most, &count) {
         return Ok(());
     }
-    if let Some(least) = known.get(&to) {
+    if let Some(least) = known.get(to) {
         if !count.is_less(least) {
             return Ok(());
         }
@@ -128,7 +95,7 @@ fn push_kept(
     alloc: Global,
     fresh: &mut Vec<Edge>,
     most: Option<u32>,
-    known: &IndexMap<State, Count>,
+    known: &Reached,
     source: State,
     first: Label,
     target: State,
@@ -138,7 +105,7 @@ fn push_kept(
     ensures grown { OnOk result (IsGrown (λ (e : Arrow). (e.from ≡ source) × (e.to ≡ target) × (first ≡ second) ×
         (count.now ≡ e.count)) fresh.old.items fresh.new.items) }
     ensures done { OnOk result (fresh.new.items ≡ [] → first ≡ second → Allows most count.now →
-        IsWithin known.now.entries target count.now) }
+        IsWithin known.now target count.now) }
 {
     if first == second {
         let copy = count.copy(alloc)?;
@@ -153,7 +120,7 @@ fn push_half(
     flip: bool,
     fresh: &mut Vec<Edge>,
     most: Option<u32>,
-    known: &IndexMap<State, Count>,
+    known: &Reached,
     source: State,
     first: Label,
     target: State,
@@ -164,7 +131,7 @@ fn push_half(
         IsHalf flip first second count.now (sign_of source.contra) (sign_of target.contra) e.count) fresh.old.items fresh.new.items) }
     ensures done { OnOk result (fresh.new.items ≡ [] → (k : ℕ) →
         IsHalf flip first second count.now (sign_of source.contra) (sign_of target.contra) k → Allows most k →
-        IsWithin known.now.entries target k) }
+        IsWithin known.now target k) }
 {
     if flip && is_pointer(first) && is_pointer(second) {
         let half = half_between(alloc, source, first, target, second, count)?;
@@ -198,7 +165,7 @@ fn push_between(
     flip: bool,
     fresh: &mut Vec<Edge>,
     most: Option<u32>,
-    known: &IndexMap<State, Count>,
+    known: &Reached,
     source: State,
     first: Label,
     target: State,
@@ -209,7 +176,7 @@ fn push_between(
         PushBy flip first second count.now (sign_of source.contra) (sign_of target.contra) e.count) fresh.old.items fresh.new.items) }
     ensures done { OnOk result (fresh.new.items ≡ [] → (k : ℕ) →
         PushBy flip first second count.now (sign_of source.contra) (sign_of target.contra) k → Allows most k →
-        IsWithin known.now.entries target k) }
+        IsWithin known.now target k) }
 {
     push_kept(
         alloc, fresh, most, known, source, first, target, second, count,
@@ -226,7 +193,7 @@ fn push_to(
     frame: &Frame,
     fresh: &mut Vec<Edge>,
     most: Option<u32>,
-    known: &IndexMap<State, Count>,
+    known: &Reached,
     flip: bool,
     source: State,
     first: Label,
@@ -238,7 +205,7 @@ fn push_to(
     ensures grown { OnOk result (IsGrown (λ (e : Arrow). (e.from ≡ source) ×
         IsPushedTo frame.now.named flip first other count.now (sign_of source.contra) e.to e.count) fresh.old.items fresh.new.items) }
     ensures done { OnOk result (fresh.new.items ≡ [] →
-        IsDoneTo frame.now.named flip first other count.now (sign_of source.contra) most known.now.entries) }
+        IsDoneTo frame.now.named flip first other count.now (sign_of source.contra) most known.now) }
 {
     for child in numbers_at(&frame.children, other.variable) {
         push_child(
@@ -264,7 +231,7 @@ fn push_child(
     frame: &Frame,
     fresh: &mut Vec<Edge>,
     most: Option<u32>,
-    known: &IndexMap<State, Count>,
+    known: &Reached,
     flip: bool,
     source: State,
     first: Label,
@@ -277,7 +244,7 @@ fn push_child(
     ensures grown { OnOk result (IsGrown (λ (e : Arrow). (e.from ≡ source) ×
         IsPushedTo frame.now.named flip first other count.now (sign_of source.contra) e.to e.count) fresh.old.items fresh.new.items) }
     ensures done { OnOk result (fresh.new.items ≡ [] →
-        IsDoneAt frame.now.named flip first other count.now (sign_of source.contra) most known.now.entries child) }
+        IsDoneAt frame.now.named flip first other count.now (sign_of source.contra) most known.now child) }
 {
     match frame.named.origin(child) {
         Origin::Longer(parent, second) => {
@@ -305,37 +272,179 @@ pub(crate) struct Layer<'a> {
     pub(crate) out: &'a [Sequence<usize>],
 }
 
-// Notes what is pushed from the ways of a parent to edges of its child, as far as no way along pushed edges is as short.
-pub(crate) fn push_from(
+// Notes what is pushed from the ways of a state to edges of its children, as far as no way along pushed edges is as
+// short. Children that need the same bound share one search.
+pub(crate) fn push_below(
     alloc: Global,
     frame: &Frame,
     all: &Layer<'_>,
     pushed: &Layer<'_>,
     fresh: &mut Vec<Edge>,
-    source: State,
-    first: Label,
     parent: State,
     limit: usize,
+    reached: &mut Reached,
+    known: &mut Reached,
 ) -> Result<(), Memory>
     requires children { AreChildren frame.now.named frame.now.children.items }
     requires distinct { AreDistinct frame.now.named }
     requires indexed { IsIndexed all.now.edges.now all.now.out.now × IsIndexed pushed.now.edges.now pushed.now.out.now }
-    requires child { IsChildOf frame.now.named source parent first }
     requires limit { 0 < limit }
     ensures grown { OnOk result (IsGrown (IsPushed frame.now.named frame.now.flips.items all.now.edges.now)
         fresh.old.items fresh.new.items) }
-    ensures done { OnOk result (fresh.new.items ≡ [] →
+    ensures done { OnOk result (fresh.new.items ≡ [] → (child : Place) (l : Letter) →
+        IsChildOf frame.now.named child parent l →
         IsClosedFrom frame.now.named frame.now.flips.items frame.now.matters.items all.now.edges.now pushed.now.edges.now
-        source parent first) }
+        child parent l) }
 {
+    push_bound(
+        alloc, frame, all, pushed, fresh, parent, None, limit, reached, known,
+    )?;
+    push_bound(
+        alloc,
+        frame,
+        all,
+        pushed,
+        fresh,
+        parent,
+        Some(0),
+        limit,
+        reached,
+        known,
+    )?;
+    push_bound(
+        alloc,
+        frame,
+        all,
+        pushed,
+        fresh,
+        parent,
+        Some(1),
+        limit,
+        reached,
+        known,
+    )?;
+    Ok(())
+}
+
+// Notes what is pushed from the ways of a state to edges of those of its children that need a bound.
+fn push_bound(
+    alloc: Global,
+    frame: &Frame,
+    all: &Layer<'_>,
+    pushed: &Layer<'_>,
+    fresh: &mut Vec<Edge>,
+    parent: State,
+    bound: Option<u32>,
+    limit: usize,
+    reached: &mut Reached,
+    known: &mut Reached,
+) -> Result<(), Memory>
+    requires children { AreChildren frame.now.named frame.now.children.items }
+    requires distinct { AreDistinct frame.now.named }
+    requires indexed { IsIndexed all.now.edges.now all.now.out.now × IsIndexed pushed.now.edges.now pushed.now.out.now }
+    requires limit { 0 < limit }
+    ensures grown { OnOk result (IsGrown (IsPushed frame.now.named frame.now.flips.items all.now.edges.now)
+        fresh.old.items fresh.new.items) }
+    ensures done { OnOk result (fresh.new.items ≡ [] → (child : Place) (l : Letter) →
+        IsChildOf frame.now.named child parent l →
+        IsNeeding frame.now.named frame.now.flips.items frame.now.matters.items bound parent.variable child.variable l →
+        IsClosedFrom frame.now.named frame.now.flips.items frame.now.matters.items all.now.edges.now pushed.now.edges.now
+        child parent l) }
+{
+    if !is_needed(frame, parent.variable, bound) {
+        return Ok(());
+    }
+    search(alloc, all.edges, all.out, parent, bound, reached)?;
+    for child in numbers_at(&frame.children, parent.variable) {
+        push_child_of(
+            alloc, frame, all, pushed, fresh, parent, bound, reached, *child, limit, known,
+        )?;
+    }
+    Ok(())
+}
+
+// Whether a child of a variable needs a bound.
+fn is_needed(frame: &Frame, parent: u32, bound: Option<u32>) -> bool
+    requires children { AreChildren frame.now.named frame.now.children.items }
+    requires distinct { AreDistinct frame.now.named }
+    ensures { result ≡ false → (child : ℕ) (l : Letter) →
+        IsNeeding frame.now.named frame.now.flips.items frame.now.matters.items bound parent child l → ⊥ }
+{
+    for child in numbers_at(&frame.children, parent) {
+        if needing(frame, parent, *child, bound).is_some() {
+            return true;
+        }
+    }
+    false
+}
+
+// The letter of a child of a variable, if it is that and needs a bound.
+fn needing(frame: &Frame, parent: u32, child: u32, bound: Option<u32>) -> Option<Label>
+    requires child { child < length frame.now.named }
+    requires distinct { AreDistinct frame.now.named }
+    ensures some { IfSome result (λ l.
+        IsNeeding frame.now.named frame.now.flips.items frame.now.matters.items bound parent child l) }
+    ensures none { result ≡ None → (l : Letter) →
+        IsNeeding frame.now.named frame.now.flips.items frame.now.matters.items bound parent child l → ⊥ }
+{
+    let Origin::Longer(above, first) = frame.named.origin(child) else {
+        return None;
+    };
+    if above != parent {
+        return None;
+    }
+    if needed(
+        flag(&frame.matters, child),
+        flag(&frame.flips, parent),
+        first,
+    ) != bound
+    {
+        return None;
+    }
+    Some(first)
+}
+
+// Notes what is pushed from the ways of a state within a bound to edges of its child of a number, if it is that and
+// needs the bound.
+fn push_child_of(
+    alloc: Global,
+    frame: &Frame,
+    all: &Layer<'_>,
+    pushed: &Layer<'_>,
+    fresh: &mut Vec<Edge>,
+    parent: State,
+    bound: Option<u32>,
+    reached: &Reached,
+    child: u32,
+    limit: usize,
+    known: &mut Reached,
+) -> Result<(), Memory>
+    requires children { AreChildren frame.now.named frame.now.children.items }
+    requires distinct { AreDistinct frame.now.named }
+    requires indexed { IsIndexed pushed.now.edges.now pushed.now.out.now }
+    requires reached { IsSearch bound all.now.edges.now parent reached.now }
+    requires child { child < length frame.now.named }
+    requires limit { 0 < limit }
+    ensures grown { OnOk result (IsGrown (IsPushed frame.now.named frame.now.flips.items all.now.edges.now)
+        fresh.old.items fresh.new.items) }
+    ensures done { OnOk result (fresh.new.items ≡ [] → (end : Place) (l : Letter) → end.variable ≡ child →
+        IsChildOf frame.now.named end parent l →
+        IsNeeding frame.now.named frame.now.flips.items frame.now.matters.items bound parent.variable child l →
+        IsClosedFrom frame.now.named frame.now.flips.items frame.now.matters.items all.now.edges.now pushed.now.edges.now
+        end parent l) }
+{
+    let Some(first) = needing(frame, parent.variable, child, bound) else {
+        return Ok(());
+    };
+    let source = State {
+        variable: child,
+        contra: turns(first.variance().times(sign(parent.contra))),
+    };
     let flip = flag(&frame.flips, parent.variable);
-    let matters = flag(&frame.matters, source.variable);
-    let most = asked(matters);
-    let bound = needed(matters, flip, first);
-    let reached = search(alloc, all.edges, all.out, parent, bound)?;
-    let known = search(alloc, pushed.edges, pushed.out, source, most)?;
+    let most = asked(flag(&frame.matters, child));
+    search(alloc, pushed.edges, pushed.out, source, most, known)?;
     push_reached(
-        alloc, frame, fresh, most, &known, flip, source, first, &reached, limit,
+        alloc, frame, fresh, most, known, flip, source, first, reached, limit,
     )?;
     Ok(())
 }
@@ -349,7 +458,7 @@ fn asked(matters: bool) -> Option<u32>
 
 // A bound of the counts from which counts that are asked for are pushed: half pushes give nought from one.
 fn needed(matters: bool, flip: bool, first: Label) -> Option<u32>
-    ensures { (m : Letter) (d k : ℕ) (a b : Sign) → PushBy flip first m d a b k → Allows (asked_of matters) k → Allows result d }
+    ensures { result ≡ needed_of matters flip first }
 {
     if matters {
         return None;
@@ -376,31 +485,31 @@ fn push_reached(
     frame: &Frame,
     fresh: &mut Vec<Edge>,
     most: Option<u32>,
-    known: &IndexMap<State, Count>,
+    known: &Reached,
     flip: bool,
     source: State,
     first: Label,
-    reached: &IndexMap<State, Count>,
+    reached: &Reached,
     limit: usize,
 ) -> Result<(), Memory>
     requires children { AreChildren frame.now.named frame.now.children.items }
     requires distinct { AreDistinct frame.now.named }
     requires limit { 0 < limit }
     ensures grown { OnOk result (IsGrown (λ (e : Arrow). (e.from ≡ source) ×
-        IsPushedOn frame.now.named flip first (sign_of source.contra) reached.now.entries e.to e.count) fresh.old.items fresh.new.items) }
+        IsPushedOn frame.now.named flip first (sign_of source.contra) reached.now e.to e.count) fresh.old.items fresh.new.items) }
     ensures done { OnOk result (fresh.new.items ≡ [] →
-        IsDoneOn frame.now.named flip first (sign_of source.contra) reached.now.entries most known.now.entries) }
+        IsDoneOn frame.now.named flip first (sign_of source.contra) reached.now most known.now) }
 {
     let wanted = fresh.len().saturating_add(limit);
     for i in 0..reached.len() {
         if has_enough(fresh, wanted) {
             return Ok(());
         }
-        let Some((other, count)) = reached.get_index(i) else {
+        let Some(entry) = reached.at(i) else {
             unreachable!()
         };
         push_to(
-            alloc, frame, fresh, most, known, flip, source, first, *other, count,
+            alloc, frame, fresh, most, known, flip, source, first, entry.0, &entry.1,
         )?;
     }
     Ok(())

@@ -4,8 +4,8 @@ ghost use Rattle.rt_sat.specs.Searches.{Allows, AreFallen, AreNoted, AreRelaxed,
 ghost use Rattle.rt_sat.specs.declared.state.State.{State as Place};
 
 use crate::count::Count;
+use crate::reached::Reached;
 use crate::state::{Edge, State};
-use indexmap::IndexMap;
 use rt_base::{Memory, Sequence};
 use std::alloc::{AllocError, Global};
 
@@ -14,26 +14,28 @@ const ROUNDS: u64 = 0xff_ffff_ffff;
 
 // The least count of a way to each state that a way leads to from the start, or, where a bound is given, of each state
 // whose least count is no greater. With the bound nought no turn is followed. The edges that leave a variable are given by
-// their indices. Each round goes on from the states whose counts fell in the one before.
+// their indices. Each round goes on from the states whose counts fell in the one before. What was found before is
+// forgotten.
 pub(crate) fn search(
     alloc: Global,
     edges: &[Edge],
     out: &[Sequence<usize>],
     start: State,
     most: Option<u32>,
-) -> Result<IndexMap<State, Count>, Memory>
+    found: &mut Reached,
+) -> Result<(), Memory>
     requires { IsIndexed edges.now out.now }
-    ensures { IfOk result (λ found. IsSearch most edges.now start found.entries) }
+    ensures { OnOk result (IsSearch most edges.now start found.new) }
 {
-    let mut found = IndexMap::new(alloc);
+    found.clear();
     found.insert(start, Count::small(alloc, 0))?;
     let mut active = Vec::new(alloc);
     active.push(start)?;
     for _ in 0..ROUNDS {
         if active.is_empty() {
-            return Ok(found);
+            return Ok(());
         }
-        active = round(alloc, most, edges, out, &mut found, &active)?;
+        active = round(alloc, most, edges, out, found, &active)?;
     }
     Err(AllocError)
 }
@@ -44,15 +46,15 @@ fn round(
     most: Option<u32>,
     edges: &[Edge],
     out: &[Sequence<usize>],
-    found: &mut IndexMap<State, Count>,
+    found: &mut Reached,
     active: &[State],
 ) -> Result<Vec<State>, Memory>
     requires { IsIndexed edges.now out.now }
-    ensures walks { OnOk result ((start : Place) → AreNoted most edges.now start found.old.entries →
-        AreNoted most edges.now start found.new.entries) }
-    ensures fallen { OnOk result (AreFallen found.old.entries found.new.entries) }
-    ensures relaxed { IfOk result (λ next. AreRelaxed most edges.now found.old.entries active.now →
-        AreRelaxed most edges.now found.new.entries next.items) }
+    ensures walks { OnOk result ((start : Place) → AreNoted most edges.now start found.old →
+        AreNoted most edges.now start found.new) }
+    ensures fallen { OnOk result (AreFallen found.old found.new) }
+    ensures relaxed { IfOk result (λ next. AreRelaxed most edges.now found.old active.now →
+        AreRelaxed most edges.now found.new next.items) }
 {
     let mut next = Vec::new(alloc);
     for state in active {
@@ -67,18 +69,18 @@ fn visit(
     most: Option<u32>,
     edges: &[Edge],
     out: &[Sequence<usize>],
-    found: &mut IndexMap<State, Count>,
+    found: &mut Reached,
     next: &mut Vec<State>,
     state: State,
 ) -> Result<(), Memory>
     requires { IsIndexed edges.now out.now }
-    ensures walks { OnOk result ((start : Place) → AreNoted most edges.now start found.old.entries →
-        AreNoted most edges.now start found.new.entries) }
-    ensures fallen { OnOk result (AreFallen found.old.entries found.new.entries) }
-    ensures relaxed { OnOk result ((rest : List Place) → AreRelaxed most edges.now found.old.entries (next.old.items ++ state ∷ rest) →
-        AreRelaxed most edges.now found.new.entries (next.new.items ++ rest)) }
+    ensures walks { OnOk result ((start : Place) → AreNoted most edges.now start found.old →
+        AreNoted most edges.now start found.new) }
+    ensures fallen { OnOk result (AreFallen found.old found.new) }
+    ensures relaxed { OnOk result ((rest : List Place) → AreRelaxed most edges.now found.old (next.old.items ++ state ∷ rest) →
+        AreRelaxed most edges.now found.new (next.new.items ++ rest)) }
 {
-    let Some(known) = found.get(&state) else {
+    let Some(known) = found.get(state) else {
         return Ok(());
     };
     let count = known.copy(alloc)?;
@@ -109,13 +111,13 @@ fn follow(
     most: Option<u32>,
     edges: &[Edge],
     leaving: &[usize],
-    found: &mut IndexMap<State, Count>,
+    found: &mut Reached,
     next: &mut Vec<State>,
     state: State,
     count: &Count,
 ) -> Result<(), Memory>
     requires { (i : ℕ) → Contains leaving.now i → i < length edges.now }
-    ensures { OnOk result (IsFollowed most edges.now leaving.now found.old.entries found.new.entries next.old.items next.new.items state
+    ensures { OnOk result (IsFollowed most edges.now leaving.now found.old found.new next.old.items next.new.items state
         count.now (length leaving.now)) }
 {
     for index in leaving {
@@ -133,17 +135,17 @@ fn follow(
 fn offer(
     alloc: Global,
     most: Option<u32>,
-    found: &mut IndexMap<State, Count>,
+    found: &mut Reached,
     next: &mut Vec<State>,
     to: State,
     count: Count,
 ) -> Result<(), Memory>
-    ensures { OnOk result (IsOffered most found.old.entries found.new.entries next.old.items next.new.items to count) }
+    ensures { OnOk result (IsOffered most found.old found.new next.old.items next.new.items to count) }
 {
     if !allows(alloc, most, &count) {
         return Ok(());
     }
-    if let Some(known) = found.get(&to) {
+    if let Some(known) = found.get(to) {
         if !count.is_less(known) {
             return Ok(());
         }

@@ -7,18 +7,17 @@ ghost use Rattle.rt_sat.specs.Mattering.{AreMarked};
 ghost use Rattle.rt_sat.specs.Tables.{AreSourced, AreThere, HasNought, IsLayered, IsWholeTableOf, place};
 
 use crate::closing::{children, closed};
-use crate::count::Count;
 use crate::entering::{edge, line_edges};
 use crate::indexing::indexed;
-use crate::marking::marks;
-use crate::nodes::{flips, matters};
+use crate::marking::{marks, matters};
 use crate::pushing::Frame;
+use crate::reached::Reached;
 use crate::search::search;
 use crate::state::{Edge, State};
-use indexmap::IndexMap;
 use rt_base::Memory;
 use rt_lines::{Dtv, Line};
 use rt_named::Named;
+use rt_named::nodes::{flips, nodes};
 use rt_shape::Shape;
 use std::alloc::Global;
 
@@ -81,8 +80,9 @@ fn saturated_by(
     ensures whole { IfOk result (λ t. marks.now ≡ [] → IsWholeTableOf lines.now extra.now t.named t.edges.items) }
 {
     let named = Named::of(alloc, lines, extra)?;
-    let flips = flips(alloc, &named, shape)?;
-    let matters = matters(alloc, &named, shape, marks)?;
+    let nodes = nodes(alloc, &named, shape)?;
+    let flips = flips(alloc, shape, &nodes)?;
+    let matters = matters(alloc, &nodes, marks)?;
     let children = children(alloc, &named)?;
     let first = line_edges(alloc, &named, lines)?;
     let count = first.len();
@@ -121,7 +121,8 @@ pub(crate) fn meets(
         variable: number,
         contra: false,
     };
-    let found = search(alloc, &all, &leaving, start, Some(0))?;
+    let mut found = Reached::new(alloc);
+    search(alloc, &all, &leaving, start, Some(0), &mut found)?;
     Ok(has_nought(&found, targets))
 }
 
@@ -142,8 +143,8 @@ fn with_sources(
 }
 
 // Whether the count nought is known of one of the numbers.
-fn has_nought(found: &IndexMap<State, Count>, targets: &[u32]) -> bool
-    ensures { IsTrue result ↔ ((t : ℕ) × Contains targets.now t × IsKnown found.now.entries (place t) 0) }
+fn has_nought(found: &Reached, targets: &[u32]) -> bool
+    ensures { IsTrue result ↔ ((t : ℕ) × Contains targets.now t × IsKnown found.now (place t) 0) }
 {
     for target in targets {
         if is_nought(found, *target) {
@@ -154,14 +155,14 @@ fn has_nought(found: &IndexMap<State, Count>, targets: &[u32]) -> bool
 }
 
 // Whether the count nought is known of a number.
-fn is_nought(found: &IndexMap<State, Count>, target: u32) -> bool
-    ensures { IsTrue result ↔ IsKnown found.now.entries (place target) 0 }
+fn is_nought(found: &Reached, target: u32) -> bool
+    ensures { IsTrue result ↔ IsKnown found.now (place target) 0 }
 {
     let state = State {
         variable: target,
         contra: false,
     };
-    match found.get(&state) {
+    match found.get(state) {
         Some(count) => count.capped() == 0,
         None => false,
     }

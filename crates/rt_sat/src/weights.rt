@@ -7,10 +7,10 @@ ghost use Rattle.rt_sat.specs.Weights.{variables, AreSearches, IsCapped, IsIndex
 use crate::count::Count;
 use crate::indexing::indexed;
 use crate::pushing::turns;
+use crate::reached::Reached;
 use crate::search::search;
 use crate::state::{Edge, State};
 use crate::table::{Table, whole};
-use indexmap::IndexMap;
 use rt_base::{Memory, Sequence};
 use rt_lines::{Dtv, Line, Variance};
 use rt_named::Named;
@@ -20,7 +20,7 @@ use std::marker::Model;
 // The states that a search finds, with their counts.
 #[derive(Drop)]
 pub(crate) struct Row {
-    found: IndexMap<State, Count>,
+    found: Reached,
 }
 
 impl Model for Row {
@@ -29,7 +29,7 @@ impl Model for Row {
 
     ghost Value = { List (Place × ℕ) };
 
-    ghost view = { λ r. r.found.entries };
+    ghost view = { λ r. r.found };
 }
 
 impl Row {
@@ -37,7 +37,7 @@ impl Row {
     fn count(&self, target: &State) -> Option<u32>
         ensures { IsCapped self.now target.now result }
     {
-        match self.found.get(target) {
+        match self.found.get(*target) {
             Some(count) => Some(count.capped()),
             None => None,
         }
@@ -133,7 +133,8 @@ fn rows(
             variable: number as u32,
             contra,
         };
-        let found = search(alloc, edges, leaving, start, None)?;
+        let mut found = Reached::new(alloc);
+        search(alloc, edges, leaving, start, None, &mut found)?;
         rows.push(Row { found })?;
     }
     Ok(rows)

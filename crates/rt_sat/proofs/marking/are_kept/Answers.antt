@@ -1,4 +1,4 @@
-use Rattle.std.proofs.Common.{ℕ, ◌<◌, arith}
+use Rattle.std.proofs.Common.{arith}
 use Rattle.rt_sat.proofs.Marks.{kept_all}
 use Rattle.rt_sat.proofs.marking.are_kept.Goals as goal
 

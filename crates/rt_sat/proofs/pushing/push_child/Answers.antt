@@ -13,7 +13,7 @@ returns-in_ok-push_between-in-Longer-clause-grown c =
     let same : c.in-Longer.parent ≡ c.args.other.variable = omega arith in
     let child : IsChildOf c.args.frame.now.named target c.args.other c.in-Longer.second =
     child_of c.args.frame.now.named target c.args.other c.in-Longer.parent c.in-Longer.second c.requires.child c.in-Longer.ensures.below c.in-Longer.ensures.made same sign in
-    child_grown c.args.frame.now.named c.args.flip c.args.first c.args.source c.args.other c.args.count.now c.args.most c.args.known.now.entries target c.in-Longer.second c.args.fresh.now.items c.push_between.new.fresh.items child c.in_ok-push_between-in-Longer.ensures.grown
+    child_grown c.args.frame.now.named c.args.flip c.args.first c.args.source c.args.other c.args.count.now c.args.most c.args.known.now target c.in-Longer.second c.args.fresh.now.items c.push_between.new.fresh.items child c.in_ok-push_between-in-Longer.ensures.grown
 
 pub returns-in_ok-push_between-in-Longer-clause-done : goal.returns-in_ok-push_between-in-Longer-clause-done
 returns-in_ok-push_between-in-Longer-clause-done c =
@@ -22,4 +22,4 @@ returns-in_ok-push_between-in-Longer-clause-done c =
     let same : c.in-Longer.parent ≡ c.args.other.variable = omega arith in
     let child : IsChildOf c.args.frame.now.named target c.args.other c.in-Longer.second =
     child_of c.args.frame.now.named target c.args.other c.in-Longer.parent c.in-Longer.second c.requires.child c.in-Longer.ensures.below c.in-Longer.ensures.made same sign in
-    λ h. child_done c.args.frame.now.named c.args.flip c.args.first c.args.source c.args.other c.args.count.now c.args.most c.args.known.now.entries c.requires.distinct target c.in-Longer.second child (c.in_ok-push_between-in-Longer.ensures.done h)
+    λ h. child_done c.args.frame.now.named c.args.flip c.args.first c.args.source c.args.other c.args.count.now c.args.most c.args.known.now c.requires.distinct target c.in-Longer.second child (c.in_ok-push_between-in-Longer.ensures.done h)

@@ -25,5 +25,5 @@ returns-in_ok-note-clause-grown c = grown_as _ _ _ _
 pub returns-in_ok-note-clause-done : goal.returns-in_ok-note-clause-done
 returns-in_ok-note-clause-done c = λ h k i a.
     let less : c.in_ok-half.half ≤ k = c.in_ok-half.ensures.least k i.enough i.parity in
-    let w : IsWithin c.args.known.now.entries c.args.target c.in_ok-half.half = c.in_ok-note.ensures.done h (allows_less c.args.most c.in_ok-half.half k less a) in
+    let w : IsWithin c.args.known.now c.args.target c.in_ok-half.half = c.in_ok-note.ensures.done h (allows_less c.args.most c.in_ok-half.half k less a) in
     (w.0, w.1, omega (arith, w.2, less))

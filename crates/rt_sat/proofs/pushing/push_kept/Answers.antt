@@ -13,4 +13,4 @@ returns-in_ok-note-clause-grown c = grown_as _ _ _ _
 
 pub returns-in_ok-note-clause-done : goal.returns-in_ok-note-clause-done
 returns-in_ok-note-clause-done c = λ h e a.
-    subst (λ k. IsWithin c.args.known.now.entries c.args.target k) c.in_ok-copy.ensures (c.in_ok-note.ensures.done h (subst (Allows c.args.most) (sym c.in_ok-copy.ensures) a))
+    subst (λ k. IsWithin c.args.known.now c.args.target k) c.in_ok-copy.ensures (c.in_ok-note.ensures.done h (subst (Allows c.args.most) (sym c.in_ok-copy.ensures) a))

@@ -8,7 +8,7 @@ use Rattle.rt_sat.proofs.pushing.push_reached.Given as goal
 
 abbrev pub invariant-loop-i : goal.invariant-loop-i
 invariant-loop-i l = record {
-  grown : IsGrown (λ (e : Edge). (e.from ≡ l.source) × IsPushedOn l.frame.named l.flip l.first (sign_of l.source.contra) l.reached.entries e.to e.count) l.fn.fresh.items l.fresh.items;
-  done : l.fresh.items ≡ [] → (j : ℕ) → j < l.i → (s : State) (k : ℕ) → slice_get l.reached.entries j ≡ Some (s, k) →
-      IsDoneTo l.frame.named l.flip l.first s k (sign_of l.source.contra) l.most l.known.entries;
+  grown : IsGrown (λ (e : Edge). (e.from ≡ l.source) × IsPushedOn l.frame.named l.flip l.first (sign_of l.source.contra) l.reached e.to e.count) l.fn.fresh.items l.fresh.items;
+  done : l.fresh.items ≡ [] → (j : ℕ) → j < l.i → (s : State) (k : ℕ) → slice_get l.reached j ≡ Some (s, k) →
+      IsDoneTo l.frame.named l.flip l.first s k (sign_of l.source.contra) l.most l.known;
 }

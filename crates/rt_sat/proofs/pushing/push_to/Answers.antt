@@ -14,11 +14,11 @@ pub loop-child-preserved : goal.loop-child-preserved
 loop-child-preserved c = record {
   grown = grown_more _ _ _ _ _ _ (λ e p. p) (λ e p. p) c.loop-child.invariant.grown c.in_ok-push_child.ensures.grown;
   done = λ h. below_more
-      (λ i. IsDoneAt c.args.frame.now.named c.args.flip c.args.first c.args.other c.args.count.now (sign_of c.args.source.contra) c.args.most c.args.known.now.entries (get_or c.numbers_at-child-items.result.now i 0)) c.loop-child.child-index
+      (λ i. IsDoneAt c.args.frame.now.named c.args.flip c.args.first c.args.other c.args.count.now (sign_of c.args.source.contra) c.args.most c.args.known.now (get_or c.numbers_at-child-items.result.now i 0)) c.loop-child.child-index
       (c.loop-child.invariant.done (c.in_ok-push_child.ensures.grown.kept h)) (c.in_ok-push_child.ensures.done h);
 }
 
 pub returns-clause-done : goal.returns-clause-done
-returns-clause-done c = λ h. children_done c.args.frame.now.named c.args.flip c.args.first c.args.source c.args.other c.args.count.now c.args.most c.args.known.now.entries c.args.frame.now.children.items c.numbers_at-child-items.result.now c.requires.children
+returns-clause-done c = λ h. children_done c.args.frame.now.named c.args.flip c.args.first c.args.source c.args.other c.args.count.now c.args.most c.args.known.now c.args.frame.now.children.items c.numbers_at-child-items.result.now c.requires.children
     (c.numbers_at-child-items.ensures ∙ ap (λ (xs : List (List ℕ)). get_or xs c.args.other.variable []) c.deref.ensures.value)
     (λ i less. c.loop-child.invariant.done h i (omega (arith, less)))

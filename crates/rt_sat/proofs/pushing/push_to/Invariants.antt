@@ -7,5 +7,5 @@ use Rattle.rt_sat.proofs.pushing.push_to.Given as goal
 abbrev pub invariant-loop-child : goal.invariant-loop-child
 invariant-loop-child l = record {
   grown : IsGrown (λ (e : Edge). (e.from ≡ l.source) × IsPushedTo l.frame.named l.flip l.first l.other l.count (sign_of l.source.contra) e.to e.count) l.fn.fresh.items l.fresh.items;
-  done : l.fresh.items ≡ [] → (i : ℕ) → i < l.child-index → IsDoneAt l.frame.named l.flip l.first l.other l.count (sign_of l.source.contra) l.most l.known.entries (get_or l.child-items i 0);
+  done : l.fresh.items ≡ [] → (i : ℕ) → i < l.child-index → IsDoneAt l.frame.named l.flip l.first l.other l.count (sign_of l.source.contra) l.most l.known (get_or l.child-items i 0);
 }

@@ -6,7 +6,7 @@ use Rattle.rt_sat.proofs.search.offer.Goals.{in-Some+else-not-is_less, in_defaul
 
 pub returns : goal.returns
 returns c =
-    let less : (k : ℕ) → IsKnown c.args.found.now.entries c.args.to k → c.args.count ≤ k = λ k h. (elim c.match-get.branch [
+    let less : (k : ℕ) → IsKnown c.args.found.now c.args.to k → c.args.count ≤ k = λ k h. (elim c.match-get.branch [
       | in-Some+else-not-is_less w ↦
           let e : Some w.in-Some.known.now ≡ Some k = w.in-Some.ensures.value ∙ h in
           let f : w.in-Some.known.now ≡ k = cc in
@@ -14,5 +14,5 @@ returns c =
           omega (arith, f, g)
       | in_default w ↦ let e : ◌≡◌ {A = Option ℕ} None (Some k) = w.in_default.ensures.value ∙ h in absurd (cc)
     ]) in
-    subst (λ active. IsOffered c.args.most c.args.found.now.entries c.insert.new.self.entries c.args.next.now.items active c.args.to c.args.count) (sym c.in_ok-push.ensures.items)
-    (offered_new c.args.found.now.entries c.insert.new.self.entries c.args.to c.args.count c.in_ok-insert.ensures.updates.0 c.args.most c.args.next.now.items (c.allows.ensures.0 c.if-not-allows.false) less)
+    subst (λ active. IsOffered c.args.most c.args.found.now c.insert.new.self c.args.next.now.items active c.args.to c.args.count) (sym c.in_ok-push.ensures.items)
+    (offered_new c.args.found.now c.insert.new.self c.args.to c.args.count c.in_ok-insert.ensures c.args.most c.args.next.now.items (c.allows.ensures.0 c.if-not-allows.false) less)

@@ -5,7 +5,7 @@ use Rattle.rt_sat.proofs.search.round.Given as goal
 
 abbrev pub invariant-loop-state : goal.invariant-loop-state
 invariant-loop-state l = record {
-  walks : (start : State) → AreNoted l.most l.edges start l.fn.found.entries → AreNoted l.most l.edges start l.found.entries;
-  fallen : AreFallen l.fn.found.entries l.found.entries;
-  relaxed : AreRelaxed l.most l.edges l.fn.found.entries l.active → AreRelaxed l.most l.edges l.found.entries (l.next.items ++ drop l.state-index l.active);
+  walks : (start : State) → AreNoted l.most l.edges start l.fn.found → AreNoted l.most l.edges start l.found;
+  fallen : AreFallen l.fn.found l.found;
+  relaxed : AreRelaxed l.most l.edges l.fn.found l.active → AreRelaxed l.most l.edges l.found (l.next.items ++ drop l.state-index l.active);
 }

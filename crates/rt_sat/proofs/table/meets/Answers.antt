@@ -9,9 +9,9 @@ pub returns : goal.returns
 returns c =
     let n = c.len-number.result in
     let size : c.len-number.result ≡ length c.args.table.named = c.len-number.ensures.count in
-    let s : IsSearch (Some 0) c.in_ok-all.all.items (place c.len-number.result) c.in_ok-found.found.entries =
-    subst (λ (xs : List Edge). IsSearch (Some 0) xs (place c.len-number.result) c.in_ok-found.found.entries) c.deref-2.ensures.value c.in_ok-found.ensures in
-    let r = searched_nought n c.args.sources.now c.args.targets.now c.args.table.edges.items c.in_ok-all.all.items c.in_ok-found.found.entries c.in_ok-all.ensures
+    let s : IsSearch (Some 0) c.in_ok-all.all.items (place c.len-number.result) c.search.new.found =
+    subst (λ (xs : List Edge). IsSearch (Some 0) xs (place c.len-number.result) c.search.new.found) c.deref-2.ensures.value c.in_ok-search.ensures in
+    let r = searched_nought n c.args.sources.now c.args.targets.now c.args.table.edges.items c.in_ok-all.all.items c.search.new.found c.in_ok-all.ensures
     (subst (λ (m : ℕ). (e : Edge) → Contains c.args.table.edges.items e → (e.from.variable < m) × (e.to.variable < m)) (sym size) c.requires.within)
     (subst (λ (m : ℕ). (k : ℕ) → Contains c.args.sources.now k → k < m) (sym size) c.requires.sources)
     (subst (λ (m : ℕ). (k : ℕ) → Contains c.args.targets.now k → k < m) (sym size) c.requires.targets) s in

@@ -1,6 +1,7 @@
-use Rattle.std.proofs.Common.{rules}
+use Rattle.std.proofs.Common.{rules, List, Option, ℕ, sym, subst}
+use Rattle.rt_named.specs.Nodes.{AreFlipsOf, AreNodesOf}
 use Rattle.rt_sat.specs.Tables.{IsTableOf}
-use Rattle.rt_sat.proofs.Frames.{named_distinct, side_named}
+use Rattle.rt_sat.proofs.Frames.{flagged_by, named_distinct, side_named}
 use Rattle.rt_sat.proofs.table.saturated_by.Goals as goal
 
 pub line_edges-requires : goal.line_edges-requires
@@ -19,9 +20,13 @@ returns c =
       first = c.in_ok-first.first.items;
       is_named = c.in_ok-named.ensures;
       shape = c.requires.shape;
-      flagged = c.in_ok-flips.ensures;
+      flagged =
+          flagged_by c.args.shape.now c.in_ok-named.named c.in_ok-nodes.nodes.items c.in_ok-flips.flips.items c.in_ok-nodes.ensures
+          (subst (λ (ns : List (Option ℕ)). AreFlipsOf c.args.shape.now ns c.in_ok-flips.flips.items) c.deref.ensures.value c.in_ok-flips.ensures);
       marked = c.requires.marked;
-      mattering = c.in_ok-matters.ensures;
+      mattering =
+          c.in_ok-matters.ensures c.args.shape.now c.in_ok-named.named
+          (subst (λ (ns : List (Option ℕ)). AreNodesOf c.args.shape.now c.in_ok-named.named ns) (sym c.deref-2.ensures.value) c.in_ok-nodes.ensures);
       extra_there = c.requires.there;
       entered = c.in_ok-first.ensures;
       closing = c.in_ok-edges.ensures;

@@ -3,4 +3,4 @@ use Rattle.rt_sat.proofs.weights.rows.Goals as goal
 
 pub loop-number-preserved : goal.loop-number-preserved
 loop-number-preserved c =
-    searches_more c.args.edges.now c.args.contra c.loop-number.number c.loop-number.rows.items c.push.new.self.items c.in_ok-found.found.entries c.in_ok-push.ensures.items c.in_ok-found.ensures c.loop-number.invariant
+    searches_more c.args.edges.now c.args.contra c.loop-number.number c.loop-number.rows.items c.push.new.self.items c.search.new.found c.in_ok-push.ensures.items c.in_ok-search.ensures c.loop-number.invariant

@@ -1,0 +1,42 @@
+use Rattle.std.proofs.Common.{◌≡◌, ℕ, Bool, List, false, get_or, sym, ap, subst, ◌∙◌}
+use Rattle.rt_lines.specs.declared.label.Label.{Label}
+use Rattle.rt_lines.specs.declared.label.Variance.{Variance}
+use Rattle.rt_lines.specs.Words.{label_variance, times}
+use Rattle.rt_sat.specs.declared.state.Edge.{Edge}
+use Rattle.rt_sat.specs.declared.state.State.{State}
+use Rattle.rt_sat.specs.Numbered.{is_contra, sign_of}
+use Rattle.rt_sat.specs.Pushes.{IsChildOf, IsGrown, IsNeeding, IsPushedOn, IsDoneOn, PushBy, asked_of, flip_at, matter_at}
+use Rattle.rt_sat.specs.Searches.{Allows}
+use Rattle.rt_sat.proofs.Pushed.{closed_one, from_grown, from_done, needed_enough, needing_child}
+use Rattle.rt_sat.proofs.pushing.push_child_of.Goals as goal
+
+pub returns : goal.returns
+returns c =
+    let known = c.args.frame.now.named in
+    let flips = c.args.frame.now.flips.items in
+    let matters = c.args.frame.now.matters.items in
+    let source : State = record { variable = c.args.child; contra = c.turns.result } in
+    let same : c.flag-flip.result ≡ flip_at c.args.frame.now.flips.items c.args.parent.variable = c.flag-flip.ensures ∙ ap (λ (xs : List Bool). get_or xs c.args.parent.variable false) c.deref.ensures.value in
+    let matter : c.flag.result ≡ matter_at c.args.frame.now.matters.items c.args.child = c.flag.ensures ∙ ap (λ (xs : List Bool). get_or xs c.args.child false) c.deref-2.ensures.value in
+    let most : c.asked-most.result ≡ asked_of (matter_at c.args.frame.now.matters.items c.args.child) = c.asked-most.ensures ∙ ap asked_of matter in
+    let needing : IsNeeding c.args.frame.now.named c.args.frame.now.flips.items c.args.frame.now.matters.items c.args.bound c.args.parent.variable c.args.child c.in-Some.first = c.in-Some.ensures.some in
+    let sign : c.turns.result ≡ is_contra (times (label_variance c.in-Some.first) (sign_of c.args.parent.contra)) = cc in
+    let child : IsChildOf c.args.frame.now.named source c.args.parent c.in-Some.first = needing_child c.args.frame.now.named flips matters c.args.bound c.args.parent c.args.child c.turns.result c.in-Some.first needing sign in
+    let enough : (m : Label) (n k : ℕ) (a b : Variance) → PushBy (flip_at c.args.frame.now.flips.items c.args.parent.variable) c.in-Some.first m n a b k → Allows (asked_of (matter_at c.args.frame.now.matters.items c.args.child)) k →
+    Allows c.args.bound n × Allows c.asked-most.result k =
+    λ m n k a b p q. (
+      subst (λ o. Allows o n) needing.bounded (needed_enough (matter_at matters c.args.child) (flip_at flips c.args.parent.variable) c.in-Some.first m n k a b p q),
+      subst (λ o. Allows o k) (sym most) q,
+    ) in
+    record {
+      grown = from_grown known flips matters c.args.all.now.edges.now c.args.pushed.now.edges.now source c.args.parent c.in-Some.first child c.args.reached.now c.search.new.found
+          c.args.bound c.asked-most.result c.requires.reached c.in_ok-search.ensures c.args.fresh.now.items c.push_reached.new.fresh.items
+          (subst (λ b. IsGrown (λ (e : Edge). (e.from ≡ source) × IsPushedOn c.args.frame.now.named b c.in-Some.first (sign_of source.contra) c.args.reached.now e.to e.count) c.args.fresh.now.items c.push_reached.new.fresh.items)
+          same c.in_ok-push_reached.ensures.grown);
+      done = λ h end l e k n. closed_one known flips matters c.args.all.now.edges.now c.args.pushed.now.edges.now c.requires.distinct source c.args.parent c.in-Some.first child
+          (from_done known flips matters c.args.all.now.edges.now c.args.pushed.now.edges.now source c.args.parent c.in-Some.first child c.args.reached.now c.search.new.found
+          c.args.bound c.asked-most.result c.requires.reached c.in_ok-search.ensures
+          enough
+          (subst (λ b. IsDoneOn c.args.frame.now.named b c.in-Some.first (sign_of source.contra) c.args.reached.now c.asked-most.result c.search.new.found) same (c.in_ok-push_reached.ensures.done h)))
+          end l e k;
+    }
