@@ -1,6 +1,6 @@
 -- Loads and stores behind variables, one after the other.
-use Rattle.std.proofs.Common.{◌≡◌, ℕ, inl, inr, Bool, true, false, List, [], ◌∷◌, ◌++◌, Contains, Option, Some, None, refl, sym, ap, subst, ◌∙◌, append_assoc}
-use Rattle.std.specs.Prelude.{is_some, ◌&&◌}
+use Rattle.std.proofs.Common.{◌≡◌, ℕ, inl, inr, true, List, [], ◌∷◌, ◌++◌, Option, Some, None, refl, sym, ap, subst, ◌∙◌, append_assoc}
+use Rattle.std.specs.Prelude.{is_some}
 use Rattle.std.proofs.lemmas.List.{append-nil}
 use Rattle.std.proofs.lemmas.List.Elements.{Contains-append_cases}
 use Rattle.rt_base.proofs.Lists.{Contains-none, Contains-cons_cases}
@@ -14,7 +14,7 @@ use Rattle.rt_shape.specs.Graphs.{Graph, node_of, step_of}
 use Rattle.rt_shape.specs.Shapes.{IsShapeOf}
 use Rattle.rt_shape.proofs.ReadWrite.{read_write_lem}
 use Rattle.rt_outline.specs.Accesses.{AreAdded, AreThereBehind}
-use Rattle.rt_outline.specs.Nodes.{flips_at}
+use Rattle.rt_named.specs.Nodes.{flips_at}
 use Rattle.std.proofs.lemmas.Bool.{and_parts}
 
 pub added_none : (graph : Graph) (old new : List Dtv) → new ≡ old → AreAdded graph old new

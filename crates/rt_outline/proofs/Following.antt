@@ -1,57 +1,15 @@
 -- What is found by following arcs.
-use Rattle.std.proofs.Common.{◌≡◌, ℕ, ◌+◌, ◌<◌, ◌≤◌, ◌⊎◌, inl, inr, Bool, true, List, [], ◌∷◌, ◌++◌, Contains, Some, None, length, get_or, take, refl, sym, ap, subst, ◌∙◌, arith, append_assoc, append-nil}
-use Rattle.std.specs.Prelude.{nat_eq, slice_get}
-use Rattle.std.proofs.lemmas.Option.{slice_get-get_or}
+use Rattle.std.proofs.Common.{◌≡◌, ℕ, ◌+◌, ◌<◌, ◌≤◌, ◌⊎◌, inl, inr, Bool, true, List, [], ◌∷◌, ◌++◌, Contains, length, get_or, take, refl, sym, ap, subst, ◌∙◌, arith}
 use Rattle.std.proofs.lemmas.Bool.{cases_eq}
 use Rattle.std.proofs.lemmas.List.{get_or_append_left, get_or_default, take_all, take_more}
 use Rattle.std.proofs.lemmas.List.Elements.{Contains-append_left, Contains-push, Contains-push_cases}
 use Rattle.rt_base.proofs.Lists.{Contains-none}
 use Rattle.rt_components.specs.Groups.{Reaches}
 use Rattle.rt_components.specs.Groups.Reaches.{there, onward}
+use Rattle.rt_named.specs.Numbers.{IsLeft}
+use Rattle.rt_named.proofs.Noting.{left_none, left_as, left_kept, left_more}
 use Rattle.rt_outline.specs.declared.arc.Arc.{Arc}
-use Rattle.rt_outline.specs.Arcs.{Leads, allows, IsLeft, IsSpread}
-
--- nothing is added
-pub left_none : (P : ℕ → Type 0) (keys new : List ℕ) → new ≡ keys → ((w : ℕ) → P w → Contains keys w) → IsLeft P keys new
-left_none P keys new e all = record {
-  more = [];
-  kept = e ∙ sym (append-nil keys);
-  all = λ w p. subst (λ xs. Contains xs w) (sym e) (all w p);
-  only = λ w c. inl (subst (λ xs. Contains xs w) e c);
-}
-
--- a number is added
-pub left_push : (keys new : List ℕ) (n : ℕ) → new ≡ keys ++ n ∷ [] → IsLeft (λ w. n ≡ w) keys new
-left_push keys new n is = record {
-  more = n ∷ [];
-  kept = is;
-  all = λ w g. subst (λ xs. Contains xs w) (sym is) (subst (Contains (keys ++ n ∷ [])) g (Contains-push keys n));
-  only = λ w c. Contains-push_cases keys n w (subst (λ xs. Contains xs w) is c);
-}
-
--- the same in other words
-pub left_as : (P Q : ℕ → Type 0) (old new : List ℕ) → ((w : ℕ) → P w → Q w) → ((w : ℕ) → Q w → P w) → IsLeft P old new → IsLeft Q old new
-left_as P Q old new to from n = record {
-  more = n.more;
-  kept = n.kept;
-  all = λ w q. n.all w (from w q);
-  only = λ w c. (elim (n.only w c) [ inl d ↦ inl d | inr p ↦ inr (to w p) ]);
-}
-
-pub left_kept : (P : ℕ → Type 0) (old new : List ℕ) → IsLeft P old new → (w : ℕ) → Contains old w → Contains new w
-left_kept P old new n w c = subst (λ xs. Contains xs w) (sym n.kept) (Contains-append_left old n.more w c)
-
--- one after the other
-pub left_more : (P Q R : ℕ → Type 0) (old mid new : List ℕ) → ((w : ℕ) → R w → P w ⊎ Q w) → ((w : ℕ) → P w → R w) → ((w : ℕ) → Q w → R w) → IsLeft P old mid → IsLeft Q mid new → IsLeft R old new
-left_more P Q R old mid new cases left right m n = record {
-  more = m.more ++ n.more;
-  kept = n.kept ∙ ap (λ xs. xs ++ n.more) m.kept ∙ append_assoc old m.more n.more;
-  all = λ w r. (elim (cases w r) [ inl p ↦ left_kept Q mid new n w (m.all w p) | inr q ↦ n.all w q ]);
-  only = λ w c. (elim (n.only w c) [
-    | inl d ↦ (elim (m.only w d) [ inl e ↦ inl e | inr p ↦ inr (left w p) ])
-    | inr q ↦ inr (right w q)
-  ]);
-}
+use Rattle.rt_outline.specs.Arcs.{Leads, allows, IsSpread}
 
 -- one of these arcs, which may be followed, leads to a number
 abbrev pub LeadsOf : List Bool → Bool → List Arc → ℕ → Type 0

@@ -9,7 +9,7 @@ use Rattle.std.proofs.lemmas.List.Elements.{Contains-append_left, Contains-push,
 use Rattle.rt_base.proofs.Lists.{Contains-none}
 use Rattle.rt_components.proofs.Reaching.{reaches_by}
 use Rattle.rt_components.specs.Graphs.{HasEdge}
-use Rattle.rt_components.specs.Groups.{AreGroups, AreTogether, IsAmongFirst, Reaches, group_at}
+use Rattle.rt_components.specs.Groups.{AreGroups, AreTogether, IsAmongFirst, group_at}
 use Rattle.rt_outline.specs.Together.{HasPair, AreTogetherBy, IsGraphOf, IsFilled, AreGroupNumbers}
 
 pub graph_none : (count : ℕ) (graph : List (List ℕ)) → length graph ≡ count → ((u : ℕ) → get_or graph u [] ≡ []) → IsGraphOf [] count graph

@@ -13,10 +13,11 @@ use Rattle.rt_components.specs.Groups.{Reaches}
 use Rattle.rt_components.specs.Groups.Reaches.{there, onward}
 use Rattle.rt_named.specs.Origins.{no_variable}
 use Rattle.rt_outline.specs.declared.arc.Arc.{Arc}
-use Rattle.rt_outline.specs.Arcs.{AreLed, Leads, MayLead}
+use Rattle.rt_outline.specs.Arcs.{AreTurned, Leads, MayLead}
 use Rattle.rt_outline.specs.Enclosing.{IsOuter}
 use Rattle.rt_outline.specs.Frames.{variable_at}
 use Rattle.rt_outline.specs.Lines.{IsNumber, AreNumbers, IsLineArc, AreLineArcs, HasBelow, Lined, standing}
+use Rattle.rt_outline.specs.Resting.{AreBelowSome}
 
 -- a line whose flag is set stands
 standing_in : (lines : List Line) (stands : List Bool) (i : ℕ) (l : Line) → slice_get lines i ≡ Some l → get_or stands i false ≡ true → Contains (standing lines stands) l
@@ -36,7 +37,7 @@ module _ (lines : List Line) (named : List Dtv) (arcs : List (List Arc)) (stands
     abbrev IsBelow : ℕ → ℕ → Type 0
     IsBelow v w = Derivable order (standing lines stands) (Sub (variable_at named v) (variable_at named w))
 
-    line_derived : (v w : ℕ) → Leads arcs stands false v w → IsBelow v w
+    pub line_derived : (v w : ℕ) → Leads arcs stands false v w → IsBelow v w
     line_derived v w (None, c, e) = absurd (cc)
     line_derived v w (Some i, c, e) =
         let a : IsLineArc lines named v w i = are.only v w i c in
@@ -44,7 +45,7 @@ module _ (lines : List Line) (named : List Dtv) (arcs : List (List Arc)) (stands
         subst (λ x. Derivable order (standing lines stands) (Sub x (variable_at named w))) (sym (at_of v a.left a.from))
         (subst (λ y. Derivable order (standing lines stands) (Sub a.left y)) (sym (at_of w a.right a.to)) d)
 
-    chained : (u v w : ℕ) → IsBelow u v → Reaches (Leads arcs stands false) v w → IsBelow u w
+    pub chained : (u v w : ℕ) → IsBelow u v → Reaches (Leads arcs stands false) v w → IsBelow u w
     chained u v w d there = d
     chained u v w d (onward {b = b} e r) = chained u b w (sub_chain d (line_derived v b e)) r
 
@@ -57,21 +58,24 @@ module _ (lines : List Line) (named : List Dtv) (arcs : List (List Arc)) (stands
         subst (λ z. Derivable order (standing lines stands) (Sub z (variable_at named t.0))) (sym (at_of s.0 x s.2)) (subst (λ z. Derivable order (standing lines stands) (Sub x z)) (sym (at_of t.0 y t.2)) h) in
         none (s.0, t.0, s.1, outer order stands s.0 t.0 (slice_get_within named s.0 x s.2) (slice_get_within named t.0 y t.2) g, t.1)
 
-    is_below : (count : ℕ) → AreLineArcs lines count named arcs → AreLed (Leads arcs stands false) sources targets → (order : Below) → HasBelow order (standing lines stands) from to
-    is_below count are (s, v, t, c, e, r, d) order =
+    is_below : (count : ℕ) → AreLineArcs lines count named arcs → AreBelowSome named arcs stands sources targets → (order : Below) → HasBelow order (standing lines stands) from to
+    is_below count are (s, c, below) order =
+        let r : (t : ℕ) × Contains targets t × Derivable order (standing lines stands) (Sub (variable_at named s) (variable_at named t)) = below lines count order are in
         let x : (x : Dtv) × Contains from x × IsNumber named s x = left.only s c in
-        let y : (y : Dtv) × Contains to y × IsNumber named t y = right.only t d in
-        let g : Derivable order (standing lines stands) (Sub (variable_at named s) (variable_at named t)) = chained count are order s v t (line_derived count are order s v e) r in
-        (x.0, y.0, x.1, y.1, subst (λ z. Derivable order (standing lines stands) (Sub z y.0)) (at_of s x.0 x.2) (subst (λ z. Derivable order (standing lines stands) (Sub (variable_at named s) z)) (at_of t y.0 y.2) g))
+        let y : (y : Dtv) × Contains to y × IsNumber named (r.0) y = right.only (r.0) (r.1) in
+        (x.0, y.0, x.1, y.1, subst (λ z. Derivable order (standing lines stands) (Sub z y.0)) (at_of s x.0 x.2) (subst (λ z. Derivable order (standing lines stands) (Sub (variable_at named s) z)) (at_of (r.0) y.0 y.2) r.2))
 
     pub view_not_below : (view : Lined) → record { lines = lines; named = named } ≡ view → IsOuter lines named arcs → (MayLead (Leads arcs stands true) sources targets → ⊥) →
         (order : Below) → HasBelow order (standing view.lines stands) from to → ⊥
     view_not_below view e outer none order h = not_below outer none order (subst (λ (v : Lined). HasBelow order (standing v.lines stands) from to) (sym e) h)
 
-    pub view_is_below : (view : Lined) → record { lines = lines; named = named } ≡ view → AreLineArcs lines (length lines) named arcs → AreLed (Leads arcs stands false) sources targets →
+    pub view_is_below : (view : Lined) → record { lines = lines; named = named } ≡ view → AreLineArcs lines (length lines) named arcs → AreBelowSome named arcs stands sources targets →
         (order : Below) → HasBelow order (standing view.lines stands) from to
     view_is_below view e are led order = subst (λ (v : Lined). HasBelow order (standing v.lines stands) from to) e (is_below (length lines) are led order)
 
-pub led_as : (arcs some : List (List Arc)) (stands : List Bool) (sources froms targets tos : List ℕ) → some ≡ arcs → froms ≡ sources → tos ≡ targets → AreLed (Leads some stands false) froms tos → AreLed (Leads arcs stands false) sources targets
-led_as arcs some stands sources froms targets tos e f g led =
-    subst (λ xs. AreLed (Leads xs stands false) sources targets) e (subst (λ xs. AreLed (Leads some stands false) xs targets) f (subst (λ xs. AreLed (Leads some stands false) froms xs) g led))
+pub below_as : (named : List Dtv) (arcs some : List (List Arc)) (stands : List Bool) (sources froms targets tos : List ℕ) → some ≡ arcs → froms ≡ sources → tos ≡ targets → AreBelowSome named some stands froms tos → AreBelowSome named arcs stands sources targets
+below_as named arcs some stands sources froms targets tos e f g below =
+    subst (λ xs. AreBelowSome named xs stands sources targets) e (subst (λ xs. AreBelowSome named some stands xs targets) f (subst (λ xs. AreBelowSome named some stands froms xs) g below))
+
+pub turned_as : (arcs some back more : List (List Arc)) → some ≡ arcs → more ≡ back → AreTurned arcs back → AreTurned some more
+turned_as arcs some back more e f turned = subst (λ xs. AreTurned xs more) (sym e) (subst (AreTurned arcs) (sym f) turned)

@@ -16,5 +16,5 @@ pub mod Naming
 pub mod Outer
 pub mod Built
 pub mod Gathered
-pub mod Classing
 pub mod Behind
+pub mod Rested

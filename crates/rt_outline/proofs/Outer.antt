@@ -1,6 +1,6 @@
 -- Outer arcs: what is derivable they lead to.
 use Rattle.std.proofs.Common.{◌≡◌, ℕ, ◌<◌, ◌⊎◌, inl, inr, Bool, true, false, List, [], ◌∷◌, ◌++◌, Contains, Option, Some, None, IsSome, length, get_or, refl, sym, ap, subst, ◌∙◌, arith}
-use Rattle.std.specs.Prelude.{slice_get, is_some, ◌&&◌}
+use Rattle.std.specs.Prelude.{slice_get, is_some}
 use Rattle.std.proofs.lemmas.List.{get_or_past}
 use Rattle.std.proofs.lemmas.Option.{get_or_from_slice_get, slice_get-get_or, slice_get_within}
 use Rattle.rt_lines.specs.declared.label.Label.{Label}
@@ -17,7 +17,7 @@ use Rattle.rt_rules.proofs.Carry.{given}
 use Rattle.rt_rules.proofs.Covering.{derives_more}
 use Rattle.rt_bridge.specs.Growing.{Var, dot, dv, vd, Given, Fact, V, E, S, Der, HasSub}
 use Rattle.rt_bridge.specs.Counted.{Flip, IsPointer}
-use Rattle.rt_bridge.proofs.Growing.{der, dv-vd, vd-longer, both, q1, q2, q3, q4, q5, s6}
+use Rattle.rt_bridge.proofs.Growing.{der, dv-vd, both, q1, q2, q3, q4, q5, s6}
 use Rattle.rt_components.specs.Groups.{Reaches}
 use Rattle.rt_components.specs.Groups.Reaches.{there, onward}
 use Rattle.rt_enclosing.specs.Upper.{NeedHub, IsUpper, Steps, stay, by_line, by_push}
@@ -34,7 +34,7 @@ use Rattle.rt_outline.specs.Frames.{Origins, IsMade, IsClosed, HavePointers, Are
 use Rattle.rt_outline.specs.Frames.IsPushed.{co, contra}
 use Rattle.rt_outline.specs.Hubs.{HasAccess, HaveHubs, common_of, key_of, key_by, key_from}
 use Rattle.rt_outline.specs.Lines.{IsNumber, AreLineArcs, standing}
-use Rattle.rt_outline.specs.Nodes.{AreClassesOf, AreFlipsOf, flips_at}
+use Rattle.rt_named.specs.Nodes.{AreNodesOf, AreFlipsOf, flips_at}
 use Rattle.rt_outline.proofs.Inner.{distinct}
 use Rattle.rt_outline.proofs.Naming.{is_known, parents, bases, both_sides}
 use Rattle.rt_outline.proofs.Pushing.{reaches_join}
@@ -110,7 +110,7 @@ pointer_there L x (Field a b) p f = absurd p
 
 -- arcs of lines and pushed ones between the numbers of named variables and more nodes, closed, with pointers and hubs
 module _ (lines : List Line) (extra known : List Dtv) (is : known ≡ named_by lines extra) (graph : Graph) (shape : IsShapeOf lines graph)
-    (classes : List (Option ℕ)) (flips : List Bool) (classed : AreClassesOf graph known classes) (flagged : AreFlipsOf graph classes flips)
+    (classes : List (Option ℕ)) (flips : List Bool) (classed : AreNodesOf graph known classes) (flagged : AreFlipsOf graph classes flips)
     (first origins : Origins) (are : AreOriginsOf known first) (behind : (n p : ℕ) (l : Label) → IsMade first n p l → IsMade origins n p l)
     (arcs : List (List Arc)) (all : List Bool) (whole : (i : ℕ) → i < length lines → get_or all i false ≡ true) (closed : IsClosed origins arcs all)
     (pointers : HavePointers origins arcs) (accesses : (n : ℕ) → slice_get flips n ≡ Some true → HasAccess origins n)
@@ -147,7 +147,7 @@ module _ (lines : List Line) (extra known : List Dtv) (is : known ≡ named_by l
           subst (λ u. IsMade first v u l) n (subst (λ u. IsMade first v q u) (sym same.1) e)
 
   class_at : (x : Dtv) (v : ℕ) → IsNumber known v x → get_or classes v None ≡ node_of graph x
-  class_at x v h = classed.class v (slice_get_within known v x h) ∙ ap (node_of graph) (at_of v x h)
+  class_at x v h = classed.node v (slice_get_within known v x h) ∙ ap (node_of graph) (at_of v x h)
 
   flag_at : (x : Dtv) (v : ℕ) → IsNumber known v x → get_or flips v false ≡ flips_at graph (node_of graph x)
   flag_at x v h =

@@ -7,9 +7,9 @@ use Rattle.rt_lines.specs.declared.label.Label.{Label}
 use Rattle.rt_components.specs.Groups.{Reaches}
 use Rattle.rt_components.specs.Groups.Reaches.{there}
 use Rattle.rt_outline.specs.declared.arc.Arc.{Arc}
-use Rattle.rt_outline.specs.Arcs.{IsLeft}
+use Rattle.rt_named.specs.Numbers.{IsLeft}
 use Rattle.rt_outline.specs.Sweeps.{IsSwept, IsEnd, IsNoted, end_of}
-use Rattle.rt_outline.proofs.Following.{left_kept}
+use Rattle.rt_named.proofs.Noting.{left_kept}
 use Rattle.rt_outline.proofs.Pushing.{end_some, reaches_end}
 
 module _ (E : ℕ → ℕ → Type 0) (steps : List ((ℕ × Label) × ℕ)) (p : ℕ) (l : Label) (known : List ℕ) where

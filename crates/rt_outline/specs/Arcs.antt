@@ -1,5 +1,5 @@
 -- Arcs between numbered variables, of lines and pushed, and what they lead to.
-use Rattle.std.specs.Prelude.{◌≡◌, ℕ, ◌⊎◌, List, [], ◌++◌, Contains, Bool, true, false, Option, Some, None, length, slice_index_or}
+use Rattle.std.specs.Prelude.{◌≡◌, ℕ, ◌⊎◌, List, [], Contains, Bool, true, false, Option, Some, None, length, slice_index_or}
 use Rattle.rt_components.specs.Groups.{Reaches}
 use Rattle.rt_outline.specs.declared.arc.Arc.{Arc}
 
@@ -35,13 +35,6 @@ pub record IsAdded (from : ℕ) (arc : Arc) (old new : List (List Arc)) : Type 0
 abbrev pub AreTurned : List (List Arc) → List (List Arc) → Type 0
 AreTurned arcs back = (v w : ℕ) (line : Option ℕ) → (HasArc arcs v w line → HasArc back w v line) ×
     (HasArc back w v line → HasArc arcs v w line)
-
--- to those that were found, all of which something holds are added behind
-pub record IsLeft (P : ℕ → Type 0) (old new : List ℕ) : Type 0 where
-  pub more : List ℕ
-  pub kept : new ≡ old ++ more
-  pub all : (w : ℕ) → P w → Contains new w
-  pub only : (w : ℕ) → Contains new w → Contains old w ⊎ P w
 
 -- all that is reached from those that were found is found
 pub record IsSpread (Edge : ℕ → ℕ → Type 0) (old new : List ℕ) : Type 0 where

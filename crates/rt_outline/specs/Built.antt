@@ -3,6 +3,7 @@ use Rattle.std.specs.Prelude.{◌≡◌, ℕ, ◌≤◌, ◌++◌, List, Bool, t
 use Rattle.rt_lines.specs.declared.variable.Dtv.{Dtv}
 use Rattle.rt_lines.specs.declared.line.Line.{Line}
 use Rattle.rt_named.specs.Naming.{named as named_by}
+use Rattle.rt_named.specs.Nodes.{AreNodesOf, AreFlipsOf}
 use Rattle.rt_shape.specs.Graphs.{Graph}
 use Rattle.rt_shape.specs.Shapes.{IsShapeOf}
 use Rattle.rt_outline.specs.declared.arc.Arc.{Arc}
@@ -11,7 +12,6 @@ use Rattle.rt_outline.specs.Enclosing.{IsOuter}
 use Rattle.rt_outline.specs.Frames.{Origins, AreOriginsOf}
 use Rattle.rt_outline.specs.Hubs.{HasAccess, HaveHubs}
 use Rattle.rt_outline.specs.Lines.{AreLineArcs}
-use Rattle.rt_outline.specs.Nodes.{AreClassesOf, AreFlipsOf}
 
 -- the variables are those that the lines and some more name
 abbrev pub AreNamed : List Line → List Dtv → Type 0
@@ -29,13 +29,13 @@ pub record HasHubs (named : List Dtv) (classes : List (Option ℕ)) (flips : Lis
   pub hubs : HaveHubs origins arcs classes flips
   pub none : (v w i : ℕ) → HasArc arcs v w (Some i) → ⊥
 
--- by classes of the lines' shape
+-- by nodes of the lines' shape
 pub record IsHubbed (lines : List Line) (named : List Dtv) (origins : Origins) (arcs : List (List Arc)) : Type 0 where
   pub graph : Graph
   pub shape : IsShapeOf lines graph
   pub classes : List (Option ℕ)
   pub flips : List Bool
-  pub classed : AreClassesOf graph named classes
+  pub classed : AreNodesOf graph named classes
   pub flagged : AreFlipsOf graph classes flips
   pub hubbed : HasHubs named classes flips origins arcs
 

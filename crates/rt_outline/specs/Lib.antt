@@ -8,5 +8,5 @@ pub mod Enclosing
 pub mod Together
 pub mod Equal
 pub mod Hubs
-pub mod Nodes
 pub mod Accesses
+pub mod Resting

@@ -4,9 +4,9 @@ ghost use Rattle.rt_lines.specs.Words.{IsLabel};
 ghost use Rattle.rt_rules.specs.Rules.{longer};
 ghost use Rattle.rt_outline.specs.Accesses.{AreAdded, AreThereBehind};
 
-use crate::nodes::is_flip;
 use rt_base::Memory;
 use rt_lines::{Dtv, Label, Line, Word};
+use rt_named::nodes::is_flip;
 use rt_shape::Shape;
 use std::alloc::Global;
 

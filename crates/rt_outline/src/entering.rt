@@ -1,5 +1,5 @@
 // The first arcs: those of lines, and from the store to the load of each node that has both.
-ghost use Rattle.std.specs.Prelude.{◌≡◌, ◌+◌, ℕ, ◌<◌, ◌≤◌, Contains, Some, IfOk, OnOk, length, slice_get};
+ghost use Rattle.std.specs.Prelude.{◌≡◌, ◌+◌, ℕ, ◌<◌, ◌≤◌, Contains, IfOk, OnOk, length};
 ghost use Rattle.rt_lines.specs.declared.line.Line.{Line as Given};
 ghost use Rattle.rt_lines.specs.declared.variable.Dtv.{Dtv as Variable};
 ghost use Rattle.rt_rules.specs.Rules.{HasSide};
@@ -46,9 +46,9 @@ fn enter_line(named: &Named, lines: &[Line], frame: &mut Frame, i: usize) -> Res
 {
     match &lines[i] {
         Line::Sub(x, y) => {
-            let from = number(named, x);
+            let from = named.number(x);
             let arc = Arc {
-                to: number(named, y),
+                to: named.number(y),
                 line: Some(i),
             };
             frame.join(from, arc)?;
@@ -97,17 +97,6 @@ fn enter_pointer(frame: &mut Frame, node: u32) -> Result<(), Memory>
     }
 }
 
-// The number of a named variable.
-pub(crate) fn number(named: &Named, x: &Dtv) -> u32
-    requires { Contains named.now x.now }
-    ensures { slice_get named.now result ≡ Some x.now }
-{
-    match named.index(x) {
-        Some(number) => number,
-        None => unreachable!(),
-    }
-}
-
 // The numbers of named variables.
 pub(crate) fn numbers(alloc: Global, named: &Named, variables: &[Dtv]) -> Result<Vec<u32>, Memory>
     requires { (x : Variable) → Contains variables.now x → Contains named.now x }
@@ -115,7 +104,7 @@ pub(crate) fn numbers(alloc: Global, named: &Named, variables: &[Dtv]) -> Result
 {
     let mut numbers = Vec::new(alloc);
     for x in variables {
-        numbers.push(number(named, x))?;
+        numbers.push(named.number(x))?;
     }
     Ok(numbers)
 }

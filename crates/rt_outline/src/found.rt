@@ -1,6 +1,6 @@
 // Numbers in the order in which they are found, each once.
 ghost use Rattle.std.specs.Prelude.{◌≡◌, ◌<◌, ℕ, [], Contains, IsTrue, ◌↔◌, OnOk, IfOk, false, length, slice_get, slice_index_or};
-ghost use Rattle.rt_outline.specs.Arcs.{IsLeft};
+ghost use Rattle.rt_named.specs.Numbers.{IsLeft};
 ghost use Rattle.rt_outline.specs.Found.{AreFlagged};
 
 use rt_base::Memory;

@@ -15,7 +15,7 @@ mod grouping;
 mod hubs;
 mod led;
 mod lower;
-mod nodes;
+mod resting;
 mod spreading;
 mod sweeping;
 mod upper;

@@ -1,6 +1,7 @@
 // What arcs lead to.
 ghost use Rattle.std.specs.Prelude.{◌≡◌, ℕ, true, false, [], Contains, IsTrue, ◌↔◌, IfOk, OnOk, slice_index_or};
-ghost use Rattle.rt_outline.specs.Arcs.{AreLed, IsLeft, IsSpread, Leads, MayLead, allows};
+ghost use Rattle.rt_named.specs.Numbers.{IsLeft};
+ghost use Rattle.rt_outline.specs.Arcs.{AreLed, IsSpread, Leads, MayLead, allows};
 ghost use Rattle.rt_outline.specs.declared.led.Led.TheVariants.{No as Never, Yes as Always};
 
 use crate::arc::Arc;
@@ -136,7 +137,7 @@ pub(crate) fn leaving(arcs: &[Sequence<Arc>], variable: u32) -> &[Arc]
 }
 
 // Whether one of the numbers is found.
-fn meets(found: &Found, targets: &[u32]) -> bool
+pub(crate) fn meets(found: &Found, targets: &[u32]) -> bool
     ensures { IsTrue result ↔ ((t : ℕ) × Contains targets.now t × Contains found.now t) }
 {
     for target in targets {

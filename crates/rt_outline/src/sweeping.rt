@@ -2,7 +2,8 @@
 ghost use Rattle.std.specs.Prelude.{◌<◌, IsTrue, ◌≡◌, ◌⊎◌, ℕ, [], true, Contains, None, IfOk, OnOk};
 ghost use Rattle.rt_lines.specs.Words.{label_variance};
 ghost use Rattle.rt_components.specs.Groups.{Reaches};
-ghost use Rattle.rt_outline.specs.Arcs.{IsLeft, Leads};
+ghost use Rattle.rt_named.specs.Numbers.{IsLeft};
+ghost use Rattle.rt_outline.specs.Arcs.{Leads};
 ghost use Rattle.rt_outline.specs.Frames.{IsFrame, IsMade, IsPushed};
 ghost use Rattle.rt_outline.specs.Sweeps.{IsDoneAt, IsEnd, IsNoted, IsSwept, end_of, side_of};
 

@@ -11,17 +11,17 @@ ghost use Rattle.rt_outline.specs.declared.led.Led.TheVariants.{No as Never, Yes
 
 use crate::classes::classes;
 use crate::closing::close;
-use crate::entering::{enter_lines, enter_pointers, number, numbers};
+use crate::entering::{enter_lines, enter_pointers, numbers};
 use crate::frame::Frame;
 use crate::grouping::Classes;
 use crate::hubs::{enter_accesses, enter_hubs};
 use crate::led::Led;
 use crate::lower::copied;
-use crate::nodes::{flips, shape_classes};
-use crate::spreading::between;
+use crate::resting::{Ground, tell};
 use rt_base::Memory;
 use rt_lines::{Dtv, Line};
 use rt_named::Named;
+use rt_named::nodes::{flips, nodes};
 use std::alloc::Global;
 use std::marker::Model;
 
@@ -76,8 +76,14 @@ impl Upper {
             HasBelow order (standing self.now.lines stands.now) from.now (to.now ∷ [])) }
     {
         let sources = numbers(alloc, &self.named, from)?;
-        let target = number(&self.named, to);
-        let led = between(alloc, &self.frame.arcs, stands, &sources, &[target])?;
+        let target = self.named.number(to);
+        let ground = Ground {
+            named: &self.named,
+            arcs: &self.frame.arcs,
+            back: &self.frame.back,
+            stands,
+        };
+        let led = tell(alloc, &ground, &sources, &[target])?;
         Ok(led)
     }
 
@@ -97,9 +103,15 @@ impl Upper {
         ensures yes { IfOk result (λ led. led ≡ Always → (order : Below) →
             HasBelow order (standing self.now.lines stands.now) (from.now ∷ []) to.now) }
     {
-        let source = number(&self.named, from);
+        let source = self.named.number(from);
         let targets = numbers(alloc, &self.named, to)?;
-        let led = between(alloc, &self.frame.arcs, stands, &[source], &targets)?;
+        let ground = Ground {
+            named: &self.named,
+            arcs: &self.frame.arcs,
+            back: &self.frame.back,
+            stands,
+        };
+        let led = tell(alloc, &ground, &[source], &targets)?;
         Ok(led)
     }
 
@@ -135,7 +147,7 @@ fn hubbed(alloc: Global, lines: &[Line], named: &Named) -> Result<Frame, Memory>
     ensures hubs { IfOk result (λ frame. IsHubbed lines.now named.now frame.origins.items frame.arcs.items) }
 {
     let shape = rt_shape::of(alloc, lines)?;
-    let classes = shape_classes(alloc, named, &shape)?;
+    let classes = nodes(alloc, named, &shape)?;
     let flips = flips(alloc, &shape, &classes)?;
     let frame = with_hubs(alloc, named, &classes, &flips)?;
     Ok(frame)

@@ -1,6 +1,6 @@
 use Rattle.std.proofs.Common.{◌≡◌, refl, sym, ap, ◌∙◌}
 use Rattle.rt_shape.specs.Graphs.{node_of}
-use Rattle.rt_outline.specs.Nodes.{flips_at}
+use Rattle.rt_named.specs.Nodes.{flips_at}
 use Rattle.rt_outline.proofs.Behind.{added_accesses, added_none}
 use Rattle.rt_outline.proofs.accessing.add_accesses.Goals as goal
 

@@ -1,5 +1,6 @@
 use Rattle.std.proofs.Common.{false, [], take}
-use Rattle.rt_outline.specs.Arcs.{IsLeft, Leads}
+use Rattle.rt_named.specs.Numbers.{IsLeft}
+use Rattle.rt_outline.specs.Arcs.{Leads}
 use Rattle.rt_outline.proofs.Following.{OfSome}
 use Rattle.rt_outline.proofs.spreading.are_led.Given as goal
 

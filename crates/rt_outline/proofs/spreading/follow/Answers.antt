@@ -1,6 +1,6 @@
 use Rattle.std.proofs.Common.{◌≡◌, ℕ, true, sym, ◌∙◌}
 use Rattle.rt_outline.specs.Arcs.{allows}
-use Rattle.rt_outline.proofs.Following.{left_as}
+use Rattle.rt_named.proofs.Noting.{left_as}
 use Rattle.rt_outline.proofs.spreading.follow.Goals as goal
 
 pub returns-in_ok-insert : goal.returns-in_ok-insert

@@ -1,5 +1,5 @@
 use Rattle.std.proofs.Common.{take}
-use Rattle.rt_outline.specs.Arcs.{IsLeft}
+use Rattle.rt_named.specs.Numbers.{IsLeft}
 use Rattle.rt_outline.proofs.Following.{LeadsOf}
 use Rattle.rt_outline.proofs.spreading.leave.Given as goal
 

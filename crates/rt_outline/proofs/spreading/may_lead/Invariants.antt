@@ -1,5 +1,5 @@
 use Rattle.std.proofs.Common.{◌≡◌, ℕ, [], take}
-use Rattle.rt_outline.specs.Arcs.{IsLeft}
+use Rattle.rt_named.specs.Numbers.{IsLeft}
 use Rattle.rt_outline.proofs.Following.{OfSome}
 use Rattle.rt_outline.proofs.spreading.may_lead.Given as goal
 

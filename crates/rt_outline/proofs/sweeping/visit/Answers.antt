@@ -1,7 +1,7 @@
 use Rattle.std.proofs.Common.{◌≡◌, ℕ, true, None, sym, ◌∙◌}
 use Rattle.rt_outline.specs.Arcs.{Leads}
 use Rattle.rt_outline.specs.Sweeps.{end_of}
-use Rattle.rt_outline.proofs.Following.{left_as}
+use Rattle.rt_named.proofs.Noting.{left_as}
 use Rattle.rt_outline.proofs.Swept.{noted_one}
 use Rattle.rt_outline.proofs.sweeping.visit.Goals as goal
 

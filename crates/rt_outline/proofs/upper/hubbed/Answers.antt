@@ -1,6 +1,6 @@
-use Rattle.std.proofs.Common.{◌∙◌, Bool, List, Option, ℕ, length, ap, subst, sym}
+use Rattle.std.proofs.Common.{Bool, List, Option, ℕ, subst}
 use Rattle.rt_outline.specs.Built.{HasHubs}
-use Rattle.rt_outline.specs.Nodes.{AreFlipsOf}
+use Rattle.rt_named.specs.Nodes.{AreFlipsOf}
 use Rattle.rt_outline.proofs.Inner.{distinct}
 use Rattle.rt_outline.proofs.upper.hubbed.Goals as goal
 

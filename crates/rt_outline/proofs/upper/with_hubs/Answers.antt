@@ -1,4 +1,4 @@
-use Rattle.std.proofs.Common.{◌<◌, ◌∙◌, subst, sym}
+use Rattle.std.proofs.Common.{◌<◌, ◌∙◌, subst}
 use Rattle.rt_outline.proofs.Built.{has_hubs, made_before}
 use Rattle.rt_outline.proofs.upper.with_hubs.Goals as goal
 

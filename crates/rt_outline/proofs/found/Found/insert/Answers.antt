@@ -1,7 +1,7 @@
 use Rattle.std.proofs.Common.{◌≡◌, ℕ, Contains, refl, subst}
-use Rattle.rt_outline.specs.Arcs.{IsLeft}
+use Rattle.rt_named.specs.Numbers.{IsLeft}
 use Rattle.rt_outline.proofs.Flagged.{flagged_more}
-use Rattle.rt_outline.proofs.Following.{left_none, left_push}
+use Rattle.rt_named.proofs.Noting.{left_none, left_push}
 use Rattle.rt_outline.proofs.found.Found.insert.Goals as goal
 
 pub returns-then-contains : goal.returns-then-contains
