@@ -1,9 +1,7 @@
 pub mod Ends
-pub mod BoundEnds
-pub mod DeadEnds
-pub mod OneTrim
-pub mod Keeping
-pub mod Losing
-pub mod Noting
-pub mod Stepping
-pub mod Following
+pub mod Weakening
+pub mod Entering
+pub mod Fronts
+pub mod Leaving
+pub mod Rivals
+pub mod Spoiling

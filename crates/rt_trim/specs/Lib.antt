@@ -1,3 +1,3 @@
-pub mod Trims
-pub mod Flows
+pub mod Idle
 pub mod Laws
+pub mod Trimming

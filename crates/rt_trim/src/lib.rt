@@ -1,10 +1,11 @@
-//! Lines that lead nowhere say no more than their shape: of a `<=` line or bound that is the sole one in which an existential
-//! stands, the outside can tell only that its variables are there and have one shape (PLDI 2016, section 5).
+//! Idle existentials say no more than their shape: where of no two lines in which an existential stands the word of the one
+//! begins that of the other, nothing that comes to it goes on from it, so the outside can tell only that its variables are
+//! there and have one shape (PLDI 2016, section 5).
 #![tactic(auto)]
 
-mod flows;
+mod idle;
 pub mod laws;
-mod places;
 mod trimming;
+mod users;
 
 pub use trimming::trim;
