@@ -1,7 +1,7 @@
 """Reduces lists of lines to schemes: a transcript of the definitions, by which a procedure has one scheme.
 
 It is written from crates/rt_polar/specs (Puts, Tidied), crates/rt_refine/specs (Refinements), crates/rt_twins/specs
-(Twinnings), crates/rt_reduction/specs (Simplifies, Before, Emits, Merges, Drops, Rounds), crates/rt_scheme/specs (Schemes,
+(Twinnings), crates/rt_trim/specs (Idle), crates/rt_reduction/specs (Simplifies, Before, Emits, Merges, Drops, Rounds), crates/rt_scheme/specs (Schemes,
 SplitExistentials) and crates/rt_settle/specs (Chosen), step by step, and is slow. Lines and variables are those of derivation.py.
 """
 import heapq
@@ -209,6 +209,54 @@ def simplified(lines):
             return lines
         lines = tidied(placed(found, lines))
 
+# ------------------------------------------------------------------ idle existentials
+
+
+def begins(first, second):
+    """Whether the first word begins the second, a store counting as a load."""
+    return len(first) <= len(second) and all(k == l or {k, l} == {'load', 'store'} for k, l in zip(first, second))
+
+
+def idle(lines):
+    """The existentials that are on one side of each of their `<=` lines and bounds, of no two of which the one word begins
+    the other."""
+    ends = {number: [] for number in exists_of(lines)}
+    both = {line[1][0][1] for line in lines if line[0] == 'below' and is_exist(line[1]) and line[1][0] == line[2][0]}
+    for line in lines:
+        if line[0] in ('below', 'low', 'up'):
+            for x in sides(line):
+                if is_exist(x):
+                    ends[x[0][1]].append(x[1:])
+    return {number for number, found in ends.items()
+            if number not in both
+            and not any(begins(found[i], found[k]) for i in range(len(found)) for k in range(len(found)) if i != k)}
+
+
+def trimmed(lines):
+    """The lines with those of idle existentials as their shapes."""
+    found = idle(lines)
+
+    def is_idle(x):
+        return is_exist(x) and x[0][1] in found
+
+    def shape(line):
+        if line[0] == 'below' and any(map(is_idle, line[1:])):
+            return ('same',) + line[1:]
+        if line[0] in ('low', 'up') and any(map(is_idle, sides(line))):
+            return 'var', *sides(line)
+        return line
+
+    return [shape(line) for line in lines]
+
+
+def prepared(lines):
+    while True:
+        lines = simplified(refined(lines))
+        found = trimmed(lines)
+        if found == lines:
+            return lines
+        lines = tidied(found)
+
 # ------------------------------------------------------------------ the shape written anew
 
 
@@ -316,7 +364,7 @@ def is_done(lines):
 def reduced(lines, lattice):
     lines = tidied(lines)
     while True:
-        lines = dropped(merged(emitted(simplified(refined(lines)))), lattice)
+        lines = dropped(merged(emitted(prepared(lines))), lattice)
         if is_done(lines):
             return lines
 

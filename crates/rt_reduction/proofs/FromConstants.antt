@@ -1,5 +1,5 @@
 -- Constants of the lines that each step leaves stand in the lines before it.
-use Rattle.std.proofs.Common.{◌≡◌, ℕ, ◌⊎◌, inl, inr, List, ◌∷◌, ◌++◌, map, Contains, Bool, true, false, cond, sym, subst}
+use Rattle.std.proofs.Common.{◌≡◌, ℕ, ◌⊎◌, inl, inr, List, ◌∷◌, ◌++◌, map, Contains, Bool, true, false, cond, ◌||◌, sym, subst}
 use Rattle.std.proofs.lemmas.List.Elements.{Contains-append_cases}
 use Rattle.rt_base.proofs.Lists.{Contains-map_source, Contains-wider, Contains-middle_cases}
 use Rattle.rt_lines.specs.declared.variable.Dtv.{Dtv}
@@ -20,7 +20,8 @@ use Rattle.rt_reduction.specs.Simplifies.{Simplifies, simple, twins_go}
 use Rattle.rt_reduction.specs.Merges.{Merges}
 use Rattle.rt_reduction.specs.Merges.Merges.{none_left as no_merge, merges}
 use Rattle.rt_reduction.specs.Emits.{flow_lines, first_side, IsShapeLine, IsAnchored, IsEmitted}
-use Rattle.rt_reduction.specs.Rounds.{Refines, IsRound, Reduces, done, again}
+use Rattle.rt_trim.specs.Idle.{is_idle, trimmed, trimmed_line}
+use Rattle.rt_reduction.specs.Rounds.{Refines, Prepares, prepared, trims, IsRound, Reduces, done, again}
 use Rattle.rt_reduction.specs.Laws.{FormConstantsLaw}
 use Rattle.rt_reduction.proofs.Simplifying.{twinned_lines}
 use Rattle.rt_reduction.proofs.Flow.{flow_source}
@@ -122,10 +123,36 @@ module _ (k : ℕ) where
   of_refined lines left (class, c, e) names =
       mapped (move class) lines (of_tidied (refined class lines) (subst (λ ls. NamesConstant ls k) e names))
 
+  no_trimmed : (idle : ℕ → Bool) (l : Line) → HasConstant k (trimmed_line idle l) → HasConstant k l
+  no_trimmed idle (Var x) h = h
+  no_trimmed idle (Same x y) h = h
+  no_trimmed idle (Sub x y) h = by (is_idle idle x.base || is_idle idle y.base) h
+    where
+      by : (t : Bool) → HasConstant k (cond t (Same x y) (Sub x y)) → HasConstant k (Sub x y)
+      by true g = g
+      by false g = g
+  no_trimmed idle (Low n x) h = by (is_idle idle x.base) h
+    where
+      by : (t : Bool) → HasConstant k (cond t (Var x) (Low n x)) → HasConstant k (Low n x)
+      by true g = absurd g
+      by false g = g
+  no_trimmed idle (Up x n) h = by (is_idle idle x.base) h
+    where
+      by : (t : Bool) → HasConstant k (cond t (Var x) (Up x n)) → HasConstant k (Up x n)
+      by true g = absurd g
+      by false g = g
+
+  of_prepared : (left start : List Line) → Prepares left start → Stand start left
+  of_prepared left start (prepared _ between idle r s is none) names = of_refined start between r (of_simple left between s names)
+  of_prepared left start (trims _ between now idle r s is some rest) names =
+      of_refined start between r (of_simple now between s
+      (changed (trimmed_line idle) (no_trimmed idle) now
+      (of_tidied (trimmed idle now) (of_prepared left (tidied (trimmed idle now)) rest names))))
+
   of_round : (order : Below) (lines after : List Line) → IsRound order lines after → Stand lines after
   of_round order lines after r names =
-      of_refined lines r.refined r.is_refined (of_simple r.simple r.refined r.is_simple (of_emitted order r.simple r.emitted r.is_emitted
-      (of_merges order r.merged r.emitted r.is_merged (fewer r.merged after (kept_lem order r.merged after r.is_dropped) names))))
+      of_prepared r.simple lines r.is_simple (of_emitted order r.simple r.emitted r.is_emitted
+      (of_merges order r.merged r.emitted r.is_merged (fewer r.merged after (kept_lem order r.merged after r.is_dropped) names)))
 
   of_reduced : (order : Below) (reduced start : List Line) → Reduces order reduced start → Stand start reduced
   of_reduced order reduced start (done _ r d) names = of_round order start reduced r names

@@ -13,6 +13,8 @@ pub mod Naming
 pub mod Emitting
 pub mod NamesFrom
 pub mod Refined
+pub mod Prepared
+pub mod Tidying
 pub mod Rounds
 pub mod FromConstants
 pub mod Renumbering

@@ -1,5 +1,5 @@
 -- Where something is left to do, a round loses an existential.
-use Rattle.std.proofs.Common.{◌≡◌, ◌≢◌, ℕ, ◌⊎◌, inl, inr, List, ◌++◌, ◌∷◌, Contains, Bool, true, false, cond}
+use Rattle.std.proofs.Common.{◌≡◌, ◌≢◌, ℕ, ◌⊎◌, inl, inr, List, ◌++◌, ◌∷◌, Contains, Bool, true, false, cond, ◌||◌, map}
 use Rattle.std.proofs.Common.{refl, sym, ap, subst, ◌∙◌}
 use Rattle.std.proofs.lemmas.List.Elements.{Contains-append_cases}
 use Rattle.rt_lines.specs.declared.label.Variance.{Variance}
@@ -11,6 +11,7 @@ use Rattle.rt_lines.specs.declared.line.Line.{Line}
 use Rattle.rt_lines.specs.declared.line.Line.TheVariants.{Var, Same, Sub, Low, Up}
 use Rattle.rt_lines.specs.Equality.{variable_eq}
 use Rattle.rt_lines.specs.Orders.{Below}
+use Rattle.rt_lines.proofs.Deduplicating.{deduplicated-source}
 use Rattle.rt_rules.specs.Rules.{HasSide, Derivable}
 use Rattle.rt_rules.specs.Rules.Derivable.{named, prefix, left_side, right_side, same_letter, same_line, same_sub, same_self, same_back}
 use Rattle.rt_rules.specs.Rules.Derivable.{same_chain, same_longer, sub_line, sub_self, sub_chain, sub_co, sub_contra, sub_pointer}
@@ -26,26 +27,28 @@ use Rattle.rt_polar.specs.Polar.{HasCandidate}
 use Rattle.rt_polar.specs.Puts.{Exchanges, Puts}
 use Rattle.rt_polar.specs.Puts.Exchanges.{goes, exists_still}
 use Rattle.rt_polar.specs.Puts.Puts.{none_left, puts}
-use Rattle.rt_polar.specs.Tidied.{tidied}
+use Rattle.rt_polar.specs.Tidied.{tidied, without_self}
 use Rattle.rt_polar.proofs.Exchanging.{candidate_only}
 use Rattle.rt_polar.proofs.OneAnswer.{left_none}
 use Rattle.rt_reduction.specs.Simplifies.{HasNoTwins, Simplifies, simple, twins_go}
 use Rattle.rt_reduction.specs.Emits.{AreOfScheme, flow_lines, first_side, IsShapeLine, IsAnchored, IsEmitted}
-use Rattle.rt_reduction.specs.Rounds.{IsUnfinished, of_candidate, of_twins, of_unused, of_unjoined}
+use Rattle.rt_trim.specs.Idle.{is_idle, trimmed, trimmed_line}
+use Rattle.rt_reduction.specs.Rounds.{Prepares, prepared, Refines, trims, IsUnfinished, of_candidate, of_twins, of_unused, of_unjoined}
 use Rattle.rt_reduction.specs.Laws.{RoundNamesLaw, RoundLosesLaw, SimplifiesRestLaw}
 use Rattle.rt_reduction.proofs.Simplifying.{twinned_lines}
 use Rattle.rt_reduction.proofs.Flow.{flow_source}
 use Rattle.rt_reduction.proofs.Anchoring.{keep_source}
 use Rattle.rt_reduction.proofs.Emitting.{emits_used_lem, emits_joined_lem}
 use Rattle.rt_reduction.proofs.Refined.{names_refines, refines_lose}
+use Rattle.rt_reduction.proofs.Prepared.{names_prepares, names_round, names_trimmed, from_prepares}
+use Rattle.rt_reduction.proofs.FromSides.{from_scheme}
+use Rattle.rt_reduction.proofs.Tidying.{tidied_twice}
 use Rattle.rt_reduction.proofs.NamesFrom.{NamesFrom, Loses, named_from, names_chain, names_tidied, put_source}
-use Rattle.rt_reduction.proofs.NamesFrom.{cut_own, names_puts, names_simple, names_emitted, names_after, names_rest}
-use Rattle.rt_base.proofs.Lists.{Contains-middle_cases}
+use Rattle.rt_reduction.proofs.NamesFrom.{cut_own, names_puts, names_simple, names_emitted, names_after}
+use Rattle.rt_base.proofs.Lists.{Contains-map_source, Contains-middle_cases}
 
 pub round_names_lem : RoundNamesLaw
-round_names_lem order lines after r b names =
-    named_from lines after
-    (names_chain lines r.refined after (names_refines lines r.refined r.is_refined) (names_rest order lines after r)) b names
+round_names_lem order lines after r b names = named_from lines after (names_round order lines after r) b names
 
 pub loses_before : (first second third : List Line) → Loses first second → NamesFrom second third → Loses first third
 loses_before first second third (n, names, gone) from = (n, names, λ h. gone (named_from second third from (Exist n) h))
@@ -221,30 +224,174 @@ module _ (order : Below) (lines : List Line) where
     unjoined_gone n unjoined names = let r : IsAnchored emitted (Exist n) =
         emits_joined_lem order lines emitted em n names in unjoined (r.0, r.1, emitted_chain r.2)
 
-    emitted_loses : AreOfScheme lines → IsSimple lines → IsUnfinished lines → Loses lines emitted
-    emitted_loses scheme s (of_candidate n has) = absurd (s.no_candidate n has)
-    emitted_loses scheme s (of_twins sign class n is apart) = absurd (apart (s.no_twins sign class is n))
-    emitted_loses scheme s (of_unused n names unused) = (n, names, unused_gone scheme n unused)
-    emitted_loses scheme s (of_unjoined n names unjoined) = (n, names, unjoined_gone n unjoined)
+-- uses and what is joined of a line are so of another one
+abbrev IsWeaker : Line → Line → Type 0
+IsWeaker k l = ((sign : Variance) (n : ℕ) → HasUse sign n k → HasUse sign n l) × ((a b : Base) → Joins k a b → Joins l a b)
+
+is_weaker_self : (l : Line) → IsWeaker l l
+is_weaker_self l = (λ sign n u. u, λ a b j. j)
+
+weaker_shape : (t : Bool) (x y : Dtv) → IsWeaker (cond t (Same x y) (Sub x y)) (Sub x y)
+weaker_shape true x y = (λ sign n u. absurd u, λ a b j. j)
+weaker_shape false x y = is_weaker_self (Sub x y)
+
+weaker_trimmed : (idle : ℕ → Bool) (l : Line) → IsWeaker (trimmed_line idle l) l
+weaker_trimmed idle (Var x) = is_weaker_self (Var x)
+weaker_trimmed idle (Same x y) = is_weaker_self (Same x y)
+weaker_trimmed idle (Sub x y) = weaker_shape (is_idle idle x.base || is_idle idle y.base) x y
+weaker_trimmed idle (Low k x) = by (is_idle idle x.base)
+  where
+    by : (t : Bool) → IsWeaker (cond t (Var x) (Low k x)) (Low k x)
+    by true = (λ sign n u. absurd u, λ a b j. absurd j)
+    by false = is_weaker_self (Low k x)
+weaker_trimmed idle (Up x k) = by (is_idle idle x.base)
+  where
+    by : (t : Bool) → IsWeaker (cond t (Var x) (Up x k)) (Up x k)
+    by true = (λ sign n u. absurd u, λ a b j. absurd j)
+    by false = is_weaker_self (Up x k)
+
+weaker_plain : (l : Line) → IsWeaker (without_self l) l
+weaker_plain (Var x) = is_weaker_self (Var x)
+weaker_plain (Same x y) = by (variable_eq x y)
+  where
+    by : (t : Bool) → IsWeaker (cond t (Var x) (Same x y)) (Same x y)
+    by true = (λ sign n u. absurd u, λ a b j. absurd j)
+    by false = is_weaker_self (Same x y)
+weaker_plain (Sub x y) = by (variable_eq x y)
+  where
+    by : (t : Bool) → IsWeaker (cond t (Var x) (Sub x y)) (Sub x y)
+    by true = (λ sign n u. absurd u, λ a b j. absurd j)
+    by false = is_weaker_self (Sub x y)
+weaker_plain (Low k x) = is_weaker_self (Low k x)
+weaker_plain (Up x k) = is_weaker_self (Up x k)
+
+-- each line is so of one of others
+abbrev AreWeaker : List Line → List Line → Type 0
+AreWeaker lines after = (k : Line) → Contains after k → (l : Line) × Contains lines l × IsWeaker k l
+
+weaker_mapped : (f : Line → Line) → ((l : Line) → IsWeaker (f l) l) → (lines : List Line) → AreWeaker lines (map f lines)
+weaker_mapped f is lines k c =
+    let s : (l : Line) × Contains lines l × (f l ≡ k) = Contains-map_source f lines k c in
+    (s.0, s.1, subst (λ m. IsWeaker m s.0) s.2 (is s.0))
+
+weaker_chain : (first second third : List Line) → AreWeaker first second → AreWeaker second third → AreWeaker first third
+weaker_chain first second third a b k c =
+    let s : (l : Line) × Contains second l × IsWeaker k l = b k c in
+    let t : (l : Line) × Contains first l × IsWeaker s.0 l = a s.0 s.1 in
+    (t.0, t.1, (λ sign n u. t.2.0 sign n (s.2.0 sign n u), λ x y j. t.2.1 x y (s.2.1 x y j)))
+
+weaker_tidied : (lines : List Line) → AreWeaker lines (tidied lines)
+weaker_tidied lines k c =
+    weaker_mapped without_self weaker_plain lines k (deduplicated-source (map without_self lines) k c)
+
+weaker_next : (idle : ℕ → Bool) (lines : List Line) → AreWeaker lines (tidied (trimmed idle lines))
+weaker_next idle lines =
+    weaker_chain lines (trimmed idle lines) (tidied (trimmed idle lines))
+    (weaker_mapped (trimmed_line idle) (weaker_trimmed idle) lines) (weaker_tidied (trimmed idle lines))
+
+-- an existential without a use, or that no chain joins to a procedure or a global
+abbrev IsLeftover : List Line → ℕ → Type 0
+IsLeftover lines n = ((l : Line) → Contains lines l → HasUse Co n l ⊎ HasUse Contra n l → ⊥) ⊎ (IsAnchored lines (Exist n) → ⊥)
+
+weaker_joined : (lines after : List Line) → AreWeaker lines after → {a b : Base} → IsJoined after a b → IsJoined lines a b
+weaker_joined lines after are joined_self = joined_self
+weaker_joined lines after are (joined_line {a = a} {b = m} l c j rest) =
+    let s : (k : Line) × Contains lines k × IsWeaker l k = are l c in
+    joined_line s.0 s.1 (s.2.1 a m j) (weaker_joined lines after are rest)
+
+leftover_on : (lines after : List Line) → AreWeaker lines after → (n : ℕ) → IsLeftover lines n → IsLeftover after n
+leftover_on lines after are n (inl unused) = inl unused_on
+  where
+    unused_on : (k : Line) → Contains after k → HasUse Co n k ⊎ HasUse Contra n k → ⊥
+    unused_on k c (inl u) =
+        let s : (l : Line) × Contains lines l × IsWeaker k l = are k c in unused s.0 s.1 (inl (s.2.0 Co n u))
+    unused_on k c (inr u) =
+        let s : (l : Line) × Contains lines l × IsWeaker k l = are k c in unused s.0 s.1 (inr (s.2.0 Contra n u))
+leftover_on lines after are n (inr loose) = inr (λ r. loose (r.0, r.1, weaker_joined lines after are r.2))
+
+-- the first step of preparing changes nothing, or loses an existential
+start_loses : (start between left : List Line) → tidied start ≡ start → Refines start between → Simplifies left between →
+    ((start ≡ left) × IsSimple left) ⊎ Loses start left
+start_loses start between left same r s = by (refines_lose start between same r) (simple_loses left between s)
+  where
+    by : (start ≡ between) ⊎ Loses start between → ((between ≡ left) × IsSimple left) ⊎ Loses between left →
+        ((start ≡ left) × IsSimple left) ⊎ Loses start left
+    by (inl e) (inl (f, is)) = inl (e ∙ f, is)
+    by (inl e) (inr h) = inr (subst (λ ls. Loses ls left) (sym e) h)
+    by (inr h) o = inr (loses_before start between left h (names_simple left between s))
+
+-- where preparing loses none, there were no candidates and no twins
+prepared_simple : (left start : List Line) → tidied start ≡ start → Prepares left start → IsSimple start ⊎ Loses start left
+prepared_simple left start same (prepared _ between idle r s is none) = by (start_loses start between left same r s)
+  where
+    by : ((start ≡ left) × IsSimple left) ⊎ Loses start left → IsSimple start ⊎ Loses start left
+    by (inl (e, simply)) = inl (subst IsSimple (sym e) simply)
+    by (inr h) = inr h
+prepared_simple left start same (trims _ between now idle r s is some rest) = by (start_loses start between now same r s)
+  where
+    on : NamesFrom now left
+    on = names_chain now (tidied (trimmed idle now)) left (names_trimmed idle now) (names_prepares left (tidied (trimmed idle now)) rest)
+
+    by : ((start ≡ now) × IsSimple now) ⊎ Loses start now → IsSimple start ⊎ Loses start left
+    by (inl (e, simply)) = inl (subst IsSimple (sym e) simply)
+    by (inr h) = inr (loses_before start now left h on)
+
+-- and what was left over still is
+prepared_leftover : (left start : List Line) → tidied start ≡ start → Prepares left start → (n : ℕ) → IsLeftover start n →
+    IsLeftover left n ⊎ Loses start left
+prepared_leftover left start same (prepared _ between idle r s is none) n over = by (start_loses start between left same r s)
+  where
+    by : ((start ≡ left) × IsSimple left) ⊎ Loses start left → IsLeftover left n ⊎ Loses start left
+    by (inl (e, simply)) = inl (subst (λ ls. IsLeftover ls n) e over)
+    by (inr h) = inr h
+prepared_leftover left start same (trims _ between now idle r s is some rest) n over =
+    by (start_loses start between now same r s) (prepared_leftover left next (tidied_twice (trimmed idle now)) rest n)
+  where
+    next : List Line
+    next = tidied (trimmed idle now)
+
+    last : NamesFrom start now → IsLeftover left n ⊎ Loses next left → IsLeftover left n ⊎ Loses start left
+    last from (inl o) = inl o
+    last from (inr h) = inr (loses_after start next left (names_chain start now next from (names_trimmed idle now)) h)
+
+    by : ((start ≡ now) × IsSimple now) ⊎ Loses start now → (IsLeftover next n → IsLeftover left n ⊎ Loses next left) →
+        IsLeftover left n ⊎ Loses start left
+    by (inl (e, simply)) induction =
+        last (names_chain start between now (names_refines start between r) (names_simple now between s))
+        (induction (leftover_on now next (weaker_next idle now) n (subst (λ ls. IsLeftover ls n) e over)))
+    by (inr h) induction =
+        inr (loses_before start now left h
+        (names_chain now next left (names_trimmed idle now) (names_prepares left next rest)))
 
 pub round_loses_lem : RoundLosesLaw
-round_loses_lem order lines after scheme r left = by (refines_lose lines r.refined r.is_tidied r.is_refined)
+round_loses_lem order lines after scheme r left = by left
   where
     rest : NamesFrom r.emitted after
     rest = names_after order lines after r
 
-    simple_rest : AreOfScheme r.refined → IsUnfinished r.refined → ((r.refined ≡ r.simple) × IsSimple r.simple) ⊎ Loses r.refined r.simple →
-        Loses r.refined after
-    simple_rest scheme left (inr h) =
-        loses_before r.refined r.simple after h
-        (names_chain r.simple r.emitted after (names_emitted order r.simple r.emitted r.is_emitted) rest)
-    simple_rest scheme left (inl (e, s)) =
-        loses_before r.refined r.emitted after
-        (subst (λ ls. Loses ls r.emitted) (sym e)
-        (emitted_loses order r.simple r.emitted r.is_emitted (subst AreOfScheme e scheme) s (subst IsUnfinished e left))) rest
+    on : NamesFrom r.simple after
+    on = names_chain r.simple r.emitted after (names_emitted order r.simple r.emitted r.is_emitted) rest
 
-    by : (lines ≡ r.refined) ⊎ Loses lines r.refined → Loses lines after
-    by (inr h) = loses_before lines r.refined after h (names_rest order lines after r)
-    by (inl e) =
-        subst (λ ls. Loses ls after) (sym e)
-        (simple_rest (subst AreOfScheme e scheme) (subst IsUnfinished e left) (simple_loses r.simple r.refined r.is_simple))
+    of_simple : IsSimple lines ⊎ Loses lines r.simple → (IsSimple lines → ⊥) → Loses lines after
+    of_simple (inl s) apart = absurd (apart s)
+    of_simple (inr h) apart = loses_before lines r.simple after h on
+
+    of_leftover : (n : ℕ) → NamesBase lines (Exist n) → IsLeftover r.simple n ⊎ Loses lines r.simple → Loses lines after
+    of_leftover n names (inl (inl unused)) = loses_before lines r.emitted after (
+      n,
+      names,
+      unused_gone order r.simple r.emitted r.is_emitted (from_scheme lines r.simple (from_prepares r.simple lines r.is_simple) scheme) n unused,
+    ) rest
+    of_leftover n names (inl (inr loose)) =
+        loses_before lines r.emitted after (n, names, unjoined_gone order r.simple r.emitted r.is_emitted n loose) rest
+    of_leftover n names (inr h) = loses_before lines r.simple after h on
+
+    by : IsUnfinished lines → Loses lines after
+    by (of_candidate n has) =
+        of_simple (prepared_simple r.simple lines r.is_tidied r.is_simple) (λ s. s.no_candidate n has)
+    by (of_twins sign class n is apart) =
+        of_simple (prepared_simple r.simple lines r.is_tidied r.is_simple) (λ s. apart (s.no_twins sign class is n))
+    by (of_unused n names unused) =
+        of_leftover n names (prepared_leftover r.simple lines r.is_tidied r.is_simple n (inl unused))
+    by (of_unjoined n names unjoined) =
+        of_leftover n names (prepared_leftover r.simple lines r.is_tidied r.is_simple n (inr unjoined))

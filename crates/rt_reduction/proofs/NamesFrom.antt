@@ -171,8 +171,3 @@ pub names_after : (order : Below) (lines after : List Line) (r : IsRound order l
 names_after order lines after r =
     names_chain r.emitted r.merged after (names_merges order r.merged r.emitted r.is_merged)
     (names_fewer r.merged after (kept_lem order r.merged after r.is_dropped))
-
-pub names_rest : (order : Below) (lines after : List Line) (r : IsRound order lines after) → NamesFrom r.refined after
-names_rest order lines after r =
-    names_chain r.refined r.simple after (names_simple r.simple r.refined r.is_simple)
-    (names_chain r.simple r.emitted after (names_emitted order r.simple r.emitted r.is_emitted) (names_after order lines after r))

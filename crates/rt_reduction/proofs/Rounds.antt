@@ -24,16 +24,13 @@ use Rattle.rt_reduction.specs.Laws.{OneFormLaw, FormAlikeLaw, FormSidesLaw, Form
 use Rattle.rt_reduction.proofs.Dropping.{one_drop_lem, kept_lem, drops_alike_lem, none_to_spare_lem}
 use Rattle.rt_reduction.proofs.Merging.{merges_alike_lem, one_merge_lem, no_equal_lem, merges_no_self_lem}
 use Rattle.rt_reduction.proofs.Emitting.{emits_alike_lem, one_emit_lem, emits_no_self_lem, from_emitted}
-use Rattle.rt_reduction.proofs.Simplifying.{one_simple, simple_alike}
-use Rattle.rt_reduction.proofs.Refined.{one_refines, refines_alike, from_refines}
-use Rattle.rt_reduction.specs.Simplifies.{Simplifies}
-use Rattle.rt_reduction.proofs.FromSides.{AreFrom, from_chain, from_scheme, from_procedure, from_fewer, from_tidied, from_simple, from_merges}
+use Rattle.rt_reduction.proofs.Prepared.{one_prepares, prepares_alike, from_prepares}
+use Rattle.rt_reduction.proofs.FromSides.{AreFrom, from_chain, from_scheme, from_procedure, from_fewer, from_tidied, from_merges}
 
 -- a round leaves one list
 one_round : (order : Below) (lines first second : List Line) → IsRound order lines first → IsRound order lines second → first ≡ second
 one_round order lines first second a b =
-    let least : b.refined ≡ a.refined = one_refines lines b.refined a.refined b.is_refined a.is_refined in
-    let simple : b.simple ≡ a.simple = one_simple b.simple a.simple a.refined (subst (Simplifies b.simple) least b.is_simple) a.is_simple in
+    let simple : b.simple ≡ a.simple = one_prepares b.simple a.simple lines b.is_simple a.is_simple in
     let emitted : b.emitted ≡ a.emitted = one_emit_lem order a.simple b.emitted a.emitted
     (subst (λ ls. IsEmitted order ls b.emitted) simple b.is_emitted) a.is_emitted in
     let merged : b.merged ≡ a.merged = one_merge_lem order a.emitted b.merged a.merged (subst (Merges order b.merged) emitted b.is_merged)
@@ -72,11 +69,10 @@ from_dropped order lines kept d = from_fewer lines kept (kept_lem order lines ke
 
 from_round : (order : Below) (lines after : List Line) → IsRound order lines after → AreFrom lines after
 from_round order lines after r =
-    from_chain lines r.refined after (from_refines lines r.refined r.is_refined)
-    (from_chain r.refined r.simple after (from_simple r.simple r.refined r.is_simple)
+    from_chain lines r.simple after (from_prepares r.simple lines r.is_simple)
     (from_chain r.simple r.emitted after (from_emitted order r.simple r.emitted r.is_emitted)
     (from_chain r.emitted r.merged after (from_merges order r.merged r.emitted r.is_merged)
-    (from_dropped order r.merged after r.is_dropped))))
+    (from_dropped order r.merged after r.is_dropped)))
 
 from_reduced : (order : Below) (reduced start : List Line) → Reduces order reduced start → AreFrom start reduced
 from_reduced order reduced start (done _ r d) = from_round order start reduced r
@@ -94,15 +90,12 @@ form_sides_lem order lines form scheme r =
 module _ (order : Below) (inside : Base → Bool) (inner : (n : ℕ) → inside (Exist n) ≡ true) where
   round_alike : (lines after : List Line) → AreOfScheme lines → IsRound order lines after → Alike order inside lines after
   round_alike lines after scheme r =
-      Alike-trans order inside lines r.refined after (refines_alike order inside lines r.refined inner r.is_refined)
-      (Alike-trans order inside r.refined r.simple after (simple_alike order inside r.simple r.refined inner r.is_simple)
+      Alike-trans order inside lines r.simple after (prepares_alike order inside r.simple lines inner r.is_simple)
       (Alike-trans order inside r.simple r.emitted after
       (emits_alike_lem order inside r.simple r.emitted inner
-      (from_scheme lines r.simple
-      (from_chain lines r.refined r.simple (from_refines lines r.refined r.is_refined) (from_simple r.simple r.refined r.is_simple)) scheme)
-      r.is_emitted)
+      (from_scheme lines r.simple (from_prepares r.simple lines r.is_simple) scheme) r.is_emitted)
       (Alike-trans order inside r.emitted r.merged after (merges_alike_lem order inside r.emitted r.merged inner r.is_merged)
-      (drops_alike_lem order inside r.merged after r.is_dropped))))
+      (drops_alike_lem order inside r.merged after r.is_dropped)))
 
   reduced_alike : (reduced start : List Line) → AreOfScheme start → Reduces order reduced start → Alike order inside start reduced
   reduced_alike reduced start scheme (done _ r d) = round_alike start reduced scheme r

@@ -1,5 +1,5 @@
 -- Rounds of what reduces lines, until nothing is left to do.
-use Rattle.std.specs.Prelude.{◌≡◌, ◌≢◌, ℕ, ◌⊎◌, List, [], Contains}
+use Rattle.std.specs.Prelude.{◌≡◌, ◌≢◌, ℕ, ◌⊎◌, List, [], Contains, Bool}
 use Rattle.rt_lines.specs.declared.label.Variance.{Variance}
 use Rattle.rt_lines.specs.declared.label.Variance.TheVariants.{Co, Contra}
 use Rattle.rt_lines.specs.declared.variable.Base.TheVariants.{Exist}
@@ -8,6 +8,7 @@ use Rattle.rt_lines.specs.Orders.{Below}
 use Rattle.rt_rules.specs.Laws.{NamesBase}
 use Rattle.rt_rules.specs.Put.{HasUse}
 use Rattle.rt_refine.specs.Refinements.{IsCoarsest, refined}
+use Rattle.rt_trim.specs.Idle.{AreIdle, trimmed}
 use Rattle.rt_twins.specs.Twinnings.{IsTwinning}
 use Rattle.rt_polar.specs.Polar.{HasCandidate}
 use Rattle.rt_polar.specs.Tidied.{tidied}
@@ -20,16 +21,21 @@ use Rattle.rt_reduction.specs.Simplifies.{HasNoTwins, Simplifies}
 abbrev pub Refines : List Line → List Line → Type 0
 Refines lines left = (class : ℕ → ℕ) × IsCoarsest lines class × (left ≡ tidied (refined class lines))
 
--- one round over tidied lines: existentials that are used alike become one, places are given away, the shape is written anew, equals
--- become one, and what the other lines derive is dropped
+-- Existentials that are used alike become one, places are given away, and twins become one. Where an existential is idle then, the lines
+-- of idle ones become their shapes, and so on, until none of them has a `<=` line or bound.
+pub data Prepares (left : List Line) : List Line → Type 0 where
+  prepared : (lines between : List Line) (idle : ℕ → Bool) → Refines lines between → Simplifies left between → AreIdle left idle →
+      trimmed idle left ≡ left → Prepares left lines
+  trims : (lines between simple : List Line) (idle : ℕ → Bool) → Refines lines between → Simplifies simple between →
+      AreIdle simple idle → trimmed idle simple ≢ simple → Prepares left (tidied (trimmed idle simple)) → Prepares left lines
+
+-- one round over tidied lines: they are prepared, the shape is written anew, equals become one, and what the other lines derive is dropped
 pub record IsRound (order : Below) (lines after : List Line) : Type 0 where
   pub is_tidied : tidied lines ≡ lines
-  pub refined : List Line
   pub simple : List Line
   pub emitted : List Line
   pub merged : List Line
-  pub is_refined : Refines lines refined
-  pub is_simple : Simplifies simple refined
+  pub is_simple : Prepares simple lines
   pub is_emitted : IsEmitted order simple emitted
   pub is_merged : Merges order merged emitted
   pub is_dropped : Drops order [] merged after

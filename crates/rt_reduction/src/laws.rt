@@ -1,33 +1,13 @@
 //! The laws of reduced schemes: functions that do nothing, each for the law that it ensures.
-ghost use Rattle.rt_reduction.specs.Laws.{
-  DropsAlikeLaw,
-  EmitsAlikeLaw,
-  EmitsJoinedLaw,
-  EmitsNoSelfLaw,
-  EmitsOfSchemeLaw,
-  EmitsUsedLaw,
-  FormAlikeLaw,
-  FormConstantsLaw,
-  FormReducedLaw,
-  FormSidesLaw,
-  KeptDeriveLaw,
-  KeptLaw,
-  MergesAlikeLaw,
-  MergesNoSelfLaw,
-  NoEqualLaw,
-  NoneToSpareLaw,
-  NumberedReducedLaw,
-  OneDropLaw,
-  OneEmitLaw,
-  OneFormLaw,
-  OneMergeLaw,
-  OneSimpleLaw,
-  ReorderedReducedLaw,
-  RoundLosesLaw,
-  RoundNamesLaw,
-  SimplifiesAlikeLaw,
-  SimplifiesRestLaw,
-};
+ghost use Rattle.rt_reduction.specs.Laws.{DropsAlikeLaw, EmitsAlikeLaw, EmitsJoinedLaw};
+ghost use Rattle.rt_reduction.specs.Laws.{EmitsNoSelfLaw, EmitsOfSchemeLaw};
+ghost use Rattle.rt_reduction.specs.Laws.{EmitsUsedLaw, FormAlikeLaw, FormConstantsLaw};
+ghost use Rattle.rt_reduction.specs.Laws.{FormReducedLaw, FormSidesLaw, KeptDeriveLaw};
+ghost use Rattle.rt_reduction.specs.Laws.{KeptLaw, MergesAlikeLaw, MergesNoSelfLaw};
+ghost use Rattle.rt_reduction.specs.Laws.{NoEqualLaw, NoneToSpareLaw, NumberedReducedLaw};
+ghost use Rattle.rt_reduction.specs.Laws.{OneDropLaw, OneEmitLaw, OneFormLaw};
+ghost use Rattle.rt_reduction.specs.Laws.{OneMergeLaw, OneSimpleLaw, ReorderedReducedLaw};
+ghost use Rattle.rt_reduction.specs.Laws.{RoundLosesLaw, RoundNamesLaw, SimplifiesAlikeLaw, SimplifiesRestLaw};
 
 /// Dropping, from the last line to the first, each line that the others derive: one list at most is kept; what is kept
 /// stood there; it derives each line, and so the outside can derive the same from it; and no line of it is derivable from

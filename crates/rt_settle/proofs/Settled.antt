@@ -28,9 +28,9 @@ use Rattle.rt_rules.proofs.Numbers.{numbered-bases, numbering_lem}
 use Rattle.rt_scheme.specs.Schemes.{is_interface, is_scheme_side, is_scheme_variable, is_scheme_line, AreSchemeLines}
 use Rattle.rt_scheme.specs.Splitting.{is_interface_side, is_interface_variable, is_interface_line, AreInterfaceLines}
 use Rattle.rt_reduction.specs.Emits.{AreOfScheme, IsOfScheme}
-use Rattle.rt_reduction.specs.Rounds.{IsReducedForm, IsRound, Reduces, done, again}
-use Rattle.rt_reduction.proofs.NamesFrom.{NamesFrom, named_from, names_chain, names_rest, names_tidied}
-use Rattle.rt_reduction.proofs.Refined.{names_refines}
+use Rattle.rt_reduction.specs.Rounds.{IsReducedForm, Reduces, done, again}
+use Rattle.rt_reduction.proofs.NamesFrom.{NamesFrom, named_from, names_chain, names_tidied}
+use Rattle.rt_reduction.proofs.Prepared.{names_round}
 use Rattle.rt_reduction.proofs.Renumbering.{numbered_reduced_lem}
 use Rattle.rt_reduction.proofs.Reordering.{reordered_reduced_lem}
 use Rattle.rt_reduction.proofs.Rounds.{form_alike_lem, form_reduced_lem, form_sides_lem}
@@ -106,10 +106,6 @@ interfaces_of_scheme lines all l x c h = at x.base x.word (side_of_interface lin
     at (Outer n) w t = absurd (both_ways false refl t)
 
 -- The reduced form.
-
-names_round : (order : Below) (lines after : List Line) → IsRound order lines after → NamesFrom lines after
-names_round order lines after r =
-    names_chain lines r.refined after (names_refines lines r.refined r.is_refined) (names_rest order lines after r)
 
 names_reduced : (order : Below) (reduced start : List Line) → Reduces order reduced start → NamesFrom start reduced
 names_reduced order reduced start (done _ r d) = names_round order start reduced r

@@ -1,3 +1,5 @@
 pub mod Shrinking
+pub mod Counting
+pub mod Trimmed
 pub mod Joining
 pub mod Staying

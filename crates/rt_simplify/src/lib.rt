@@ -3,6 +3,8 @@
 
 pub mod laws;
 mod merging;
+mod preparing;
 mod simplifying;
 
+pub use preparing::prepare;
 pub use simplifying::simplify;

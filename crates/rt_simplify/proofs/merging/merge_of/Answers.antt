@@ -1,4 +1,4 @@
-use Rattle.std.proofs.Common.{◌≡◌, Bool, true, false, List, MatchBool, subst}
+use Rattle.std.proofs.Common.{◌≡◌, Bool, List, MatchBool, subst}
 use Rattle.rt_lines.specs.declared.line.Line.{Line}
 use Rattle.rt_simplify.proofs.Joining.{no_twins, become_one}
 use Rattle.rt_simplify.proofs.merging.merge_of.Goals as goal
