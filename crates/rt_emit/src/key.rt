@@ -1,12 +1,12 @@
 // Keys, by which variables are compared.
-ghost use Rattle.std.specs.Prelude.{◌≡◌, ◌∷◌, ◌++◌, [], map, decimal, IfOk, OnOk};
+ghost use Rattle.std.specs.Prelude.{◌≡◌, ◌∷◌, ◌++◌, [], map, IfOk, OnOk};
 ghost use Rattle.rt_texts.specs.Texts.{label_text};
 ghost use Rattle.rt_reduction.specs.Before.{base_key, label_numbers, level, offset_numbers, variable_key};
 ghost use Rattle.rt_emit.specs.Keys.{numbers};
 
-use itoa::Buffer;
 use rt_base::Memory;
 use rt_lines::{Base, Dtv, Label, Loc, Word};
+use rt_texts::print_label;
 use std::alloc::Global;
 
 /// What a variable is compared by: its level, its base, and the texts of its letters.
@@ -20,39 +20,6 @@ fn push_bytes(bytes: &[u8], out: &mut Vec<u64>) -> Result<(), Memory>
         out.push(u64::from(*byte))?;
     }
     Ok(())
-}
-
-// Adds a fixed text and a number in decimal.
-fn push_numbered(front: &[u8], n: u32, out: &mut Vec<u64>) -> Result<(), Memory>
-    ensures { OnOk result (out.new.items ≡ out.old.items ++ (front.now ++ decimal n)) }
-{
-    push_bytes(front, out)?;
-    let mut buffer = Buffer::new();
-    push_bytes(buffer.format(n).as_bytes(), out)
-}
-
-// Adds a field's text.
-fn push_field(width: u8, offset: i32, out: &mut Vec<u64>) -> Result<(), Memory>
-    ensures { OnOk result (out.new.items ≡ out.old.items ++ label_text (Label.Field width offset)) }
-{
-    push_numbered(b"s", u32::from(width), out)?;
-    push_bytes(b"@", out)?;
-    let mut buffer = Buffer::new();
-    push_bytes(buffer.format(offset).as_bytes(), out)
-}
-
-// Adds a label's text.
-fn push_label(label: Label, out: &mut Vec<u64>) -> Result<(), Memory>
-    ensures { OnOk result (out.new.items ≡ out.old.items ++ label_text label) }
-{
-    match label {
-        Label::In(Loc::Arg(n)) => push_numbered(b"in_a", u32::from(n), out),
-        Label::In(Loc::Stack(k)) => push_numbered(b"in_stack", k, out),
-        Label::Out(n) => push_numbered(b"out_a", u32::from(n), out),
-        Label::Load => push_bytes(b"load", out),
-        Label::Store => push_bytes(b"store", out),
-        Label::Field(width, offset) => push_field(width, offset, out),
-    }
 }
 
 // A number for the offset's sign, and one for how far it is.
@@ -112,10 +79,13 @@ fn level(x: &Dtv) -> usize
 fn push_texts(alloc: Global, word: &Word, key: &mut Key) -> Result<(), Memory>
     ensures { OnOk result (numbers key.new ≡ numbers key.old ++ map label_text word.now) }
 {
+    let mut text = Vec::new(alloc);
     for label in word.items() {
-        let mut text = Vec::new(alloc);
-        push_label(*label, &mut text)?;
-        key.push(text)?;
+        text.clear();
+        print_label(*label, &mut text)?;
+        let mut part = Vec::new(alloc);
+        push_bytes(&text, &mut part)?;
+        key.push(part)?;
     }
     Ok(())
 }
@@ -130,7 +100,8 @@ fn push_numbers(alloc: Global, word: &Word, key: &mut Key) -> Result<(), Memory>
     Ok(())
 }
 
-/// The variable's key. The error is out of memory.
+/// The variable's key: of several variables the one with the least key comes first, and stands for the others. The error is
+/// out of memory.
 pub fn key_of(alloc: Global, x: &Dtv) -> Result<Key, Memory>
     ensures { IfOk result (λ key. numbers key ≡ variable_key x.now) }
 {

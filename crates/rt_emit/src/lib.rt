@@ -1,5 +1,6 @@
 //! The shape of lines written anew: of the lines that are left, the `<=` lines and bounds, and the shape over the bases that
-//! these need, each class of variables of one shape by the first of them (PLDI 2016, section 5).
+//! these need, each class of variables of one shape by the first of them (PLDI 2016, section 5). Variables are in the
+//! order of their keys.
 #![tactic(auto)]
 
 ghost use Rattle.std.specs.Prelude.{IfOk};
@@ -14,6 +15,7 @@ mod letters;
 mod queue;
 mod writing;
 
+pub use key::key_of;
 use rt_base::{Memory, Sequence};
 use rt_lines::{Line, Lines};
 use std::alloc::Global;

@@ -11,7 +11,6 @@ use Rattle.rt_lines.specs.declared.variable.Dtv.{Dtv}
 use Rattle.rt_lines.specs.declared.line.Line.{Line}
 use Rattle.rt_lines.specs.declared.line.Line.TheVariants.{Var, Same, Sub, Low, Up}
 use Rattle.rt_lines.specs.Equality.{variable_eq}
-use Rattle.rt_lines.specs.contracts.variable.DtvEq.TheImpl.Laws as variable_laws
 use Rattle.rt_lines.proofs.Equal.{variable_equal}
 use Rattle.rt_rules.specs.Rules.{extended, HasSide}
 use Rattle.rt_rules.proofs.Lists.{Contains-none, Contains-here, Contains-there, Contains-cons_cases, Contains-map, Contains-map_source}

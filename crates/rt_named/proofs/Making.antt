@@ -1,6 +1,6 @@
 -- Origins and the variables that they make.
 use Rattle.std.proofs.Common.{◌≡◌, ℕ, ◌+◌, ◌<◌, ◌≤◌, ◌⊎◌, inl, inr, List, [], ◌∷◌, ◌++◌, Contains, length, get_or, Bool, true, false, refl, ap, sym, ◌∙◌, subst, arith, true≢false, cond, nat_lt}
-use Rattle.std.specs.Prelude.{slice_get, Some, None, ◌&&◌, nat_eq}
+use Rattle.std.specs.Prelude.{slice_get, Some, None, nat_eq}
 use Rattle.std.specs.List.{list_any, Any, position, position_or_len}
 use Rattle.std.proofs.lemmas.List.Sums.{passes_at_first}
 use Rattle.std.proofs.lemmas.Option.{slice_get-get_or, get_or_from_slice_get, slice_get_within}
@@ -14,7 +14,6 @@ use Rattle.rt_lines.specs.declared.variable.Base.{Base}
 use Rattle.rt_lines.specs.declared.variable.Base.TheVariants.{Proc}
 use Rattle.rt_lines.specs.declared.variable.Dtv.{Dtv}
 use Rattle.rt_lines.specs.Equality.{variable_eq, label_eq}
-use Rattle.rt_lines.specs.contracts.variable.DtvEq.TheImpl.Laws as variable_laws
 use Rattle.rt_lines.proofs.Equal.{variable_equal, label_equal, base_equal}
 use Rattle.rt_rules.specs.Rules.{longer, extended}
 use Rattle.rt_rules.proofs.Covering.{extended-nil, extended-cons}

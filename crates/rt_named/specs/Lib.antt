@@ -1,3 +1,5 @@
 pub mod Naming
 pub mod Origins
 pub mod Laws
+pub mod Nodes
+pub mod Numbers

@@ -1,24 +1,6 @@
 // Named variables.
-ghost use Rattle.std.specs.Prelude.{
-  ◌≡◌,
-  ℕ,
-  ◌<◌,
-  List,
-  [],
-  ◌∷◌,
-  length,
-  take,
-  slice_get,
-  slice_index_or,
-  Contains,
-  Some,
-  IfOk,
-  OnOk,
-  OnErr,
-  MatchOption,
-  flat_map,
-  fold,
-};
+ghost use Rattle.std.specs.Prelude.{◌≡◌, ℕ, ◌<◌, List, [], ◌∷◌, length, take, slice_get};
+ghost use Rattle.std.specs.Prelude.{slice_index_or, Contains, Some, IfOk, OnOk, OnErr, MatchOption, flat_map, fold};
 ghost use Rattle.indexmap.specs.IndexSet.{insert_key};
 ghost use Rattle.rt_lines.specs.declared.label.Label.{Label};
 ghost use Rattle.rt_lines.specs.Equality.{variable_eq};
@@ -136,6 +118,17 @@ impl Named {
             number = longer;
         }
         Some(number)
+    }
+
+    /// The number of a variable of the list. It is found in time linear in the word.
+    pub fn number(&self, x: &Dtv) -> u32
+        requires { Contains self.now x.now }
+        ensures { slice_get self.now result ≡ Some x.now }
+    {
+        match self.index(x) {
+            Some(number) => number,
+            None => unreachable!(),
+        }
     }
 
     // The number of the variable of an origin. Without it there is none that begins with it.

@@ -4,7 +4,7 @@ use Rattle.std.specs.Prelude.{All, List, [], ◌∷◌, ◌++◌, codes, decimal
 use Rattle.std.specs.List.{flat_map}
 use Rattle.rt_lines.specs.declared.label.Label.{Label}
 use Rattle.rt_lines.specs.Orders.{Below}
-use Rattle.rt_tree.specs.Labels.{label_text}
+use Rattle.rt_texts.specs.Texts.{label_text}
 use Rattle.rt_tree.specs.Trees.{Node, Nodes}
 
 -- the first number is the second one, or below it

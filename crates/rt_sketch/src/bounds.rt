@@ -1,5 +1,5 @@
 // Bounds of named variables.
-ghost use Rattle.std.specs.Prelude.{◌≡◌, ◌∷◌, ℕ, ◌<◌, [], Contains, Some, IfOk, OnOk, length, slice_get, slice_index_or};
+ghost use Rattle.std.specs.Prelude.{◌≡◌, ◌∷◌, ℕ, ◌<◌, [], Contains, IfOk, OnOk, length, slice_index_or};
 ghost use Rattle.rt_lines.specs.declared.line.Line.{Line as Given};
 ghost use Rattle.rt_lines.specs.declared.variable.Dtv.{Dtv as Variable};
 ghost use Rattle.rt_rules.specs.Rules.{HasSide};
@@ -8,7 +8,7 @@ ghost use Rattle.rt_ways.specs.Pushes.{AreDistinct};
 ghost use Rattle.rt_sketch.specs.Bounds.{AreBoundsOf, IsLow, IsUp};
 
 use rt_base::{Memory, Sequence};
-use rt_lines::{Dtv, Line};
+use rt_lines::Line;
 use rt_named::Named;
 use std::alloc::Global;
 
@@ -49,7 +49,7 @@ fn enter_low(named: &Named, line: &Line, rows: &mut Vec<Sequence<u16>>) -> Resul
 {
     match line {
         Line::Low(bound, x) => {
-            let number = number(named, x);
+            let number = named.number(x);
             add(rows, number, *bound)?;
             Ok(())
         }
@@ -94,7 +94,7 @@ fn enter_up(named: &Named, line: &Line, rows: &mut Vec<Sequence<u16>>) -> Result
 {
     match line {
         Line::Up(x, bound) => {
-            let number = number(named, x);
+            let number = named.number(x);
             add(rows, number, *bound)?;
             Ok(())
         }
@@ -121,15 +121,4 @@ fn add(rows: &mut Vec<Sequence<u16>>, number: u32, bound: u16) -> Result<(), Mem
 {
     rows[number as usize].push(bound)?;
     Ok(())
-}
-
-// The number of a named variable.
-fn number(named: &Named, x: &Dtv) -> u32
-    requires { Contains named.now x.now }
-    ensures { slice_get named.now result ≡ Some x.now }
-{
-    match named.index(x) {
-        Some(number) => number,
-        None => unreachable!(),
-    }
 }

@@ -7,18 +7,8 @@ ghost use Rattle.rt_lines.specs.Words.{IsLabel};
 ghost use Rattle.rt_lattice.specs.Lattices.{IsLattice, size_of};
 ghost use Rattle.rt_tree.specs.Trees.{step_of};
 ghost use Rattle.rt_sketch.specs.Bounds.{AreBelow};
-ghost use Rattle.rt_sketch.specs.Growths.{
-  HasMarks,
-  HasNextAt,
-  HasNextRows,
-  HasTaken,
-  IsGrown,
-  IsMarkedBy,
-  IsMore,
-  IsOnWay,
-  IsStep,
-  LeadsFrom,
-};
+ghost use Rattle.rt_sketch.specs.Growths.{HasMarks, HasNextAt, HasNextRows, HasTaken};
+ghost use Rattle.rt_sketch.specs.Growths.{IsGrown, IsMarkedBy, IsMore, IsOnWay, IsStep, LeadsFrom};
 ghost use Rattle.rt_sketch.specs.States.{IsMachineOf};
 ghost use Rattle.rt_sketch.specs.declared.machine.Machine.{Machine as Steps};
 

@@ -10,7 +10,8 @@ ghost use Rattle.rt_rules.specs.Rules.{longer};
 ghost use Rattle.rt_loose.specs.Kinds.{IsPointer};
 ghost use Rattle.rt_shape.specs.Graphs.{IsReadWrite, bare, node_of};
 ghost use Rattle.std.specs.Option.{option_map};
-ghost use Rattle.rt_ways.specs.Arcs.{IsInRow, IsLeft};
+ghost use Rattle.rt_named.specs.Numbers.{IsLeft};
+ghost use Rattle.rt_ways.specs.Arcs.{IsInRow};
 ghost use Rattle.rt_ways.specs.Frames.{hub_of};
 ghost use Rattle.rt_ways.specs.Nets.{IsSized, class_at};
 ghost use Rattle.rt_ways.specs.Pushes.{step_of};
@@ -21,7 +22,7 @@ use crate::machine::Machine;
 use crate::state::State;
 use rt_base::Memory;
 use rt_lines::{Base, Dtv, Label, Variance, Word};
-use rt_ways::Numbers;
+use rt_named::Numbers;
 use std::alloc::Global;
 
 // Those below, or those above.

@@ -1,48 +1,13 @@
 // Printing of trees.
-ghost use Rattle.std.specs.Prelude.{◌≡◌, ◌++◌, ◌∷◌, ◌<◌, [], OnOk, decimal, length, slice_index_or};
+ghost use Rattle.std.specs.Prelude.{◌≡◌, ◌++◌, ◌∷◌, ◌<◌, [], OnOk, length, slice_index_or};
 ghost use Rattle.std.specs.List.{flat_map};
-ghost use Rattle.rt_lines.specs.declared.label.Label.TheVariants.{Field};
-ghost use Rattle.rt_tree.specs.Labels.{label_text};
 ghost use Rattle.rt_tree.specs.Trees.{IsTree, node_at};
 ghost use Rattle.rt_sketch.specs.Texts.{AreMarksBelow, conflict_text, edge_text, is_at_or_below, node_text, tree_text};
 
-use itoa::Buffer;
 use rt_base::Memory;
-use rt_lines::{Label, Loc, Names, Order};
-use rt_texts::print_number;
+use rt_lines::{Label, Names, Order};
+use rt_texts::{print_label, print_number, print_numbered};
 use rt_tree::Tree;
-
-// Adds a fixed text and a number in decimal.
-fn push_numbered(front: &[u8], n: u32, out: &mut Vec<u8>) -> Result<(), Memory>
-    ensures { OnOk result (out.new.items ≡ out.old.items ++ (front.now ++ decimal n)) }
-{
-    out.extend_from_slice(front)?;
-    print_number(n, out)
-}
-
-// Adds a field's text.
-fn push_field(width: u8, offset: i32, out: &mut Vec<u8>) -> Result<(), Memory>
-    ensures { OnOk result (out.new.items ≡ out.old.items ++ label_text (Field width offset)) }
-{
-    push_numbered(b"s", u32::from(width), out)?;
-    out.extend_from_slice(b"@")?;
-    let mut buffer = Buffer::new();
-    out.extend_from_slice(buffer.format(offset).as_bytes())
-}
-
-// Adds a label's text.
-fn push_label(label: Label, out: &mut Vec<u8>) -> Result<(), Memory>
-    ensures { OnOk result (out.new.items ≡ out.old.items ++ label_text label) }
-{
-    match label {
-        Label::In(Loc::Arg(n)) => push_numbered(b"in_a", u32::from(n), out),
-        Label::In(Loc::Stack(k)) => push_numbered(b"in_stack", k, out),
-        Label::Out(n) => push_numbered(b"out_a", u32::from(n), out),
-        Label::Load => out.extend_from_slice(b"load"),
-        Label::Store => out.extend_from_slice(b"store"),
-        Label::Field(width, offset) => push_field(width, offset, out),
-    }
-}
 
 // Adds an edge's line.
 fn push_edge(number: u32, label: Label, end: u32, out: &mut Vec<u8>) -> Result<(), Memory>
@@ -50,8 +15,8 @@ fn push_edge(number: u32, label: Label, end: u32, out: &mut Vec<u8>) -> Result<(
 {
     print_number(number, out)?;
     out.extend_from_slice(b" ")?;
-    push_label(label, out)?;
-    push_numbered(b" ", end, out)?;
+    print_label(label, out)?;
+    print_numbered(b" ", end, out)?;
     out.extend_from_slice(b"\n")
 }
 
@@ -98,7 +63,7 @@ fn push_node(
     ensures { OnOk result (out.new.items ≡ out.old.items ++ node_text names.now order.now number (node_at tree.now number)) }
 {
     let (low, up) = tree.mark(number);
-    push_numbered(b"node ", number, out)?;
+    print_numbered(b"node ", number, out)?;
     push_mark(low, names, out)?;
     push_mark(up, names, out)?;
     let end: &[u8] = if is_at_or_below(order, low, up) {

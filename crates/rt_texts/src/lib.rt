@@ -13,4 +13,6 @@ mod variable;
 pub use cut::{after_front, read_number, split_before};
 pub use fault::TextFault;
 pub use line::{read_judge, read_line};
-pub use print::{print_line, print_lines, print_number, print_variable};
+pub use print::{
+    print_label, print_line, print_lines, print_number, print_numbered, print_variable,
+};

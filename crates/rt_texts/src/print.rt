@@ -18,8 +18,8 @@ pub fn print_number(n: u32, out: &mut Vec<u8>) -> Result<(), Memory>
     out.extend_from_slice(buffer.format(n).as_bytes())
 }
 
-// Adds a fixed text and a number in decimal.
-fn push_numbered(front: &[u8], n: u32, out: &mut Vec<u8>) -> Result<(), Memory>
+/// Adds a fixed text and a number in decimal at the end. The error is want of memory.
+pub fn print_numbered(front: &[u8], n: u32, out: &mut Vec<u8>) -> Result<(), Memory>
     ensures { OnOk result (out.new.items ≡ out.old.items ++ (front.now ++ decimal n)) }
 {
     out.extend_from_slice(front)?;
@@ -30,20 +30,20 @@ fn push_numbered(front: &[u8], n: u32, out: &mut Vec<u8>) -> Result<(), Memory>
 fn push_field(width: u8, offset: i32, out: &mut Vec<u8>) -> Result<(), Memory>
     ensures { OnOk result (out.new.items ≡ out.old.items ++ label_text (Label.Field width offset)) }
 {
-    push_numbered(b"s", u32::from(width), out)?;
+    print_numbered(b"s", u32::from(width), out)?;
     out.extend_from_slice(b"@")?;
     let mut buffer = Buffer::new();
     out.extend_from_slice(buffer.format(offset).as_bytes())
 }
 
-// Adds a label's text.
-fn push_label(label: Label, out: &mut Vec<u8>) -> Result<(), Memory>
+/// Adds a label's text at the end. The error is want of memory.
+pub fn print_label(label: Label, out: &mut Vec<u8>) -> Result<(), Memory>
     ensures { OnOk result (out.new.items ≡ out.old.items ++ label_text label) }
 {
     match label {
-        Label::In(Loc::Arg(n)) => push_numbered(b"in_a", u32::from(n), out),
-        Label::In(Loc::Stack(k)) => push_numbered(b"in_stack", k, out),
-        Label::Out(n) => push_numbered(b"out_a", u32::from(n), out),
+        Label::In(Loc::Arg(n)) => print_numbered(b"in_a", u32::from(n), out),
+        Label::In(Loc::Stack(k)) => print_numbered(b"in_stack", k, out),
+        Label::Out(n) => print_numbered(b"out_a", u32::from(n), out),
         Label::Load => out.extend_from_slice(b"load"),
         Label::Store => out.extend_from_slice(b"store"),
         Label::Field(width, offset) => push_field(width, offset, out),
@@ -55,10 +55,10 @@ fn push_base(base: Base, out: &mut Vec<u8>) -> Result<(), Memory>
     ensures { OnOk result (out.new.items ≡ out.old.items ++ base_text base) }
 {
     match base {
-        Base::Proc(n) => push_numbered(b"f", n, out),
-        Base::Global(n) => push_numbered(b"g", n, out),
-        Base::Exist(n) => push_numbered(b"t", n, out),
-        Base::Outer(n) => push_numbered(b"x", n, out),
+        Base::Proc(n) => print_numbered(b"f", n, out),
+        Base::Global(n) => print_numbered(b"g", n, out),
+        Base::Exist(n) => print_numbered(b"t", n, out),
+        Base::Outer(n) => print_numbered(b"x", n, out),
     }
 }
 
@@ -68,7 +68,7 @@ fn push_word(word: &Word, out: &mut Vec<u8>) -> Result<(), Memory>
 {
     for label in word.items() {
         out.push(b'.')?;
-        push_label(*label, out)?;
+        print_label(*label, out)?;
     }
     Ok(())
 }

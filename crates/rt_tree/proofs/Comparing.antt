@@ -1,17 +1,19 @@
 -- How labels compare: by their kinds, and then by the texts of their numbers.
-use Rattle.std.proofs.Common.{◌≡◌, ℕ, ◌<◌, ◌^◌, Bool, true, false, cond, List, [], ◌∷◌, ◌++◌, inl, inr, refl, sym, ap, subst, ◌∙◌, arith, codes, nat_eq, ℤ, pos, negsuc, FitsSigned, w32, lit<, lit≤}
+use Rattle.std.proofs.Common.{◌≡◌, ℕ, ◌<◌, ◌^◌, Bool, true, false, cond, List, [], ◌∷◌, ◌++◌, inl, inr, refl, sym, ap, subst, ◌∙◌, arith, nat_eq, ℤ, pos, negsuc, FitsSigned, w32}
 use Rattle.std.specs.Fmt.{signed_decimal}
 use Rattle.std.specs.Ordering.{nat_cmp, ordering_then}
 use Rattle.std.specs.Cmp.Lexicographic.{slice_cmp}
 use Rattle.std.specs.declared.cmp.Ordering.{Ordering}
 use Rattle.std.specs.declared.cmp.Ordering.TheVariants.{Less, Equal, Greater}
 use Rattle.std.proofs.lemmas.Cmp.{nat_list_cmp_total, tied_itself}
-use Rattle.std.proofs.lemmas.Fmt.{decimal_digit, decimal_step, signed_decimal_injective}
+use Rattle.std.proofs.lemmas.Fmt.{signed_decimal_injective}
 use Rattle.rt_lines.specs.Words.{IsLabel}
 use Rattle.rt_lines.specs.declared.label.Loc.TheVariants.{Arg, Stack}
 use Rattle.rt_lines.specs.declared.label.Label.{Label}
 use Rattle.rt_lines.specs.declared.label.Label.TheVariants.{In, Out, Load, Store, Field}
-use Rattle.rt_tree.specs.Labels.{label_text, label_cmp}
+use Rattle.rt_texts.specs.Texts.{label_text}
+use Rattle.rt_texts.proofs.LabelTexts.{field_front-8, field_front-16, field_front-32}
+use Rattle.rt_tree.specs.Labels.{label_cmp}
 use Rattle.rt_tree.specs.Kinds.{Kind, OfArgument, OfStack, OfLoad, OfResult, OfHalf, OfWord, OfByte, OfStore, rank_of_kind, front_of, has_number, kind_of, rank_of, number_of}
 use lib.Signed.{mag}
 use Rattle.rt_base.proofs.Numbers.{nat_cmp-equal, then-equal}
@@ -87,19 +89,6 @@ fronts OfStore OfWord xs ys = refl
 fronts OfStore OfByte xs ys = refl
 fronts OfStore OfStore xs ys = refl
 
-text_of_byte : (k : ℤ) → label_text (Field 8 k) ≡ codes "s8@" ++ signed_decimal k
-text_of_byte k = ap (λ ds. codes "s" ++ ds ++ codes "@" ++ signed_decimal k) (decimal_digit 8 (lit< tt))
-
-text_of_half : (k : ℤ) → label_text (Field 16 k) ≡ codes "s16@" ++ signed_decimal k
-text_of_half k =
-    ap (λ ds. codes "s" ++ ds ++ codes "@" ++ signed_decimal k)
-    (decimal_step 16 (lit≤ tt) (lit< tt) ∙ ap (λ ds. ds ++ 54 ∷ []) (decimal_digit 1 (lit< tt)))
-
-text_of_word : (k : ℤ) → label_text (Field 32 k) ≡ codes "s32@" ++ signed_decimal k
-text_of_word k =
-    ap (λ ds. codes "s" ++ ds ++ codes "@" ++ signed_decimal k)
-    (decimal_step 32 (lit≤ tt) (lit< tt) ∙ ap (λ ds. ds ++ 50 ∷ []) (decimal_digit 3 (lit< tt)))
-
 -- its text is its front and its number
 abbrev HasText : Label → Type 0
 HasText l = label_text l ≡ front_of (kind_of l) ++ digits_of l
@@ -110,9 +99,9 @@ has_text (In (Stack k)) h = refl
 has_text (Out n) h = refl
 has_text Load h = refl
 has_text Store h = refl
-has_text (Field w k) (inl e, h) = subst (λ v. HasText (Field v k)) (sym e) (text_of_byte k)
-has_text (Field w k) (inr (inl e), h) = subst (λ v. HasText (Field v k)) (sym e) (text_of_half k)
-has_text (Field w k) (inr (inr e), h) = subst (λ v. HasText (Field v k)) (sym e) (text_of_word k)
+has_text (Field w k) (inl e, h) = subst (λ v. HasText (Field v k)) (sym e) (ap (λ f. f ++ signed_decimal k) field_front-8)
+has_text (Field w k) (inr (inl e), h) = subst (λ v. HasText (Field v k)) (sym e) (ap (λ f. f ++ signed_decimal k) field_front-16)
+has_text (Field w k) (inr (inr e), h) = subst (λ v. HasText (Field v k)) (sym e) (ap (λ f. f ++ signed_decimal k) field_front-32)
 
 kind_at : ℕ → Kind
 kind_at n = cond (nat_eq n 0) OfArgument (cond (nat_eq n 1) OfStack (cond (nat_eq n 2) OfLoad (cond (nat_eq n 3) OfResult (cond (nat_eq n 4) OfHalf (cond (nat_eq n 5) OfWord (cond (nat_eq n 6) OfByte OfStore))))))

@@ -11,7 +11,8 @@ use Rattle.rt_lines.specs.Words.{IsLabel}
 use Rattle.rt_lines.specs.Equality.{label_eq}
 use Rattle.rt_lines.proofs.Equal.{label_equal}
 use Rattle.rt_lines.specs.declared.label.Label.{Label}
-use Rattle.rt_tree.specs.Labels.{label_text, label_cmp}
+use Rattle.rt_texts.specs.Texts.{label_text}
+use Rattle.rt_tree.specs.Labels.{label_cmp}
 use Rattle.rt_tree.specs.Trees.{with_edge, place_in, AreOrdered, IsEdge, AreEdges}
 use Rattle.rt_tree.proofs.Comparing.{not_less_itself, one_label}
 use Rattle.rt_lines.proofs.Same.{label_self}

@@ -1,5 +1,5 @@
 -- The rows of closed arcs, and what they say of ways.
-use Rattle.std.proofs.Common.{ℕ, ◌<◌, ◌≤◌, ◌⊎◌, inl, inr, List, [], Contains, length, sym, subst, arith}
+use Rattle.std.proofs.Common.{ℕ, ◌<◌, inl, inr, List, [], Contains, length, sym, subst}
 use Rattle.std.proofs.lemmas.List.{get_or_past}
 use Rattle.rt_base.proofs.Lists.{Contains-none}
 use Rattle.rt_lines.specs.declared.line.Line.{Line}

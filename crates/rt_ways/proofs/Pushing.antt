@@ -7,9 +7,6 @@ use Rattle.rt_lines.specs.declared.label.Label.{Label}
 use Rattle.rt_lines.specs.declared.label.Variance.TheVariants.{Co, Contra}
 use Rattle.rt_lines.specs.declared.variable.Base.{Base}
 use Rattle.rt_lines.specs.declared.variable.Dtv.{Dtv}
-use Rattle.rt_rules.specs.Rules.{longer}
-use Rattle.rt_bridge.specs.Growing.{at, dot, dv, vd}
-use Rattle.rt_bridge.proofs.Growing.{dv-vd, vd-longer}
 use Rattle.rt_ways.specs.Arcs.{IsInRow}
 use Rattle.rt_ways.specs.Pushes.{AreDistinct, AreSteps, IsClosed, IsClosedAt, IsGrown, IsMade, IsNoted, IsPair, IsPushed, step_of, variable_at}
 use Rattle.rt_ways.specs.Pushes.IsPushed.{co, contra}

@@ -1,5 +1,5 @@
 -- Arcs between numbers, and what they lead to.
-use Rattle.std.specs.Prelude.{◌≡◌, ℕ, ◌<◌, ◌⊎◌, List, [], ◌++◌, Contains, length, slice_index_or}
+use Rattle.std.specs.Prelude.{◌≡◌, ℕ, ◌<◌, ◌⊎◌, List, [], Contains, length, slice_index_or}
 use Rattle.rt_components.specs.Groups.{Reaches}
 
 -- the second number is in the row of the first
@@ -9,13 +9,6 @@ IsInRow rows v w = Contains (slice_index_or rows v []) w
 -- the numbers are all that is reached from one
 abbrev pub IsReached : (ℕ → ℕ → Type 0) → ℕ → List ℕ → Type 0
 IsReached Edge v found = (w : ℕ) → (Contains found w → Reaches Edge v w) × (Reaches Edge v w → Contains found w)
-
--- to those that were found, all of which something holds are added behind
-pub record IsLeft (P : ℕ → Type 0) (old new : List ℕ) : Type 0 where
-  pub more : List ℕ
-  pub kept : new ≡ old ++ more
-  pub all : (w : ℕ) → P w → Contains new w
-  pub only : (w : ℕ) → Contains new w → Contains old w ⊎ P w
 
 -- all that is reached from those that were found is found
 pub record IsSpread (Edge : ℕ → ℕ → Type 0) (old new : List ℕ) : Type 0 where

@@ -1,6 +1,6 @@
 // The first arcs: of lines, and between what can be exchanged.
 ghost use Rattle.std.specs.Prelude.{◌≡◌, ◌↔◌, ◌∷◌, ◌+◌, ℕ, ◌<◌, [], Contains};
-ghost use Rattle.std.specs.Prelude.{IsTrue, Some, IfOk, OnOk, MatchOption, length, slice_get, slice_index_or};
+ghost use Rattle.std.specs.Prelude.{IsTrue, IfOk, OnOk, MatchOption, length, slice_index_or};
 ghost use Rattle.rt_lines.specs.declared.line.Line.{Line as Given};
 ghost use Rattle.rt_lines.specs.declared.variable.Dtv.{Dtv as Variable};
 ghost use Rattle.rt_rules.specs.Rules.{HasSide};
@@ -13,7 +13,7 @@ ghost use Rattle.rt_ways.specs.Pushes.{AreDistinct};
 use crate::closing::{add, step};
 use crate::frame::Frame;
 use rt_base::{Memory, Sequence};
-use rt_lines::{Dtv, Label, Line};
+use rt_lines::{Label, Line};
 use rt_named::{Named, Origin};
 use std::alloc::Global;
 
@@ -67,23 +67,12 @@ fn enter_line(named: &Named, line: &Line, arcs: &mut Vec<Sequence<u32>>) -> Resu
 {
     match line {
         Line::Sub(x, y) => {
-            let from = number(named, x);
-            let to = number(named, y);
+            let from = named.number(x);
+            let to = named.number(y);
             add(arcs, from, to)?;
             Ok(())
         }
         _ => Ok(()),
-    }
-}
-
-// The number of a named variable.
-pub(crate) fn number(named: &Named, x: &Dtv) -> u32
-    requires { Contains named.now x.now }
-    ensures { slice_get named.now result ≡ Some x.now }
-{
-    match named.index(x) {
-        Some(number) => number,
-        None => unreachable!(),
     }
 }
 

@@ -4,12 +4,11 @@ ghost use Rattle.rt_ways.specs.Arcs.{AreMore, AreWithin, IsAdded, IsInRow};
 ghost use Rattle.rt_ways.specs.Pushes.{AreClosure, AreDistinct, AreSteps, IsClosed, IsClosedAt};
 ghost use Rattle.rt_ways.specs.Pushes.{IsGrown, IsNoted, IsPair, IsPushed, step_of};
 
-use crate::numbers::Numbers;
 use crate::spreading::rows_of;
 use indexmap::IndexMap;
 use rt_base::{Memory, Sequence};
 use rt_lines::{Label, Variance};
-use rt_named::{Named, Origin};
+use rt_named::{Named, Numbers, Origin};
 use std::alloc::{AllocError, Global};
 
 // More passes than can be made.

@@ -6,10 +6,8 @@ mod arcs;
 mod closing;
 mod frame;
 mod nodes;
-mod numbers;
 mod spreading;
 mod turning;
 mod ways;
 
-pub use numbers::Numbers;
 pub use ways::Ways;

@@ -1,9 +1,10 @@
 // What arcs lead to.
 ghost use Rattle.std.specs.Prelude.{◌≡◌, ◌<◌, ℕ, [], Contains, IfOk, OnOk, length, slice_index_or};
-ghost use Rattle.rt_ways.specs.Arcs.{AreRows, IsInRow, IsLeft, IsReached, IsSpread};
+ghost use Rattle.rt_named.specs.Numbers.{IsLeft};
+ghost use Rattle.rt_ways.specs.Arcs.{AreRows, IsInRow, IsReached, IsSpread};
 
-use crate::numbers::Numbers;
 use rt_base::{Memory, Sequence};
+use rt_named::Numbers;
 use std::alloc::{AllocError, Global};
 
 // No fewer than there are numbers of variables.

@@ -4,8 +4,8 @@ ghost use Rattle.rt_ways.specs.Arcs.{AreMore, AreTurned, IsInRow};
 
 use crate::arcs::empty_rows;
 use crate::closing::{add, row};
-use crate::numbers::Numbers;
 use rt_base::{Memory, Sequence};
+use rt_named::Numbers;
 use std::alloc::Global;
 
 // For each number those in whose rows it is.

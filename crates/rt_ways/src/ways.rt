@@ -6,13 +6,12 @@ ghost use Rattle.rt_ways.specs.Pushes.{step_of};
 use crate::arcs::{arcs_of, entry};
 use crate::closing::{close, row as found_row, step};
 use crate::frame::Frame;
-use crate::numbers::Numbers;
 use crate::spreading::row;
 use crate::turning::turned;
 use indexmap::IndexMap;
 use rt_base::{Memory, Sequence};
 use rt_lines::{Label, Line};
-use rt_named::Named;
+use rt_named::{Named, Numbers};
 use std::alloc::Global;
 use std::marker::Model;
 

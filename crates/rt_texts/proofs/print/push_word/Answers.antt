@@ -3,4 +3,4 @@ use Rattle.rt_texts.proofs.print.push_word.Goals as goal
 
 pub loop-label-preserved : goal.loop-label-preserved
 loop-label-preserved c =
-    word_text-step _ _ _ _ _ _ _ c.in_ok-push_label.ensures c.in_ok-push.ensures.items c.loop-label.invariant c.loop-label-test.true
+    word_text-step _ _ _ _ _ _ _ c.in_ok-print_label.ensures c.in_ok-push.ensures.items c.loop-label.invariant c.loop-label-test.true

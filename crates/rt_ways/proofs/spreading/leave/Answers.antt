@@ -1,5 +1,5 @@
 use Rattle.std.proofs.Common.{subst, Contains}
-use Rattle.rt_ways.specs.Arcs.{IsLeft}
+use Rattle.rt_named.specs.Numbers.{IsLeft}
 use Rattle.rt_ways.proofs.spreading.leave.Goals as goal
 
 pub returns : goal.returns

@@ -1,5 +1,6 @@
 use Rattle.std.proofs.Common.{◌≡◌, ℕ, subst}
-use Rattle.rt_ways.specs.Arcs.{IsLeft, IsInRow}
+use Rattle.rt_named.specs.Numbers.{IsLeft}
+use Rattle.rt_ways.specs.Arcs.{IsInRow}
 use Rattle.rt_ways.proofs.Following.{reached_from}
 use Rattle.rt_ways.proofs.spreading.reached.Goals as goal
 

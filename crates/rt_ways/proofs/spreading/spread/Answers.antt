@@ -1,6 +1,7 @@
 use Rattle.std.proofs.Common.{◌∙◌, sym, subst}
 use Rattle.std.proofs.lemmas.Option.{get_or_from_slice_get, slice_get_within}
-use Rattle.rt_ways.specs.Arcs.{IsInRow, IsLeft}
+use Rattle.rt_named.specs.Numbers.{IsLeft}
+use Rattle.rt_ways.specs.Arcs.{IsInRow}
 use Rattle.rt_ways.proofs.Following.{spreading_first, spreading_next, spreading_whole}
 use Rattle.rt_ways.proofs.spreading.spread.Goals as goal
 use Rattle.rt_base.proofs.Lists.{past_end}

@@ -1,5 +1,5 @@
 use Rattle.std.proofs.Common.{[], take}
-use Rattle.rt_ways.specs.Arcs.{IsLeft}
+use Rattle.rt_named.specs.Numbers.{IsLeft}
 use Rattle.rt_sketch.specs.Steps.{IsLed, rows_of}
 use Rattle.rt_sketch.proofs.machine.Machine.led.Given as goal
 

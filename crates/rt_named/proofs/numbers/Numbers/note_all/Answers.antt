@@ -1,6 +1,6 @@
 use Rattle.std.proofs.Common.{refl}
-use Rattle.rt_ways.proofs.Following.{rows_first, rows_next, rows_whole}
-use Rattle.rt_ways.proofs.numbers.Numbers.note_all.Goals as goal
+use Rattle.rt_named.proofs.Noting.{rows_first, rows_next, rows_whole}
+use Rattle.rt_named.proofs.numbers.Numbers.note_all.Goals as goal
 
 pub loop-number-init : goal.loop-number-init
 loop-number-init c = rows_first c.args.numbers.now c.args.self.now

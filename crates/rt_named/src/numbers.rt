@@ -1,6 +1,6 @@
 // Numbers, each once.
 ghost use Rattle.std.specs.Prelude.{◌≡◌, ℕ, [], Contains, IsTrue, ◌↔◌, OnOk, length, slice_get};
-ghost use Rattle.rt_ways.specs.Arcs.{IsLeft};
+ghost use Rattle.rt_named.specs.Numbers.{IsLeft};
 
 use indexmap::IndexSet;
 use rt_base::Memory;

@@ -1,7 +1,7 @@
 use Rattle.std.proofs.Common.{◌≡◌, ℕ, subst}
-use Rattle.rt_ways.specs.Arcs.{IsLeft}
-use Rattle.rt_ways.proofs.Following.{left_note}
-use Rattle.rt_ways.proofs.numbers.Numbers.note.Goals as goal
+use Rattle.rt_named.specs.Numbers.{IsLeft}
+use Rattle.rt_named.proofs.Noting.{left_note}
+use Rattle.rt_named.proofs.numbers.Numbers.note.Goals as goal
 
 pub returns : goal.returns
 returns c =

@@ -1,5 +1,5 @@
 use Rattle.std.proofs.Common.{◌∙◌, sym, subst, Contains}
-use Rattle.rt_ways.proofs.numbers.Numbers.has.Goals as goal
+use Rattle.rt_named.proofs.numbers.Numbers.has.Goals as goal
 use Rattle.rt_base.proofs.Lists.{found_from, found_to}
 
 pub returns : goal.returns
