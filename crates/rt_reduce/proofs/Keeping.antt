@@ -1,11 +1,12 @@
 -- What a round keeps: sides of schemes, and constants below a count.
-use Rattle.std.proofs.Common.{◌≡◌, ℕ, ◌⊎◌, inl, inr, List, ◌∷◌, ◌++◌, All, Contains, map, Bool, true, false, cond, sym, ap, subst, ◌∙◌}
+use Rattle.std.proofs.Common.{◌≡◌, ℕ, ◌⊎◌, inl, inr, List, ◌∷◌, ◌++◌, All, Contains, map, Bool, true, false, cond, ◌||◌}
+use Rattle.std.proofs.Common.{sym, subst}
 use Rattle.std.proofs.lemmas.List.Elements.{All-contains, Contains-append_cases}
 use Rattle.rt_base.proofs.Lists.{All-from_contains, Contains-map_source, Contains-wider, Contains-middle_cases}
 use Rattle.rt_lines.specs.declared.variable.Base.TheVariants.{Exist}
 use Rattle.rt_lines.specs.declared.variable.Dtv.{Dtv}
 use Rattle.rt_lines.specs.declared.line.Line.{Line}
-use Rattle.rt_lines.specs.declared.line.Line.TheVariants.{Var, Same}
+use Rattle.rt_lines.specs.declared.line.Line.TheVariants.{Var, Same, Sub, Low, Up}
 use Rattle.rt_lines.specs.Equality.{variable_eq}
 use Rattle.rt_lines.specs.Lines.{HasConstantsBelow}
 use Rattle.rt_lines.specs.Orders.{Below}
@@ -13,17 +14,19 @@ use Rattle.rt_lines.proofs.LineSides.{HasConstantsBelow-map_line}
 use Rattle.rt_rules.specs.Alike.{map_line}
 use Rattle.rt_rules.specs.Laws.{NamesBase}
 use Rattle.rt_rules.specs.Put.{put_lines, use_of}
-use Rattle.rt_refine.specs.Refinements.{move, IsCoarsest, refined}
+use Rattle.rt_refine.specs.Refinements.{move, refined}
+use Rattle.rt_trim.specs.Idle.{is_idle, trimmed, trimmed_line}
 use Rattle.rt_polar.specs.Puts.{Exchanges, Puts}
 use Rattle.rt_polar.specs.Puts.Exchanges.{goes, exists_still}
 use Rattle.rt_polar.specs.Puts.Puts.{none_left, puts}
 use Rattle.rt_polar.specs.Tidied.{tidied}
 use Rattle.rt_reduction.specs.Emits.{flow_lines, first_side, AreOfScheme, IsAnchored, IsEmitted, IsShapeLine}
 use Rattle.rt_reduction.specs.Simplifies.{Simplifies, simple, twins_go}
-use Rattle.rt_reduction.specs.Rounds.{Refines}
+use Rattle.rt_reduction.specs.Rounds.{Prepares, prepared, Refines, trims}
 use Rattle.rt_reduction.proofs.Anchoring.{keep_source}
 use Rattle.rt_reduction.proofs.Flow.{flow_source}
-use Rattle.rt_reduction.proofs.FromSides.{from_chain, from_classes, from_put, from_scheme, from_self, from_simple, from_tidied}
+use Rattle.rt_reduction.proofs.FromSides.{from_chain, from_put, from_scheme, from_self, from_tidied}
+use Rattle.rt_reduction.proofs.Prepared.{from_prepares}
 use Rattle.rt_reduction.proofs.Simplifying.{twinned_lines}
 use Rattle.rt_reduce.specs.Merging.{IsSide}
 use Rattle.rt_reduce.proofs.Falling.{put-below, tidied-below}
@@ -35,27 +38,12 @@ put_scheme lines n z side h =
     (from_chain lines (put_lines n z lines) (tidied (put_lines n z lines)) (from_put lines lines n z side (from_self lines))
     (from_tidied (put_lines n z lines))) h
 
--- the least existential of each class in the place of the others
-abbrev pub IsLeast : List Line → List Line → Type 0
-IsLeast lines least = (class : ℕ → ℕ) × IsCoarsest lines class × (least ≡ refined class lines)
-
-pub least_of : (lines start read least : List Line) → start ≡ tidied lines → read ≡ start → IsLeast read least →
-    IsLeast (tidied lines) least
-least_of lines start read least e f is = subst (λ ls. IsLeast ls least) (f ∙ e) is
-
-pub least_scheme : (lines least : List Line) → IsLeast (tidied lines) least → AreOfScheme lines → AreOfScheme least
-least_scheme lines least (class, c, e) h =
-    subst AreOfScheme (sym e)
-    (from_scheme lines (refined class (tidied lines))
-    (from_chain lines (tidied lines) (refined class (tidied lines)) (from_tidied lines) (from_classes (tidied lines) class)) h)
-
--- tidied, it is the first stage of a round
-pub least_refines : (lines least : List Line) → IsLeast lines least → Refines lines (tidied least)
-least_refines lines least (class, c, e) = (class, c, ap tidied e)
-
-pub simple_scheme : (lines left : List Line) → Simplifies left (tidied lines) → AreOfScheme lines → AreOfScheme left
-simple_scheme lines left s h =
-    from_scheme lines left (from_chain lines (tidied lines) left (from_tidied lines) (from_simple left (tidied lines) s)) h
+-- what is prepared of tidied lines
+pub prepared_scheme : (lines start left : List Line) → start ≡ tidied lines → Prepares left start → AreOfScheme lines → AreOfScheme left
+prepared_scheme lines start left e p h =
+    from_scheme lines left
+    (from_chain lines (tidied lines) left (from_tidied lines)
+    (from_prepares left (tidied lines) (subst (Prepares left) e p))) h
 
 pub fewer_scheme : (lines after : List Line) → ((l : Line) → Contains after l → Contains lines l) → AreOfScheme lines → AreOfScheme after
 fewer_scheme lines after stood h = λ l x c side. h l x (stood l c) side
@@ -108,12 +96,47 @@ module _ (count : ℕ) where
       simplified_below left (twinned_lines class between) rest
       (tidied-below count (refined class between) (mapped_below (move class) between (puts_below between start p h)))
 
-  pub least_below : (lines least : List Line) → IsLeast (tidied lines) least → Are lines → Are least
-  least_below lines least (class, c, e) h =
-      subst Are (sym e) (mapped_below (move class) (tidied lines) (tidied-below count lines h))
+  trimmed_below : (idle : ℕ → Bool) (l : Line) → HasConstantsBelow count l → HasConstantsBelow count (trimmed_line idle l)
+  trimmed_below idle (Var x) h = h
+  trimmed_below idle (Same x y) h = h
+  trimmed_below idle (Sub x y) h = by (is_idle idle x.base || is_idle idle y.base)
+    where
+      by : (t : Bool) → HasConstantsBelow count (cond t (Same x y) (Sub x y))
+      by true = tt
+      by false = tt
+  trimmed_below idle (Low k x) h = by (is_idle idle x.base)
+    where
+      by : (t : Bool) → HasConstantsBelow count (cond t (Var x) (Low k x))
+      by true = tt
+      by false = h
+  trimmed_below idle (Up x k) h = by (is_idle idle x.base)
+    where
+      by : (t : Bool) → HasConstantsBelow count (cond t (Var x) (Up x k))
+      by true = tt
+      by false = h
 
-  pub simple_below : (lines left : List Line) → Simplifies left (tidied lines) → Are lines → Are left
-  simple_below lines left s h = simplified_below left (tidied lines) s (tidied-below count lines h)
+  all_trimmed_below : (idle : ℕ → Bool) (lines : List Line) → Are lines → Are (trimmed idle lines)
+  all_trimmed_below idle lines h =
+      All-from_contains (HasConstantsBelow count) (trimmed idle lines) (λ l c. by l (Contains-map_source (trimmed_line idle) lines l c))
+    where
+      by : (l : Line) → (k : Line) × Contains lines k × (trimmed_line idle k ≡ l) → HasConstantsBelow count l
+      by l (k, c, e) =
+          subst (HasConstantsBelow count) e (trimmed_below idle k (All-contains (HasConstantsBelow count) lines k h c))
+
+  refined_below : (lines left : List Line) → Refines lines left → Are lines → Are left
+  refined_below lines left (class, c, e) h =
+      subst Are (sym e) (tidied-below count (refined class lines) (mapped_below (move class) lines h))
+
+  all_prepared_below : (left start : List Line) → Prepares left start → Are start → Are left
+  all_prepared_below left start (prepared _ between idle r s is none) h =
+      simplified_below left between s (refined_below start between r h)
+  all_prepared_below left start (trims _ between now idle r s is some rest) h =
+      all_prepared_below left (tidied (trimmed idle now)) rest
+      (tidied-below count (trimmed idle now) (all_trimmed_below idle now (simplified_below now between s (refined_below start between r h))))
+
+  pub prepared_below : (lines start left : List Line) → start ≡ tidied lines → Prepares left start → Are lines → Are left
+  prepared_below lines start left e p h =
+      all_prepared_below left (tidied lines) (subst (Prepares left) e p) (tidied-below count lines h)
 
   shape_below : (x y : Dtv) (t : Bool) → HasConstantsBelow count (cond t (Var x) (Same x y))
   shape_below x y true = tt

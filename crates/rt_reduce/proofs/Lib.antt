@@ -8,6 +8,7 @@ pub mod Joined
 pub mod Leftover
 pub mod Between
 pub mod Flags
+pub mod Holes
 pub mod Telling
 pub mod Bounding
 pub mod Numbering

@@ -11,7 +11,6 @@ use Rattle.rt_lines.specs.Equality.{variable_eq}
 use Rattle.rt_lines.specs.Lines.{HasConstantsBelow}
 use Rattle.rt_lines.specs.Orders.{Below, IsAtOrBelow}
 use Rattle.rt_lines.specs.OrderFacts.{IsOrder}
-use Rattle.rt_lines.specs.contracts.label.LabelEq.TheImpl.Laws as label_laws
 use Rattle.rt_lines.proofs.Equal.{variable_equal}
 use Rattle.rt_rules.specs.Rules.{HasSide, Derivable}
 use Rattle.rt_rules.specs.Rules.Derivable.{named, sub_self}

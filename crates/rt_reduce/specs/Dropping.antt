@@ -4,6 +4,8 @@ use Rattle.std.specs.List.{remove}
 use Rattle.rt_lines.specs.declared.line.Line.{Line}
 use Rattle.rt_lines.specs.Orders.{Below}
 use Rattle.rt_rules.specs.Rules.{Derivable}
+use Rattle.rt_witness.specs.declared.witnesses.Witnesses.{Witnesses as Witnessed}
+use Rattle.rt_witness.specs.Witnesses.{IsLeft, IsWitnesses}
 
 -- the lines are the same, or the one at the place is gone
 abbrev pub IsKeptOrGone : List Line → ℕ → List Line → Type 0
@@ -14,6 +16,12 @@ abbrev pub Decides : Below → List Line → ℕ → List Line → Type 0
 Decides order lines place left =
     (l : Line) → l ≡ slice_index_or lines place l →
     (Derivable order (remove lines place) l × (left ≡ remove lines place)) ⊎ ((Derivable order (remove lines place) l → ⊥) × (left ≡ lines))
+
+-- the line follows from those that stand without it, and its flag is cleared
+pub record IsSpared (witnesses : Witnessed) (stands : List Bool) (line : Line) (place : ℕ) (flags : List Bool) : Type 0 where
+  pub cleared : flags ≡ slice_set stands place false
+  pub derived : (order : Below) (lines left : List Line) → IsWitnesses lines witnesses → IsLeft lines (slice_set stands place false) left →
+      Derivable order left line
 
 -- the line at the place is gone and its flag cleared, or the line is there, its flag set
 abbrev pub IsMoved : List Line → List Bool → ℕ → List Line → List Bool → Type 0

@@ -5,15 +5,12 @@ use Rattle.rt_lines.specs.declared.line.Line.{Line}
 use Rattle.rt_lines.specs.Orders.{Below}
 use Rattle.rt_rules.specs.Laws.{NamesBase}
 use Rattle.rt_reduction.specs.Emits.{IsEmitted}
-use Rattle.rt_reduction.specs.Simplifies.{Simplifies}
-use Rattle.rt_reduction.specs.Rounds.{Refines}
+use Rattle.rt_reduction.specs.Rounds.{Prepares}
 
 -- a round whose shape is written anew; the lines after it name no other existentials
 pub record IsBegun (lines after : List Line) : Type 0 where
-  pub refined : List Line
   pub simple : List Line
   pub emitted : List Line
-  pub is_refined : Refines lines refined
-  pub is_simple : Simplifies simple refined
+  pub is_simple : Prepares simple lines
   pub is_emitted : (order : Below) → IsEmitted order simple emitted
   pub named : (n : ℕ) → NamesBase after (Exist n) → NamesBase emitted (Exist n)

@@ -155,6 +155,20 @@ pub(crate) fn is_missing(witnesses: &Witnesses, stands: &[bool], line: &Line) ->
     }
 }
 
+// Whether the line says that a variable is there, and a line that stands names it.
+pub(crate) fn is_spare(witnesses: &Witnesses, stands: &[bool], line: &Line) -> bool
+    ensures { result ≡ true → (order : Below) (lines left : List Given) → IsWitnesses lines witnesses.now → IsLeft lines stands.now left →
+        Derivable order left line.now }
+{
+    let Line::Var(x) = line else {
+        return false;
+    };
+    match told_named(witnesses, stands, x) {
+        Led::Yes => true,
+        Led::No | Led::Open => false,
+    }
+}
+
 // Whether the variable exists, as far as the lines that stand tell which name it, and which name one of its shape.
 pub(crate) fn told_named(witnesses: &Witnesses, stands: &[bool], x: &Dtv) -> Led
     ensures { (order : Below) (lines left : List Given) → IsWitnesses lines witnesses.now → IsLeft lines stands.now left →

@@ -1,5 +1,7 @@
 // Lines that others derive, dropped from the end.
-ghost use Rattle.std.specs.Prelude.{◌≡◌, ◌+◌, ◌<◌, ◌≤◌, ◌↔◌, [], List, All, Contains, IsTrue, OnOk, IfOk, IfSome, length, take};
+ghost use Rattle.std.specs.Prelude.{◌≡◌, ◌+◌, ◌<◌, ◌≤◌, ◌↔◌, [], List, All, Contains, IsTrue, true, false, OnOk, IfOk, IfSome};
+ghost use Rattle.std.specs.Prelude.{MatchBool, length, slice_index_or, take};
+ghost use Rattle.std.specs.List.{remove_range};
 ghost use Rattle.rt_lines.specs.declared.line.Line.{Line as Given};
 ghost use Rattle.rt_lines.specs.Lines.{HasConstantsBelow};
 ghost use Rattle.rt_shape.specs.Shapes.{IsShapeOf};
@@ -7,10 +9,10 @@ ghost use Rattle.rt_reduction.specs.Drops.{Drops};
 ghost use Rattle.rt_reduction.specs.Emits.{is_flow as is_flow_line};
 ghost use Rattle.rt_witness.specs.Witnesses.{IsWitnesses};
 ghost use Rattle.rt_reduce.specs.Deciding.{AreStanding, AreWitnessed, IsInnerFor, IsLowerWith, IsOwnOuter, IsShapeAmong};
-ghost use Rattle.rt_reduce.specs.Dropping.{Decides, IsKeptOrGone, IsMoved};
+ghost use Rattle.rt_reduce.specs.Dropping.{Decides, IsKeptOrGone, IsMoved, IsSpared};
 
 use crate::copying::copies;
-use crate::deciding::{is_derivable, is_missing};
+use crate::deciding::{is_derivable, is_missing, is_spare};
 use rt_base::{Memory, Sequence};
 use rt_lines::{Line, Lines, Order};
 use rt_outline::{Lower, Upper};
@@ -94,10 +96,12 @@ fn drop_each(
     let mut stands = vec![in alloc; true; lines.len()]?;
     let mut left = copies(alloc, lines)?;
     let mut place = left.len();
+    // The lines from the place to this one went, and weren't taken out yet.
+    let mut next = place;
     while place > 0 {
         place -= 1;
         let told = front_at(front, count, place);
-        drop_at(
+        next = drop_before(
             alloc,
             outer,
             inner,
@@ -107,8 +111,10 @@ fn drop_each(
             &mut left,
             order,
             place,
+            next,
         )?;
     }
+    take_out(&mut left, place, next);
     Ok(Sequence::from_vec(left))
 }
 
@@ -191,6 +197,70 @@ fn is_flow(line: &Line) -> bool
         Line::Var(_) | Line::Same(_, _) => false,
         Line::Sub(_, _) | Line::Low(_, _) | Line::Up(_, _) => true,
     }
+}
+
+// Lets the line at the place go, if the others but for those behind it and before the next one derive it. One of which the
+// lines that name which variables tell that it goes isn't taken out yet. The place from which on lines that went weren't
+// taken out ends at the result.
+fn drop_before(
+    alloc: Global,
+    outer: Option<&Upper>,
+    inner: Option<&Lower>,
+    front: Option<&Shape>,
+    witnesses: &Witnesses,
+    stands: &mut Vec<bool>,
+    left: &mut Vec<Line>,
+    order: &Order,
+    place: usize,
+    next: usize,
+) -> Result<usize, Memory>
+    requires within { place < next × (next ≤ length left.old.items) }
+    requires flags { place < length stands.old.items }
+    requires constants { All (HasConstantsBelow order.now.count) (remove_range left.old.items (place + 1) next) }
+    requires standing { IfSome outer (λ t. AreStanding (remove_range left.old.items (place + 1) next) stands.old.items (place + 1) t.now) }
+    requires inner { IfSome inner (λ t. IsInnerFor order.now (remove_range left.old.items (place + 1) next) t.now) }
+    requires front { IfSome front (λ s. IsShapeAmong (take place (remove_range left.old.items (place + 1) next)) s.now) }
+    requires witnesses { (lines : List Given) × IsWitnesses lines witnesses.now
+        × AreWitnessed lines (remove_range left.old.items (place + 1) next) stands.old.items (place + 1) }
+    ensures within { IfOk result (λ end. place ≤ end × (end ≤ length left.new.items)) }
+    ensures lines { IfOk result (λ end. IsKeptOrGone (remove_range left.old.items (place + 1) next) place
+        (remove_range left.new.items place end)) }
+    ensures decides { IfOk result (λ end. Decides order.now (remove_range left.old.items (place + 1) next) place
+        (remove_range left.new.items place end)) }
+    ensures moved { IfOk result (λ end. IsMoved (remove_range left.old.items (place + 1) next) stands.old.items place
+        (remove_range left.new.items place end) stands.new.items) }
+{
+    if goes(witnesses, stands, &left[place], place) {
+        return Ok(next);
+    }
+    take_out(left, place + 1, next);
+    drop_at(
+        alloc, outer, inner, front, witnesses, stands, left, order, place,
+    )?;
+    Ok(place)
+}
+
+// Takes out the lines from one place up to another.
+fn take_out(left: &mut Vec<Line>, from: usize, to: usize)
+    requires { from ≤ to × (to ≤ length left.old.items) }
+    ensures { left.new.items ≡ remove_range left.old.items from to }
+{
+    left.drain(from..to);
+}
+
+// Whether the line at the place says that a variable is there which another line that stands names. If so its flag is cleared.
+fn goes(witnesses: &Witnesses, stands: &mut Vec<bool>, line: &Line, place: usize) -> bool
+    requires within { place < length stands.old.items }
+    requires stood { slice_index_or stands.old.items place false ≡ true }
+    ensures { MatchBool result (IsSpared witnesses.now stands.old.items line.now place stands.new.items)
+        (stands.new.items ≡ stands.old.items) }
+{
+    stands[place] = false;
+    if is_spare(witnesses, stands, line) {
+        return true;
+    }
+    stands[place] = true;
+    false
 }
 
 // Takes out the line at the place, if the others derive it. A line that says that a variable is there isn't moved where which

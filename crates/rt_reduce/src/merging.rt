@@ -1,23 +1,6 @@
 // Existentials that equal sides of other bases give their places to them.
-ghost use Rattle.std.specs.Prelude.{
-  ◌≡◌,
-  ◌∷◌,
-  ◌++◌,
-  ◌↔◌,
-  [],
-  ℕ,
-  List,
-  All,
-  Contains,
-  IsTrue,
-  true,
-  false,
-  IfOk,
-  MatchOption,
-  OnOk,
-  length,
-  map,
-};
+ghost use Rattle.std.specs.Prelude.{◌≡◌, ◌∷◌, ◌++◌, ◌↔◌, [], ℕ, List, All, Contains};
+ghost use Rattle.std.specs.Prelude.{IsTrue, true, false, IfOk, MatchOption, OnOk, length, map};
 ghost use Rattle.std.specs.List.{flat_map};
 ghost use Rattle.std.specs.BTreeSet.{contains};
 ghost use Rattle.std.specs.Ordering.{nat_cmp};

@@ -12,13 +12,12 @@ use rt_base::Memory;
 use rt_emit::emit_shape;
 use rt_lines::{Lines, Order};
 use rt_polar::tidy;
-use rt_refine::refine;
-use rt_simplify::simplify;
+use rt_simplify::prepare;
 use std::alloc::Global;
 
 /// One round over the tidied lines: existentials that are used alike become the least of them, existentials give their
-/// places away and twins become one, the shape is written anew, existentials that equal a side give their places to it, and
-/// each line goes that the others derive. The error is want of memory.
+/// places away and twins become one, idle existentials keep no more than their shape, the shape is written anew, existentials
+/// that equal a side give their places to it, and each line goes that the others derive. The error is want of memory.
 pub fn round(alloc: Global, lines: Lines, order: &Order) -> Result<Lines, Memory>
     requires scheme { AreOfScheme lines }
     requires constants { All (HasConstantsBelow order.now.count) lines }
@@ -28,8 +27,7 @@ pub fn round(alloc: Global, lines: Lines, order: &Order) -> Result<Lines, Memory
     ensures constants { IfOk result (λ after. All (HasConstantsBelow order.now.count) after) }
 {
     let start = tidy(alloc, lines)?;
-    let least = refine(alloc, start.items())?;
-    let simple = simplify(alloc, least)?;
+    let simple = prepare(alloc, start)?;
     let emitted = emit_shape(alloc, simple.items())?;
     let merged = merge_equal(alloc, emitted.items(), order)?;
     let after = drop_derivable(alloc, merged.items(), order)?;

@@ -1,4 +1,5 @@
 use Rattle.std.proofs.Common.{◌≤◌, All, Contains, length}
+use Rattle.std.specs.List.{remove_range}
 use Rattle.std.specs.Option.{IfSome}
 use Rattle.rt_lines.specs.declared.line.Line.{Line}
 use Rattle.rt_lines.specs.Lines.{HasConstantsBelow}
@@ -8,15 +9,17 @@ use Rattle.rt_reduce.proofs.dropping.drop_each.Given as goal
 
 abbrev pub invariant-loop-place : goal.invariant-loop-place
 invariant-loop-place l = record {
-  within : l.place ≤ length l.left.items;
+  from : l.place ≤ l.next;
+  to : l.next ≤ length l.left.items;
+  within : l.place ≤ length (remove_range l.left.items l.place l.next);
   inside : l.place ≤ length l.lines;
-  constants : All (HasConstantsBelow l.order.count) l.left.items;
-  stood : (m : Line) → Contains l.left.items m → Contains l.lines m;
-  are_left : AreLeft l.order l.lines l.place l.left.items;
+  constants : All (HasConstantsBelow l.order.count) (remove_range l.left.items l.place l.next);
+  stood : (m : Line) → Contains (remove_range l.left.items l.place l.next) m → Contains l.lines m;
+  are_left : AreLeft l.order l.lines l.place (remove_range l.left.items l.place l.next);
   flags : l.place ≤ length l.stands.items;
-  standing : IfSome l.outer (λ t. AreStanding l.left.items l.stands.items l.place t.now);
-  witnessed : AreWitnessed l.lines l.left.items l.stands.items l.place;
-  inner : IfSome l.inner (λ t. IsInnerFor l.order l.left.items t.now);
+  standing : IfSome l.outer (λ t. AreStanding (remove_range l.left.items l.place l.next) l.stands.items l.place t.now);
+  witnessed : AreWitnessed l.lines (remove_range l.left.items l.place l.next) l.stands.items l.place;
+  inner : IfSome l.inner (λ t. IsInnerFor l.order (remove_range l.left.items l.place l.next) t.now);
 }
 
 abbrev pub decreases-loop-place : goal.decreases-loop-place

@@ -1,4 +1,4 @@
-use Rattle.std.proofs.Common.{◌≡◌, true, arith, sym, refl}
+use Rattle.std.proofs.Common.{◌≡◌, arith, sym, refl}
 use Rattle.rt_lines.specs.declared.variable.Dtv.{Dtv}
 use Rattle.rt_lines.proofs.Equal.{base_equal}
 use Rattle.rt_reduce.proofs.Compared.{base_itself}

@@ -3,9 +3,7 @@ use Rattle.rt_lines.specs.declared.variable.Base.TheVariants.{Exist}
 use Rattle.rt_lines.specs.declared.variable.Dtv.{Dtv}
 use Rattle.rt_lines.specs.declared.line.Line.{Line}
 use Rattle.rt_lines.specs.Lines.{HasConstantsBelow}
-use Rattle.rt_lines.specs.Sides.{sides}
 use Rattle.rt_rules.specs.Laws.{NamesBase}
-use Rattle.rt_named.specs.Naming.{named}
 use Rattle.rt_equals.specs.Comparing.{AreEquals, Lined}
 use Rattle.rt_reduction.specs.Emits.{AreOfScheme}
 use Rattle.rt_reduction.specs.Merges.{HasEqual, Merges}

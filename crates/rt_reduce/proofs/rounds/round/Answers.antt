@@ -3,92 +3,70 @@ use Rattle.rt_lines.specs.declared.variable.Base.TheVariants.{Exist}
 use Rattle.rt_lines.specs.declared.line.Line.{Line}
 use Rattle.rt_lines.specs.Lines.{HasConstantsBelow}
 use Rattle.rt_rules.specs.Laws.{NamesBase}
-use Rattle.rt_polar.specs.Tidied.{tidied}
 use Rattle.rt_reduction.specs.Drops.{Drops}
 use Rattle.rt_reduction.specs.Emits.{AreOfScheme, IsEmitted}
 use Rattle.rt_reduction.specs.Merges.{Merges}
+use Rattle.rt_reduction.specs.Rounds.{Prepares}
 use Rattle.rt_reduction.proofs.Emitting.{emits_of_scheme_lem}
 use Rattle.rt_simplify.proofs.Staying.{tidied_twice_lem}
-use Rattle.rt_reduce.proofs.Keeping.{IsLeast, least_of, least_scheme, least_refines, least_below}
-use Rattle.rt_reduce.proofs.Keeping.{emitted_below, fewer_below, fewer_named, fewer_scheme, simple_below, simple_scheme}
+use Rattle.rt_reduce.proofs.Keeping.{emitted_below, fewer_below, fewer_named, fewer_scheme, prepared_below, prepared_scheme}
 use Rattle.rt_reduce.proofs.rounds.round.Goals as goal
 
 pub emit_shape-requires : goal.emit_shape-requires
-emit_shape-requires c =
-    let is : IsLeast (tidied c.args.lines) c.in_ok-least.least =
-    least_of c.args.lines c.in_ok-start.start c.items.result.now c.in_ok-least.least c.in_ok-start.ensures c.items.ensures
-    c.in_ok-least.ensures in
-    record {
-      scheme = subst AreOfScheme (sym c.items-2.ensures)
-          (simple_scheme c.in_ok-least.least c.in_ok-simple.simple c.in_ok-simple.ensures
-          (least_scheme c.args.lines c.in_ok-least.least is c.requires.scheme));
-    }
+emit_shape-requires c = record {
+  scheme = subst AreOfScheme (sym c.items.ensures)
+      (prepared_scheme c.args.lines c.in_ok-start.start c.in_ok-simple.simple c.in_ok-start.ensures c.in_ok-simple.ensures
+      c.requires.scheme);
+}
 
 pub merge_equal-requires : goal.merge_equal-requires
 merge_equal-requires c =
     let count = c.args.order.now.count in
-    let is : IsLeast (tidied c.args.lines) c.in_ok-least.least =
-    least_of c.args.lines c.in_ok-start.start c.items.result.now c.in_ok-least.least c.in_ok-start.ensures c.items.ensures
-    c.in_ok-least.ensures in
-    subst (All (HasConstantsBelow count)) (sym c.items-3.ensures)
-    (emitted_below count c.args.order.now c.items-2.result.now c.in_ok-emitted.emitted (c.in_ok-emitted.ensures c.args.order.now)
-    (subst (All (HasConstantsBelow count)) (sym c.items-2.ensures)
-    (simple_below count c.in_ok-least.least c.in_ok-simple.simple c.in_ok-simple.ensures
-    (least_below count c.args.lines c.in_ok-least.least is c.requires.constants))))
+    subst (All (HasConstantsBelow count)) (sym c.items-2.ensures)
+    (emitted_below count c.args.order.now c.items.result.now c.in_ok-emitted.emitted (c.in_ok-emitted.ensures c.args.order.now)
+    (subst (All (HasConstantsBelow count)) (sym c.items.ensures)
+    (prepared_below count c.args.lines c.in_ok-start.start c.in_ok-simple.simple c.in_ok-start.ensures c.in_ok-simple.ensures
+    c.requires.constants)))
 
 pub returns-clause-round : goal.returns-clause-round
 returns-clause-round c =
     let order = c.args.order.now in
-    let is : IsLeast (tidied c.args.lines) c.in_ok-least.least =
-    least_of c.args.lines c.in_ok-start.start c.items.result.now c.in_ok-least.least c.in_ok-start.ensures c.items.ensures
-    c.in_ok-least.ensures in
     record {
       is_tidied = tidied_twice_lem c.args.lines;
-      refined = tidied c.in_ok-least.least;
       simple = c.in_ok-simple.simple;
       emitted = c.in_ok-emitted.emitted;
       merged = c.in_ok-merged.merged;
-      is_refined = least_refines (tidied c.args.lines) c.in_ok-least.least is;
-      is_simple = c.in_ok-simple.ensures;
-      is_emitted = subst (λ (ls : List Line). IsEmitted order ls c.in_ok-emitted.emitted) c.items-2.ensures (c.in_ok-emitted.ensures order);
-      is_merged = subst (Merges order c.in_ok-merged.merged) c.items-3.ensures c.in_ok-merged.ensures.merges;
-      is_dropped = subst (λ (ls : List Line). Drops order [] ls c.in_ok-after.after) c.items-4.ensures c.in_ok-after.ensures.drops;
+      is_simple = subst (Prepares c.in_ok-simple.simple) c.in_ok-start.ensures c.in_ok-simple.ensures;
+      is_emitted = subst (λ (ls : List Line). IsEmitted order ls c.in_ok-emitted.emitted) c.items.ensures (c.in_ok-emitted.ensures order);
+      is_merged = subst (Merges order c.in_ok-merged.merged) c.items-2.ensures c.in_ok-merged.ensures.merges;
+      is_dropped = subst (λ (ls : List Line). Drops order [] ls c.in_ok-after.after) c.items-3.ensures c.in_ok-after.ensures.drops;
     }
 
 pub returns-clause-begun : goal.returns-clause-begun
-returns-clause-begun c =
-    let is : IsLeast (tidied c.args.lines) c.in_ok-least.least =
-    least_of c.args.lines c.in_ok-start.start c.items.result.now c.in_ok-least.least c.in_ok-start.ensures c.items.ensures
-    c.in_ok-least.ensures in
-    record {
-      refined = tidied c.in_ok-least.least;
-      simple = c.in_ok-simple.simple;
-      emitted = c.in_ok-emitted.emitted;
-      is_refined = least_refines (tidied c.args.lines) c.in_ok-least.least is;
-      is_simple = c.in_ok-simple.ensures;
-      is_emitted = λ order. subst (λ (ls : List Line). IsEmitted order ls c.in_ok-emitted.emitted) c.items-2.ensures
-          (c.in_ok-emitted.ensures order);
-      named = λ n h. subst (λ (ls : List Line). NamesBase ls (Exist n)) c.items-3.ensures
-          (c.in_ok-merged.ensures.named n (subst (λ (ls : List Line). NamesBase ls (Exist n)) c.items-4.ensures
-          (fewer_named c.items-4.result.now c.in_ok-after.after c.in_ok-after.ensures.stood n h)));
-    }
+returns-clause-begun c = record {
+  simple = c.in_ok-simple.simple;
+  emitted = c.in_ok-emitted.emitted;
+  is_simple = subst (Prepares c.in_ok-simple.simple) c.in_ok-start.ensures c.in_ok-simple.ensures;
+  is_emitted = λ order. subst (λ (ls : List Line). IsEmitted order ls c.in_ok-emitted.emitted) c.items.ensures
+      (c.in_ok-emitted.ensures order);
+  named = λ n h. subst (λ (ls : List Line). NamesBase ls (Exist n)) c.items-2.ensures
+      (c.in_ok-merged.ensures.named n (subst (λ (ls : List Line). NamesBase ls (Exist n)) c.items-3.ensures
+      (fewer_named c.items-3.result.now c.in_ok-after.after c.in_ok-after.ensures.stood n h)));
+}
 
 pub returns-clause-scheme : goal.returns-clause-scheme
 returns-clause-scheme c =
-    let is : IsLeast (tidied c.args.lines) c.in_ok-least.least =
-    least_of c.args.lines c.in_ok-start.start c.items.result.now c.in_ok-least.least c.in_ok-start.ensures c.items.ensures
-    c.in_ok-least.ensures in
-    let simple : AreOfScheme c.items-2.result.now = subst AreOfScheme (sym c.items-2.ensures)
-    (simple_scheme c.in_ok-least.least c.in_ok-simple.simple c.in_ok-simple.ensures
-    (least_scheme c.args.lines c.in_ok-least.least is c.requires.scheme)) in
-    let emitted : AreOfScheme c.items-3.result.now = subst AreOfScheme (sym c.items-3.ensures)
-    (emits_of_scheme_lem c.args.order.now c.items-2.result.now c.in_ok-emitted.emitted simple
+    let simple : AreOfScheme c.items.result.now = subst AreOfScheme (sym c.items.ensures)
+    (prepared_scheme c.args.lines c.in_ok-start.start c.in_ok-simple.simple c.in_ok-start.ensures c.in_ok-simple.ensures
+    c.requires.scheme) in
+    let emitted : AreOfScheme c.items-2.result.now = subst AreOfScheme (sym c.items-2.ensures)
+    (emits_of_scheme_lem c.args.order.now c.items.result.now c.in_ok-emitted.emitted simple
     (c.in_ok-emitted.ensures c.args.order.now)) in
-    fewer_scheme c.items-4.result.now c.in_ok-after.after c.in_ok-after.ensures.stood
-    (subst AreOfScheme (sym c.items-4.ensures) (c.in_ok-merged.ensures.scheme emitted))
+    fewer_scheme c.items-3.result.now c.in_ok-after.after c.in_ok-after.ensures.stood
+    (subst AreOfScheme (sym c.items-3.ensures) (c.in_ok-merged.ensures.scheme emitted))
 
 pub returns-clause-constants : goal.returns-clause-constants
 returns-clause-constants c =
     let count = c.args.order.now.count in
-    fewer_below count c.items-4.result.now c.in_ok-after.after c.in_ok-after.ensures.stood
-    (subst (All (HasConstantsBelow count)) (sym c.items-4.ensures) c.in_ok-merged.ensures.constants)
+    fewer_below count c.items-3.result.now c.in_ok-after.after c.in_ok-after.ensures.stood
+    (subst (All (HasConstantsBelow count)) (sym c.items-3.ensures) c.in_ok-merged.ensures.constants)

@@ -1,0 +1,42 @@
+use Rattle.std.proofs.Common.{◌≡◌, ◌+◌, ◌<◌, List, length, inl, inr, sym, subst, ◌∙◌, arith}
+use Rattle.std.specs.List.{remove, remove_range}
+use Rattle.std.proofs.lemmas.List.{get_or_default}
+use Rattle.rt_lines.specs.declared.line.Line.{Line}
+use Rattle.rt_rules.specs.Rules.{Derivable}
+use Rattle.rt_reduce.specs.Dropping.{Decides}
+use Rattle.rt_reduce.proofs.Flags.{left_gone}
+use Rattle.rt_reduce.proofs.Holes.{before_hole, hole_wider, no_hole}
+use Rattle.rt_reduce.proofs.dropping.drop_before.Goals as goal
+
+pub returns-then-goes-clause-lines : goal.returns-then-goes-clause-lines
+returns-then-goes-clause-lines c =
+    inr (hole_wider c.args.left.now.items c.args.place c.args.next c.requires.within.0 (omega (arith, c.requires.within.0, c.requires.within.1)))
+
+pub returns-then-goes-clause-decides : goal.returns-then-goes-clause-decides
+returns-then-goes-clause-decides c = λ l e.
+    let left = c.args.left.now.items in
+    let place = c.args.place in
+    let below : place < length left = omega (arith, c.requires.within.0, c.requires.within.1) in
+    let all = remove_range left (place + 1) c.args.next in
+    let (lines, is, are) = c.requires.witnesses in
+    let same : l ≡ c.index.result.now =
+    e ∙ before_hole left place c.args.next l c.requires.within.0 below ∙ get_or_default left place l c.index.result.now below
+    ∙ sym c.index.ensures
+    in
+    inl (
+      subst (λ (k : Line). Derivable c.args.order.now (remove all place) k) (sym same)
+          (c.if-goes.ensures.derived c.args.order.now lines (remove all place) is (left_gone lines all c.args.stands.now.items place are)),
+      hole_wider left place c.args.next c.requires.within.0 below,
+    )
+
+pub returns-then-goes-clause-moved : goal.returns-then-goes-clause-moved
+returns-then-goes-clause-moved c = inl (
+  hole_wider c.args.left.now.items c.args.place c.args.next c.requires.within.0 (omega (arith, c.requires.within.0, c.requires.within.1)),
+  c.if-goes.ensures.cleared,
+)
+
+pub returns-clause-decides : goal.returns-clause-decides
+returns-clause-decides c =
+    subst (Decides c.args.order.now (remove_range c.args.left.now.items (c.args.place + 1) c.args.next) c.args.place)
+    (sym (no_hole c.drop_at.new.left.items c.args.place)) (subst (λ (ls : List Line). Decides c.args.order.now ls c.args.place c.drop_at.new.left.items)
+    c.take_out.ensures c.in_ok-drop_at.ensures.decides)
