@@ -1,16 +1,7 @@
 // The order of classes: each after those that it leads to, and of those that may come next the one with the least member.
 ghost use Rattle.std.specs.Prelude.{◌≡◌, ◌∷◌, ℕ, ◌<◌, ◌≤◌, All, IfOk, List, [], OnOk, length, slice_index};
-ghost use Rattle.rt_components.specs.Orders.{
-  AreAllInOrder,
-  AreLinked,
-  HasCome,
-  IsBegun,
-  IsQueue,
-  IsToCome,
-  MaySettle,
-  MayTake,
-  left_to_come,
-};
+ghost use Rattle.rt_components.specs.Orders.{AreAllInOrder, AreLinked, HasCome, IsBegun};
+ghost use Rattle.rt_components.specs.Orders.{IsQueue, IsToCome, MaySettle, MayTake, left_to_come};
 
 use crate::classes::Classes;
 use crate::graph::empty_lists;

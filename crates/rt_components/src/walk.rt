@@ -2,27 +2,9 @@
 ghost use Rattle.std.specs.Prelude.{◌≡◌, ◌≢◌, ℕ, ◌+◌, ◌^◌, ◌<◌, ◌≤◌, ◌↔◌, List, OnOk, IfOk, IsTrue, Contains, length, slice_index, take};
 ghost use Rattle.rt_components.specs.declared.walk.State.TheVariants.{Unseen};
 ghost use Rattle.rt_components.specs.Classes.{AreClasses};
-ghost use Rattle.rt_components.specs.Walks.{
-  state_of,
-  AllReach,
-  AreInClasses,
-  AreNumbersOf,
-  AreOnPath,
-  IsClosedFrom,
-  IsAtRest,
-  IsFrontUpTo,
-  IsLast,
-  IsMetLast,
-  IsWalk,
-  KeepsSeen,
-  MayEnter,
-  MayLeave,
-  MayReach,
-  MayStep,
-  MayVisit,
-  Rises,
-  work,
-};
+ghost use Rattle.rt_components.specs.Walks.{state_of, AllReach, AreInClasses, AreNumbersOf, AreOnPath};
+ghost use Rattle.rt_components.specs.Walks.{IsClosedFrom, IsAtRest, IsFrontUpTo, IsLast, IsMetLast, IsWalk};
+ghost use Rattle.rt_components.specs.Walks.{KeepsSeen, MayEnter, MayLeave, MayReach, MayStep, MayVisit, Rises, work};
 
 use crate::classes::Classes;
 use crate::graph::Graph;

@@ -4,20 +4,8 @@ ghost use Rattle.rt_link.specs.Checks.{link_fault};
 ghost use Rattle.rt_link.specs.Effects.{link_at};
 ghost use Rattle.rt_link.specs.Links.{AreLinksOf};
 ghost use Rattle.rt_link.specs.declared.link.Link.TheVariants.{Pair};
-ghost use Rattle.rt_control.specs.Control.{
-  called_at,
-  call_form,
-  pair_form,
-  way_to,
-  jal_form,
-  table_form,
-  jalr_form,
-  step_form,
-  branch_form,
-  branch_distance,
-  going_form,
-  insn_form,
-};
+ghost use Rattle.rt_control.specs.Control.{called_at, call_form, pair_form, way_to, jal_form, table_form};
+ghost use Rattle.rt_control.specs.Control.{jalr_form, step_form, branch_form, branch_distance, going_form, insn_form};
 ghost use Rattle.rt_control.specs.Laws.{IsGoodForm, IsKnownForm};
 ghost use Rattle.rt_control.specs.Places.{is_good, HasRoom, after, symbol_target, word_of};
 ghost use Rattle.rt_control.specs.Sites.{register_of, form_of, IsAt, IsFormFault, IsAnswer};

@@ -2,22 +2,8 @@
 ghost use Rattle.std.specs.Prelude.{◌≡◌, None, IfOk, IfSome, IsTrue};
 ghost use Rattle.rt_link.specs.Links.{AreLinksOf};
 ghost use Rattle.rt_control.specs.Places.{is_good};
-ghost use Rattle.rt_control.specs.Tables.{
-  low_of,
-  base_in,
-  only_one,
-  base_of,
-  reading_of,
-  reading_in,
-  table_place,
-  IsEntry,
-  IsEnd,
-  IsTable,
-  IsTableJump,
-  table_register,
-  MayJumpTo,
-  AreEntriesOf,
-};
+ghost use Rattle.rt_control.specs.Tables.{low_of, base_in, only_one, base_of, reading_of, reading_in, table_place};
+ghost use Rattle.rt_control.specs.Tables.{IsEntry, IsEnd, IsTable, IsTableJump, table_register, MayJumpTo, AreEntriesOf};
 
 use crate::run::{Step, run, writer_of};
 use rt_elf::Object;

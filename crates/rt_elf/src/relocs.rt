@@ -4,21 +4,9 @@ ghost use Rattle.rt_base.specs.First.{first_each};
 ghost use Rattle.rt_elf.specs.Faults.{checked, IsFaultOf};
 ghost use Rattle.rt_elf.specs.Header.{header_place, section_count, HasTable};
 ghost use Rattle.rt_elf.specs.Sections.{section_by, AreWithin};
-ghost use Rattle.rt_elf.specs.Relocs.{
-  is_reloc_section,
-  is_index,
-  lacks_addends,
-  is_read,
-  reloc_at,
-  reloc_fault,
-  relocs_fault,
-  section_relocs,
-  reloc_header_fault,
-  reloc_section_fault,
-  reloc_part_fault,
-  reloc_part,
-  relocs_of,
-};
+ghost use Rattle.rt_elf.specs.Relocs.{is_reloc_section, is_index, lacks_addends, is_read, reloc_at};
+ghost use Rattle.rt_elf.specs.Relocs.{reloc_fault, relocs_fault, section_relocs, reloc_header_fault};
+ghost use Rattle.rt_elf.specs.Relocs.{reloc_section_fault, reloc_part_fault, reloc_part, relocs_of};
 
 use crate::fault::{ElfFault, check};
 use crate::field::word_at;

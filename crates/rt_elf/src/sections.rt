@@ -2,20 +2,9 @@
 ghost use Rattle.std.specs.Prelude.{◌≡◌, ◌+◌, ◌<◌, ◌≤◌, IfErr, IfOk, OnOk, None, length};
 ghost use Rattle.rt_elf.specs.Faults.{checked, IsFaultOf};
 ghost use Rattle.rt_elf.specs.Header.{header_place, section_count, HasTable};
-ghost use Rattle.rt_elf.specs.Sections.{
-  section_at,
-  section_by,
-  sections_of,
-  has_bytes,
-  is_code_section,
-  is_data_section,
-  is_compressed,
-  section_fault,
-  sections_fault,
-  is_kind_at,
-  bytes_of,
-  AreWithin,
-};
+ghost use Rattle.rt_elf.specs.Sections.{section_at, section_by, sections_of, has_bytes};
+ghost use Rattle.rt_elf.specs.Sections.{is_code_section, is_data_section, is_compressed};
+ghost use Rattle.rt_elf.specs.Sections.{section_fault, sections_fault, is_kind_at, bytes_of, AreWithin};
 
 use crate::fault::{ElfFault, check};
 use crate::field::word_at;

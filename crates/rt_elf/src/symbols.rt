@@ -5,17 +5,8 @@ ghost use Rattle.rt_elf.specs.Fields.{word_at};
 ghost use Rattle.rt_elf.specs.Header.{header_place, section_count, HasTable};
 ghost use Rattle.rt_elf.specs.Names.{EndsAt};
 ghost use Rattle.rt_elf.specs.Sections.{section_by, sections_of, is_kind_at, AreWithin};
-ghost use Rattle.rt_elf.specs.Symbols.{
-  symbol_table,
-  symbol_table_fault,
-  symbol_at,
-  symbol_fault,
-  symbols_fault,
-  symbol_list,
-  symbol_part_fault,
-  symbol_part,
-  is_section_index,
-};
+ghost use Rattle.rt_elf.specs.Symbols.{symbol_table, symbol_table_fault, symbol_at, symbol_fault};
+ghost use Rattle.rt_elf.specs.Symbols.{symbols_fault, symbol_list, symbol_part_fault, symbol_part, is_section_index};
 
 use crate::fault::{ElfFault, check};
 use crate::field::{byte_at, half_at, word_at};

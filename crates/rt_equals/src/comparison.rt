@@ -1,20 +1,6 @@
 // Variables that lines name, compared.
-ghost use Rattle.std.specs.Prelude.{
-  ◌≡◌,
-  [],
-  ℕ,
-  ◌<◌,
-  List,
-  Contains,
-  IfOk,
-  IfSome,
-  IsTrue,
-  MatchOption,
-  Some,
-  length,
-  slice_get,
-  slice_index_or,
-};
+ghost use Rattle.std.specs.Prelude.{◌≡◌, [], ℕ, ◌<◌, List, Contains, IfOk, IfSome, IsTrue};
+ghost use Rattle.std.specs.Prelude.{MatchOption, Some, length, slice_get, slice_index_or};
 ghost use Rattle.rt_lines.specs.declared.line.Line.{Line as Given};
 ghost use Rattle.rt_named.specs.Naming.{named as named_by};
 ghost use Rattle.rt_outline.specs.Equal.{AreOuterEquals};

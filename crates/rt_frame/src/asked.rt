@@ -4,18 +4,9 @@ ghost use Rattle.rt_body.specs.Readings.{action_at};
 ghost use Rattle.rt_body.specs.Registers.{HasAddressRegister, HasRegisters};
 ghost use Rattle.rt_body.specs.Told.{reading_of, sites_in};
 ghost use Rattle.rt_liveness.specs.Calls.{taken_registers, takes_register};
-ghost use Rattle.rt_frame.specs.Questions.{
-  action_questions,
-  addition_questions,
-  address_questions,
-  call_questions,
-  compute_questions,
-  data_questions,
-  questions,
-  result_questions,
-  target_questions,
-  IsQuestionWithin,
-};
+ghost use Rattle.rt_frame.specs.Questions.{action_questions, addition_questions, address_questions};
+ghost use Rattle.rt_frame.specs.Questions.{call_questions, compute_questions, data_questions};
+ghost use Rattle.rt_frame.specs.Questions.{questions, result_questions, target_questions, IsQuestionWithin};
 
 use crate::addition::Addition;
 use crate::question::Question;

@@ -3,25 +3,9 @@ ghost use Rattle.std.specs.Prelude.{◌≡◌, ◌<◌, All, IfOk};
 ghost use Rattle.std.specs.List.{list_any};
 ghost use Rattle.rt_body.specs.Registers.{HasAddressRegister};
 ghost use Rattle.rt_body.specs.Told.{reading_of, sites_in, IsDefWithin};
-ghost use Rattle.rt_frame.specs.Questions.{
-  addition,
-  address_value,
-  calls_at,
-  def_value,
-  first_gives,
-  is_call_action,
-  is_const,
-  is_at,
-  is_index,
-  is_kept,
-  is_multi,
-  is_real,
-  is_result,
-  is_scaled_by,
-  reaches_itself,
-  results,
-  scales,
-};
+ghost use Rattle.rt_frame.specs.Questions.{addition, address_value, calls_at, def_value, first_gives};
+ghost use Rattle.rt_frame.specs.Questions.{is_call_action, is_const, is_at, is_index, is_kept, is_multi};
+ghost use Rattle.rt_frame.specs.Questions.{is_real, is_result, is_scaled_by, reaches_itself, results, scales};
 
 use crate::addition::Addition;
 use rt_base::{Memory, Sequence};

@@ -2,18 +2,8 @@ ghost use Rattle.std.specs.Prelude.{◌≡◌, ◌↔◌, IfSome, IsNone};
 ghost use Rattle.rt_insn.specs.Word.{field};
 ghost use Rattle.rt_insn.specs.Table.{IsCode};
 ghost use Rattle.rt_insn.specs.Range.{HasRange};
-ghost use Rattle.rt_insn.specs.Reading.{
-  jalr_of,
-  branch_of,
-  load_of,
-  store_of,
-  op_imm_of,
-  shift_imm_of,
-  op_of,
-  fence_of,
-  system_of,
-  insn_of,
-};
+ghost use Rattle.rt_insn.specs.Reading.{jalr_of, branch_of, load_of, store_of, op_imm_of};
+ghost use Rattle.rt_insn.specs.Reading.{shift_imm_of, op_of, fence_of, system_of, insn_of};
 ghost use Rattle.rt_insn.specs.declared.insn.Insn.{Insn};
 
 use crate::fields::{funct3, funct7, opcode, rd, rs1, rs2};

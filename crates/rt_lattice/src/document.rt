@@ -5,18 +5,8 @@ ghost use Rattle.toml.specs.Data.{as_array, as_table, get_member};
 ghost use Rattle.toml.specs.View.{view, items_view, table_view};
 ghost use Rattle.rt_base.specs.First.{fault_if};
 ghost use Rattle.rt_lattice.specs.declared.fault.LatFault.TheVariants.{Shape};
-ghost use Rattle.rt_lattice.specs.Files.{
-  SaysFile,
-  strings_in,
-  pair_in,
-  pairs_in,
-  role_names_in,
-  names_at,
-  below_at,
-  roles_at,
-  is_known_key,
-  other_key,
-};
+ghost use Rattle.rt_lattice.specs.Files.{SaysFile, strings_in, pair_in, pairs_in, role_names_in};
+ghost use Rattle.rt_lattice.specs.Files.{names_at, below_at, roles_at, is_known_key, other_key};
 ghost use Rattle.rt_lattice.specs.Faults.{IsFaultOf, names_fault, form_fault};
 
 use crate::fault::LatFault;

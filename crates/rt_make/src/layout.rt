@@ -1,15 +1,7 @@
 // Where the parts of an object stand.
 ghost use Rattle.std.specs.Prelude.{◌≡◌, ◌+◌, ◌-◌, ◌*◌, ◌<◌, ◌^◌};
-ghost use Rattle.rt_make.specs.Layout.{
-  symbols_place,
-  strings_place,
-  strings_end,
-  headers_place,
-  code_section,
-  symbol_section,
-  string_section,
-  reloc_section,
-};
+ghost use Rattle.rt_make.specs.Layout.{symbols_place, strings_place, strings_end, headers_place};
+ghost use Rattle.rt_make.specs.Layout.{code_section, symbol_section, string_section, reloc_section};
 
 use rt_elf::Section;
 

@@ -1,19 +1,8 @@
 // The bytes of objects.
 ghost use Rattle.std.specs.Prelude.{◌≡◌, ◌+◌, ◌*◌, ◌<◌, ◌^◌, ◌++◌, All, IfOk, OnOk, length};
 ghost use Rattle.std.specs.List.{flat_map};
-ghost use Rattle.rt_make.specs.Packed.{
-  file_header,
-  reloc_entry,
-  symbol_entry,
-  symbol_entries,
-  string_table,
-  section_header,
-  section_headers,
-  packed,
-  object_length,
-  FitsSymbol,
-  FitsReloc,
-};
+ghost use Rattle.rt_make.specs.Packed.{file_header, reloc_entry, symbol_entry, symbol_entries, string_table};
+ghost use Rattle.rt_make.specs.Packed.{section_header, section_headers, packed, object_length, FitsSymbol, FitsReloc};
 
 use crate::layout::{Layout, NULL_SECTION};
 use crate::numbers::{push_halves, push_words, push_zeros};

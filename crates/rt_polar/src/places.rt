@@ -1,22 +1,6 @@
 // Lines in slots, where each is found.
-ghost use Rattle.std.specs.Prelude.{
-  ◌≡◌,
-  ℕ,
-  ◌<◌,
-  [],
-  ◌∷◌,
-  ◌++◌,
-  None,
-  Some,
-  length,
-  slice_index_or,
-  slice_set,
-  IfOk,
-  IsTrue,
-  MatchOption,
-  OnOk,
-  ◌↔◌,
-};
+ghost use Rattle.std.specs.Prelude.{◌≡◌, ℕ, ◌<◌, [], ◌∷◌, ◌++◌, None, Some, length};
+ghost use Rattle.std.specs.Prelude.{slice_index_or, slice_set, IfOk, IsTrue, MatchOption, OnOk, ◌↔◌};
 ghost use Rattle.rt_lines.specs.declared.variable.Dtv.{Dtv as Variable};
 ghost use Rattle.rt_polar.specs.Index.{has};
 ghost use Rattle.rt_polar.specs.Places.{ArePlaces, AreUses, Holds, IsSoleAt, Settles};

@@ -1,14 +1,6 @@
 //! The laws of refinement: functions that do nothing, each for the law that it ensures.
-ghost use Rattle.rt_refine.specs.Laws.{
-  OneCoarsestLaw,
-  OneRefinedLaw,
-  RefinedAlikeLaw,
-  RefinedConstantsLaw,
-  RefinedLeastLaw,
-  RefinedNamesLaw,
-  RefinedRestLaw,
-  RefinedSidesLaw,
-};
+ghost use Rattle.rt_refine.specs.Laws.{OneCoarsestLaw, OneRefinedLaw, RefinedAlikeLaw, RefinedConstantsLaw};
+ghost use Rattle.rt_refine.specs.Laws.{RefinedLeastLaw, RefinedNamesLaw, RefinedRestLaw, RefinedSidesLaw};
 
 /// Where every existential is inside, the least of each class of a refinement may take the places of the others: the outside
 /// can derive the same from the lines before and after.

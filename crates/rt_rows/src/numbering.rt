@@ -6,20 +6,8 @@ ghost use Rattle.rt_lines.specs.Lines.{HasConstantsBelow};
 ghost use Rattle.rt_rules.specs.Laws.{NamesBase};
 ghost use Rattle.rt_lines.specs.Numbering.{deduplicated};
 ghost use Rattle.rt_scheme.specs.Splitting.{AreInterfaceLines};
-ghost use Rattle.rt_rows.specs.Terms.{
-  HasConstantBelow,
-  IsBaseOf,
-  IsGroupRow,
-  group_lines,
-  line_of,
-  lines_by,
-  name_eq,
-  names_of,
-  root_base,
-  root_names,
-  row_names,
-  variable_of,
-};
+ghost use Rattle.rt_rows.specs.Terms.{HasConstantBelow, IsBaseOf, IsGroupRow, group_lines, line_of};
+ghost use Rattle.rt_rows.specs.Terms.{lines_by, name_eq, names_of, root_base, root_names, row_names, variable_of};
 
 use crate::name::Name;
 use crate::row::{Root, Row, Rows, Term};

@@ -1,14 +1,6 @@
 // The laws of derivations: functions that do nothing, each for the law that it ensures.
-ghost use Rattle.rt_rules.specs.Laws.{
-  DeduplicationLaw,
-  DropLaw,
-  FollowingLaw,
-  NumberingLaw,
-  PuttingLaw,
-  RenamingLaw,
-  SubstitutionLaw,
-  UnionLaw,
-};
+ghost use Rattle.rt_rules.specs.Laws.{DeduplicationLaw, DropLaw, FollowingLaw};
+ghost use Rattle.rt_rules.specs.Laws.{NumberingLaw, PuttingLaw, RenamingLaw, SubstitutionLaw, UnionLaw};
 ghost use Rattle.rt_rules.specs.Paper.{WithoutSameLow, WithoutSameSub, WithoutSameUp, WithoutSameVar};
 
 /// Each of many inside existentials may give its place to its only definition, all at once: the outside can derive the

@@ -1,19 +1,7 @@
 // Why an input is refused.
 ghost use Rattle.std.specs.Prelude.{◌≡◌, ◌++◌, IfOk, OnOk};
-ghost use Rattle.rt_run.specs.Errors.{
-  byte_text,
-  check_name,
-  check_text,
-  lattice_line,
-  named_line,
-  numbered_line,
-  offset_text,
-  place_text,
-  read_line,
-  refusal_line,
-  section_text,
-  signatures_line,
-};
+ghost use Rattle.rt_run.specs.Errors.{byte_text, check_name, check_text, lattice_line, named_line, numbered_line};
+ghost use Rattle.rt_run.specs.Errors.{offset_text, place_text, read_line, refusal_line, section_text, signatures_line};
 
 use rt_base::Memory;
 use rt_lattice::{LatFault, Role};

@@ -2,17 +2,8 @@
 ghost use Rattle.std.specs.Prelude.{◌≡◌, ◌+◌, ◌<◌, ◌^◌, [], ◌∷◌, ◌++◌, IfOk, OnOk, fold, length, map, option_to_list};
 ghost use Rattle.indexmap.specs.IndexSet.{insert_key};
 ghost use Rattle.rt_rules.specs.Alike.{map_line};
-ghost use Rattle.rt_scheme.specs.Instances.{
-  IsInstance,
-  instanced,
-  new_count,
-  number_of,
-  origin_eq,
-  origin_of,
-  origins,
-  origins_of,
-  ports_from,
-};
+ghost use Rattle.rt_scheme.specs.Instances.{IsInstance, instanced, new_count, number_of};
+ghost use Rattle.rt_scheme.specs.Instances.{origin_eq, origin_of, origins, origins_of, ports_from};
 
 use crate::existential::existential;
 use crate::origin::Origin;

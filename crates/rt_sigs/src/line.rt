@@ -2,17 +2,8 @@
 ghost use Rattle.std.specs.Prelude.{◌≡◌, ◌≢◌, ◌∷◌, ◌++◌, List, ℕ, MatchOption, MatchResult, length};
 ghost use Rattle.rt_texts.specs.Readings.{HasNo, IsCut, IsNoText};
 ghost use Rattle.rt_texts.specs.Texts.{line_text};
-ghost use Rattle.rt_sigs.specs.Signatures.{
-  IsSignatureLine,
-  begins_within,
-  is_line_within,
-  is_no_global,
-  is_signature_line,
-  is_taken,
-  is_variable_within,
-  is_within,
-  names_no_global,
-};
+ghost use Rattle.rt_sigs.specs.Signatures.{IsSignatureLine, begins_within, is_line_within, is_no_global};
+ghost use Rattle.rt_sigs.specs.Signatures.{is_signature_line, is_taken, is_variable_within, is_within, names_no_global};
 ghost use Rattle.rt_sigs.specs.Readings.{IsLineFault, IsRightLine};
 
 use crate::fault::SigFault;

@@ -1,16 +1,7 @@
 // The variables that rows speak of.
 ghost use Rattle.std.specs.Prelude.{◌≡◌, IsTrue, IfOk};
-ghost use Rattle.rt_table.specs.Table.{
-  argument,
-  definition,
-  is_argument,
-  is_stack_word,
-  merge_name,
-  object,
-  port_of,
-  stack_argument,
-  symbol_side,
-};
+ghost use Rattle.rt_table.specs.Table.{argument, definition, is_argument, is_stack_word};
+ghost use Rattle.rt_table.specs.Table.{merge_name, object, port_of, stack_argument, symbol_side};
 ghost use Rattle.rt_table.specs.Told.{context_of};
 
 use crate::context::Context;

@@ -1,12 +1,6 @@
 //! The laws of twins: functions that do nothing, each for the law that it ensures.
-ghost use Rattle.rt_twins.specs.Laws.{
-  OneTwinnedLaw,
-  OneTwinningLaw,
-  TwinnedAlikeLaw,
-  TwinnedLosesLaw,
-  TwinnedNamesLaw,
-  TwinnedRestLaw,
-};
+ghost use Rattle.rt_twins.specs.Laws.{OneTwinnedLaw, OneTwinningLaw, TwinnedAlikeLaw};
+ghost use Rattle.rt_twins.specs.Laws.{TwinnedLosesLaw, TwinnedNamesLaw, TwinnedRestLaw};
 
 /// Where every existential is inside, the least of each class of twins may take the places of the others: the outside can
 /// derive the same from the lines before and after.
