@@ -28,3 +28,15 @@ before (x ∷ xs) (suc i) (suc j) d h within = before xs i j d (omega (arith, h)
 pub before_hole : {X : Type 0} (xs : List X) (i j : ℕ) (d : X) → i < j → i < length xs → get_or (remove_range xs (i + 1) j) i d ≡ get_or xs i d
 before_hole xs i j d h within =
     let e : suc i ≡ i + 1 = omega arith in subst (λ k. get_or (remove_range xs k j) i d ≡ get_or xs i d) e (before xs i j d h within)
+
+above : {X : Type 0} (xs : List X) (i j : ℕ) → i < j → i < length xs → i < length (remove_range xs (suc i) j)
+above [] i j h within = absurd (omega (arith, within))
+above (x ∷ xs) i zero h within = absurd (omega (arith, h))
+above (x ∷ xs) zero (suc j) h within = omega arith
+above (x ∷ xs) (suc i) (suc j) h within =
+    let r : i < length (remove_range xs (suc i) j) = above xs i j (omega (arith, h)) (omega (arith, within)) in omega (arith, r)
+
+-- that stands there
+pub above_hole : {X : Type 0} (xs : List X) (i j : ℕ) → i < j → i < length xs → i < length (remove_range xs (i + 1) j)
+above_hole xs i j h within =
+    let e : suc i ≡ i + 1 = omega arith in subst (λ k. i < length (remove_range xs k j)) e (above xs i j h within)

@@ -19,3 +19,4 @@ pub mod Going
 pub mod Anew
 pub mod Unbounded
 pub mod Made
+pub mod Told

@@ -1,9 +1,8 @@
 -- What was made before, as lines go.
-use Rattle.std.proofs.Common.{◌≡◌, ℕ, zero, suc, ◌<◌, ◌≤◌, ◌⊎◌, inl, inr, List, [], ◌∷◌, ◌++◌, take, drop, get_or, length, Contains}
-use Rattle.std.proofs.Common.{sym, subst, ◌∙◌, arith}
+use Rattle.std.proofs.Common.{◌≡◌, ℕ, zero, suc, ◌<◌, ◌⊎◌, inl, inr, List, [], ◌∷◌, get_or, length, Contains, sym, subst, ◌∙◌, arith}
 use Rattle.std.specs.List.{remove}
 use Rattle.std.proofs.lemmas.List.{get_or_default}
-use Rattle.std.proofs.lemmas.List.Elements.{All-contains, Contains-append_left}
+use Rattle.std.proofs.lemmas.List.Elements.{All-contains}
 use Rattle.rt_base.proofs.Lists.{All-from_contains, Contains-none, Contains-here, Contains-there, Contains-cons_cases}
 use Rattle.rt_lines.specs.declared.line.Line.{Line}
 use Rattle.rt_lines.specs.declared.line.Line.TheVariants.{Var}
@@ -13,12 +12,10 @@ use Rattle.rt_rules.specs.Put.{exist}
 use Rattle.rt_rules.proofs.Carry.{given}
 use Rattle.rt_rules.proofs.Covering.{derives_more}
 use Rattle.rt_sat.proofs.Frames.{side_named}
-use Rattle.rt_shape.specs.Graphs.{Graph}
 use Rattle.rt_outline.specs.Lines.{Lined}
-use Rattle.rt_reduce.specs.Deciding.{IsInnerFor, IsLowerWith, IsShapeAmong}
+use Rattle.rt_reduce.specs.Deciding.{IsInnerFor, IsLowerWith}
 use Rattle.rt_reduce.specs.Dropping.{Decides}
 use Rattle.rt_reduce.proofs.Places.{All-removed}
-use Rattle.rt_reduce.proofs.Leaving.{AreLeft}
 
 -- an element that is taken out, before the others
 pub Contains-taken_out : {X : Type 0} (xs : List X) (i : ℕ) (x y : X) → i < length xs → x ≡ get_or xs i x → Contains xs y →
@@ -42,19 +39,6 @@ of_taken_out : {X : Type 0} (xs : List X) (i : ℕ) (x y : X) → i < length xs 
 of_taken_out xs i x y h e c = elim (Contains-cons_cases x (remove xs i) y c) [
   | inl f ↦ (i, h, sym (subst (λ v. v ≡ get_or xs i v) f e))
   | inr d ↦ of_removed xs i y d
-]
-
--- first elements, where more of them have others behind
-of_front : {X : Type 0} (count place at : ℕ) (xs behind : List X) (y : X) → count ≤ place → place ≤ at → Contains (take count xs) y →
-    Contains (take place (take at xs ++ behind)) y
-of_front zero place at xs behind y h k c = absurd (Contains-none y c)
-of_front (suc count) zero at xs behind y h k c = absurd (omega (arith, h))
-of_front (suc count) (suc place) zero xs behind y h k c = absurd (omega (arith, k))
-of_front (suc count) (suc place) (suc at) [] behind y h k c = absurd (Contains-none y c)
-of_front (suc count) (suc place) (suc at) (x ∷ xs) behind y h k c = elim (Contains-cons_cases x (take count xs) y c) [
-  | inl f ↦ subst (Contains (x ∷ take place (take at xs ++ behind))) f (Contains-here x (take place (take at xs ++ behind)))
-  | inr d ↦ Contains-there x (take place (take at xs ++ behind)) y
-      (of_front count place at xs behind y (omega (arith, h)) (omega (arith, k)) d)
 ]
 
 -- arcs from inside of all lines
@@ -103,20 +87,3 @@ pub inner_stays : (order : Below) (left : List Line) (place : ℕ) (inner : Line
 inner_stays order left place inner is now h decides =
     let line = get_or left place (Var (exist 0)) in
     inner_next order left place inner is now line h (sym (get_or_default left place line (Var (exist 0)) h)) decides
-
--- a shape of first lines
-pub front_among : (order : Below) (lines left : List Line) (count place at : ℕ) (graph : Graph) → AreLeft order lines at left →
-    place ≤ at → count ≤ place → IsShapeAmong (take count lines) graph → IsShapeAmong (take place left) graph
-front_among order lines left count place at graph are h k is = record {
-  lines = is.lines;
-  shape = is.shape;
-  among = λ l c. subst (λ ls. Contains (take place ls) l) (sym are.stand)
-      (of_front count place at lines are.kept l k h (is.among l c));
-}
-
-pub shape_out : (left : List Line) (place : ℕ) (graph : Graph) → IsShapeAmong (take place left) graph → IsShapeAmong (remove left place) graph
-shape_out left place graph is = record {
-  lines = is.lines;
-  shape = is.shape;
-  among = λ l c. Contains-append_left (take place left) (drop (suc place) left) l (is.among l c);
-}

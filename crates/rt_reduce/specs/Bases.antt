@@ -27,4 +27,5 @@ IsAloneAt named equals bases n =
 -- each side's base is noted at the side's number
 abbrev pub AreNoted : List Dtv → List ℕ → List Bases → Type 0
 AreNoted sides numbers bases =
-    (i : ℕ) → i < length sides → Notes (slice_index_or bases (slice_index_or numbers i 0) Several) (slice_index_or sides i no_side).base
+    (i : ℕ) → i < length sides →
+    Notes (slice_index_or bases (slice_index_or numbers i 0) Several) (slice_index_or sides i no_side).base

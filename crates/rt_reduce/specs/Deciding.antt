@@ -6,8 +6,6 @@ use Rattle.rt_lines.specs.declared.line.Line.TheVariants.{Low, Up}
 use Rattle.rt_lines.specs.Orders.{Below, IsAtOrBelow}
 use Rattle.rt_rules.specs.Rules.{HasSide, Derivable}
 use Rattle.rt_named.specs.Naming.{named as named_by}
-use Rattle.rt_shape.specs.Graphs.{Graph}
-use Rattle.rt_shape.specs.Shapes.{IsShapeOf}
 use Rattle.rt_outline.specs.declared.led.Led.{Led}
 use Rattle.rt_outline.specs.declared.led.Led.TheVariants.{No, Yes}
 use Rattle.rt_outline.specs.Lines.{Lined, standing}
@@ -38,12 +36,6 @@ pub record IsOuterFor (left : List Line) (stands : List Bool) (line : Line) (out
   pub left_are : left ≡ standing outer.lines stands
   pub sides : (l : Line) (x : Dtv) → Contains left l → HasSide l x → Contains outer.named x
   pub line_sides : (x : Dtv) → HasSide line x → Contains outer.named x
-
--- a shape of lines that are left
-pub record IsShapeAmong (left : List Line) (graph : Graph) : Type 0 where
-  pub lines : List Line
-  pub shape : IsShapeOf lines graph
-  pub among : (l : Line) → Contains lines l → Contains left l
 
 -- arcs of lines that what is left derives, between variables among which those of what is left are
 pub record IsInnerFor (order : Below) (left : List Line) (inner : Lined) : Type 0 where

@@ -1,5 +1,5 @@
 -- One line that goes or stays.
-use Rattle.std.specs.Prelude.{◌≡◌, ℕ, ◌⊎◌, List, Bool, true, false, slice_index_or, slice_set}
+use Rattle.std.specs.Prelude.{◌≡◌, ℕ, ◌⊎◌, List, Bool, true, false, Some, slice_get, slice_index_or, slice_set, take}
 use Rattle.std.specs.List.{remove}
 use Rattle.rt_lines.specs.declared.line.Line.{Line}
 use Rattle.rt_lines.specs.Orders.{Below}
@@ -15,12 +15,25 @@ IsKeptOrGone lines place left = (left ≡ lines) ⊎ (left ≡ remove lines plac
 abbrev pub Decides : Below → List Line → ℕ → List Line → Type 0
 Decides order lines place left =
     (l : Line) → l ≡ slice_index_or lines place l →
-    (Derivable order (remove lines place) l × (left ≡ remove lines place)) ⊎ ((Derivable order (remove lines place) l → ⊥) × (left ≡ lines))
+    (Derivable order (remove lines place) l × (left ≡ remove lines place)) ⊎
+    ((Derivable order (remove lines place) l → ⊥) × (left ≡ lines))
+
+-- where the flag is set, the lines before the place derive the line at it
+abbrev pub IsToldAt : Bool → List Line → ℕ → Type 0
+IsToldAt told lines place =
+    (order : Below) (l : Line) → slice_get lines place ≡ Some l → told ≡ true → Derivable order (take place lines) l
+
+-- each line whose flag is set follows from those before it
+abbrev pub AreTold : List Line → List Bool → Type 0
+AreTold lines told =
+    (order : Below) (i : ℕ) (l : Line) → slice_get lines i ≡ Some l → slice_index_or told i false ≡ true →
+    Derivable order (take i lines) l
 
 -- the line follows from those that stand without it, and its flag is cleared
 pub record IsSpared (witnesses : Witnessed) (stands : List Bool) (line : Line) (place : ℕ) (flags : List Bool) : Type 0 where
   pub cleared : flags ≡ slice_set stands place false
-  pub derived : (order : Below) (lines left : List Line) → IsWitnesses lines witnesses → IsLeft lines (slice_set stands place false) left →
+  pub derived : (order : Below) (lines left : List Line) → IsWitnesses lines witnesses →
+      IsLeft lines (slice_set stands place false) left →
       Derivable order left line
 
 -- the line at the place is gone and its flag cleared, or the line is there, its flag set

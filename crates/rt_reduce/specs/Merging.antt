@@ -32,7 +32,8 @@ abbrev pub IsFirstAmong : Below → List Line → ℕ → List Dtv → Option Dt
 IsFirstAmong order lines n seen first =
     MatchOption first
     ((y : Dtv) → Contains seen y → IsLike order lines n y → ⊥)
-    (λ z. Contains seen z × IsLike order lines n z × ((y : Dtv) → Contains seen y → IsLike order lines n y → comes_before y z ≡ false))
+    (λ z. Contains seen z × IsLike order lines n z ×
+    ((y : Dtv) → Contains seen y → IsLike order lines n y → comes_before y z ≡ false))
 
 -- the first of the equals of an existential
 pub record IsFirstEqual (order : Below) (lines : List Line) (n : ℕ) (z : Dtv) : Type 0 where

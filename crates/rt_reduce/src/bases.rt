@@ -69,7 +69,8 @@ fn with_base(bases: Bases, base: Base) -> Bases
 
 /// Whether no other base than an existential is noted at a number.
 pub fn is_alone(bases: &[Bases], number: usize, existential: u32) -> bool
-    ensures { IsTrue result → (base : Origin) → Notes (slice_index_or bases.now number Unknown) base → base ≡ Existential existential }
+    ensures { IsTrue result → (base : Origin) → Notes (slice_index_or bases.now number Unknown) base →
+        base ≡ Existential existential }
 {
     match bases.get(number) {
         Some(Bases::One(base)) => *base == Base::Exist(existential),

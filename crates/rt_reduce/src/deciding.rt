@@ -7,7 +7,7 @@ ghost use Rattle.rt_lines.specs.Orders.{Below};
 ghost use Rattle.rt_rules.specs.Rules.{Derivable};
 ghost use Rattle.rt_outline.specs.Lines.{standing};
 ghost use Rattle.rt_witness.specs.Witnesses.{IsLeft, IsWitnesses};
-ghost use Rattle.rt_reduce.specs.Deciding.{IsInnerFor, IsOuterFor, IsShapeAmong, IsUpperWith, Tells};
+ghost use Rattle.rt_reduce.specs.Deciding.{IsInnerFor, IsOuterFor, IsUpperWith, Tells};
 
 use crate::bounds::{lows, ups};
 use crate::derivable::derives_line;
@@ -17,18 +17,16 @@ use crate::opened::seen;
 use rt_base::Memory;
 use rt_lines::{Dtv, Line, Order};
 use rt_outline::{Led, Lower, Upper};
-use rt_shape::Shape;
 use rt_witness::Witnesses;
 use std::alloc::Global;
 use std::slice;
 
 // Whether the line is derivable from the lines left: by arcs from outside and by which lines name which variables, where these
-// tell, else by a shape and arcs from inside that were made before, else by what is left.
+// tell, else by arcs from inside that were made before, else by what is left.
 pub fn is_derivable(
     alloc: Global,
     outer: Option<&Upper>,
     inner: Option<&Lower>,
-    front: Option<&Shape>,
     witnesses: &Witnesses,
     stands: &[bool],
     left: &[Line],
@@ -37,7 +35,6 @@ pub fn is_derivable(
 ) -> Result<bool, Memory>
     requires outer { IfSome outer (λ t. IsOuterFor left.now stands.now line.now t.now) }
     requires inner { IfSome inner (λ t. IsInnerFor order.now (line.now ∷ left.now) t.now) }
-    requires front { IfSome front (λ s. IsShapeAmong left.now s.now) }
     requires witnesses { (lines : List Given) × IsWitnesses lines witnesses.now × IsLeft lines stands.now left.now }
     requires constants { All (HasConstantsBelow order.now.count) left.now }
     requires constant { HasConstantsBelow order.now.count line.now }
@@ -48,7 +45,7 @@ pub fn is_derivable(
         Led::Yes => return Ok(true),
         Led::Open => {}
     }
-    if is_told(alloc, inner, front, witnesses, stands, left, order, line)? {
+    if is_told(alloc, inner, witnesses, stands, left, order, line)? {
         return Ok(true);
     }
     derives_open(alloc, left, order, line)
@@ -143,7 +140,8 @@ fn told(
 
 // Whether the line says that a variable is there, and which lines that stand name which variables tells that it isn't.
 pub(crate) fn is_missing(witnesses: &Witnesses, stands: &[bool], line: &Line) -> bool
-    ensures { result ≡ true → (order : Below) (lines left : List Given) → IsWitnesses lines witnesses.now → IsLeft lines stands.now left →
+    ensures { result ≡ true → (order : Below) (lines left : List Given) → IsWitnesses lines witnesses.now →
+        IsLeft lines stands.now left →
         Derivable order left line.now → ⊥ }
 {
     let Line::Var(x) = line else {
@@ -157,7 +155,8 @@ pub(crate) fn is_missing(witnesses: &Witnesses, stands: &[bool], line: &Line) ->
 
 // Whether the line says that a variable is there, and a line that stands names it.
 pub(crate) fn is_spare(witnesses: &Witnesses, stands: &[bool], line: &Line) -> bool
-    ensures { result ≡ true → (order : Below) (lines left : List Given) → IsWitnesses lines witnesses.now → IsLeft lines stands.now left →
+    ensures { result ≡ true → (order : Below) (lines left : List Given) → IsWitnesses lines witnesses.now →
+        IsLeft lines stands.now left →
         Derivable order left line.now }
 {
     let Line::Var(x) = line else {

@@ -50,14 +50,16 @@ pub fn derives_line(
 
 // Whether the variable exists.
 pub fn exists(shape: &Shape, x: &Dtv) -> bool
-    ensures { (lines : List Given) (order : Below) → IsShapeOf lines shape.now → IsTrue result ↔ Derivable order lines (Exists x.now) }
+    ensures { (lines : List Given) (order : Below) → IsShapeOf lines shape.now →
+        IsTrue result ↔ Derivable order lines (Exists x.now) }
 {
     shape.node(x).is_some()
 }
 
 // Whether the two variables have one shape.
 pub fn are_one(shape: &Shape, x: &Dtv, y: &Dtv) -> bool
-    ensures { (lines : List Given) (order : Below) → IsShapeOf lines shape.now → IsTrue result ↔ Derivable order lines (Same x.now y.now) }
+    ensures { (lines : List Given) (order : Below) → IsShapeOf lines shape.now →
+        IsTrue result ↔ Derivable order lines (Same x.now y.now) }
 {
     match (shape.node(x), shape.node(y)) {
         (Some(m), Some(n)) => m == n,

@@ -1,59 +1,47 @@
 // Lines that others derive, dropped from the end.
 ghost use Rattle.std.specs.Prelude.{◌≡◌, ◌+◌, ◌<◌, ◌≤◌, ◌↔◌, [], List, All, Contains, IsTrue, true, false, OnOk, IfOk, IfSome};
-ghost use Rattle.std.specs.Prelude.{MatchBool, length, slice_index_or, take};
+ghost use Rattle.std.specs.Prelude.{MatchBool, length, slice_index_or};
 ghost use Rattle.std.specs.List.{remove_range};
 ghost use Rattle.rt_lines.specs.declared.line.Line.{Line as Given};
 ghost use Rattle.rt_lines.specs.Lines.{HasConstantsBelow};
-ghost use Rattle.rt_shape.specs.Shapes.{IsShapeOf};
 ghost use Rattle.rt_reduction.specs.Drops.{Drops};
 ghost use Rattle.rt_reduction.specs.Emits.{is_flow as is_flow_line};
 ghost use Rattle.rt_witness.specs.Witnesses.{IsWitnesses};
-ghost use Rattle.rt_reduce.specs.Deciding.{AreStanding, AreWitnessed, IsInnerFor, IsLowerWith, IsOwnOuter, IsShapeAmong};
-ghost use Rattle.rt_reduce.specs.Dropping.{Decides, IsKeptOrGone, IsMoved, IsSpared};
+ghost use Rattle.rt_reduce.specs.Deciding.{AreStanding, AreWitnessed, IsInnerFor, IsLowerWith, IsOwnOuter};
+ghost use Rattle.rt_reduce.specs.Dropping.{AreTold, Decides, IsKeptOrGone, IsMoved, IsSpared, IsToldAt};
 
 use crate::copying::copies;
 use crate::deciding::{is_derivable, is_missing, is_spare};
 use rt_base::{Memory, Sequence};
 use rt_lines::{Line, Lines, Order};
 use rt_outline::{Lower, Upper};
-use rt_shape::Shape;
 use rt_witness::Witnesses;
 use std::alloc::Global;
 
 /// What stays of the lines when, from the last to the first, each line goes that the lines before it and those that stayed
-/// behind it derive with the order of constants. A line that arcs from outside don't give isn't derivable; of another one the
-/// shape of the first lines and arcs from inside of all lines tell, which are made once, or arcs from inside and from outside
-/// of what is left, or it is saturated. The error is want of memory.
+/// behind it derive with the order of constants. One of which `rt_earlier` tells that the lines before it derive it goes at
+/// once. Another one that arcs from outside don't give isn't derivable; else arcs from inside of all lines tell, which are made
+/// once, or arcs from inside and from outside of what is left, or it is saturated. The error is want of memory.
 pub fn drop_derivable(alloc: Global, lines: &[Line], order: &Order) -> Result<Lines, Memory>
     requires { All (HasConstantsBelow order.now.count) lines.now }
     ensures drops { IfOk result (λ left. Drops order.now [] lines.now left) }
     ensures stood { IfOk result (λ left. (l : Given) → Contains left l → Contains lines.now l) }
 {
+    let told = rt_earlier::told(alloc, lines)?;
     let witnesses = Witnesses::of(alloc, lines)?;
-    let count = flow_count(lines);
-    let front = front_of(alloc, lines, count)?;
-    drop_by(alloc, lines, &front, count, &witnesses, order)
+    drop_by(alloc, lines, &told, &witnesses, order)
 }
 
-// The shape of so many of the first lines.
-fn front_of(alloc: Global, lines: &[Line], count: usize) -> Result<Shape, Memory>
-    requires { count ≤ length lines.now }
-    ensures { IfOk result (λ front. IsShapeOf (take count lines.now) front) }
-{
-    let front = rt_shape::of(alloc, &lines[..count])?;
-    Ok(front)
-}
-
-// What stays of the lines, where the shape of so many of the first, and which of them name which variables are given.
+// What stays of the lines, where which of them follow from those before, and which of them name which variables are given.
 fn drop_by(
     alloc: Global,
     lines: &[Line],
-    front: &Shape,
-    count: usize,
+    told: &[bool],
     witnesses: &Witnesses,
     order: &Order,
 ) -> Result<Lines, Memory>
-    requires front { IsShapeOf (take count lines.now) front.now }
+    requires each { length told.now ≡ length lines.now }
+    requires told { AreTold lines.now told.now }
     requires witnesses { IsWitnesses lines.now witnesses.now }
     requires constants { All (HasConstantsBelow order.now.count) lines.now }
     ensures drops { IfOk result (λ left. Drops order.now [] lines.now left) }
@@ -66,28 +54,27 @@ fn drop_by(
         lines,
         outer.as_ref(),
         inner.as_ref(),
-        front,
-        count,
+        told,
         witnesses,
         order,
     )
 }
 
-// What stays of the lines, where arcs of them, the shape of so many of the first, and which of them name which variables are
-// given.
+// What stays of the lines, where arcs of them, which of them follow from those before, and which of them name which variables
+// are given.
 fn drop_each(
     alloc: Global,
     lines: &[Line],
     outer: Option<&Upper>,
     inner: Option<&Lower>,
-    front: &Shape,
-    count: usize,
+    told: &[bool],
     witnesses: &Witnesses,
     order: &Order,
 ) -> Result<Lines, Memory>
     requires outer { IfSome outer (λ t. IsOwnOuter lines.now t.now) }
     requires inner { IfSome inner (λ t. IsLowerWith lines.now [] t.now) }
-    requires front { IsShapeOf (take count lines.now) front.now }
+    requires each { length told.now ≡ length lines.now }
+    requires told { AreTold lines.now told.now }
     requires witnesses { IsWitnesses lines.now witnesses.now }
     requires constants { All (HasConstantsBelow order.now.count) lines.now }
     ensures drops { IfOk result (λ left. Drops order.now [] lines.now left) }
@@ -100,12 +87,11 @@ fn drop_each(
     let mut next = place;
     while place > 0 {
         place -= 1;
-        let told = front_at(front, count, place);
         next = drop_before(
             alloc,
             outer,
             inner,
-            told,
+            told[place],
             witnesses,
             &mut stands,
             &mut left,
@@ -158,25 +144,6 @@ fn is_bound(line: &Line) -> bool {
     }
 }
 
-// How many `<=` lines and bounds the lines begin with.
-fn flow_count(lines: &[Line]) -> usize
-    ensures { result ≤ length lines.now }
-{
-    for i in 0..lines.len() {
-        if !is_flow(&lines[i]) {
-            return i;
-        }
-    }
-    lines.len()
-}
-
-// The shape of so many lines, where all of them stand before the place.
-fn front_at(front: &Shape, count: usize, place: usize) -> Option<&Shape>
-    ensures { IfSome result (λ s. (s.now ≡ front.now) × (count ≤ place)) }
-{
-    if count <= place { Some(front) } else { None }
-}
-
 // Whether there is a `<=` line or a bound among the lines.
 fn has_flow(lines: &[Line]) -> bool
     ensures { IsTrue result ↔ ((l : Given) × Contains lines.now l × IsTrue (is_flow_line l)) }
@@ -199,14 +166,14 @@ fn is_flow(line: &Line) -> bool
     }
 }
 
-// Lets the line at the place go, if the others but for those behind it and before the next one derive it. One of which the
-// lines that name which variables tell that it goes isn't taken out yet. The place from which on lines that went weren't
-// taken out ends at the result.
+// Lets the line at the place go, if the others but for those behind it and before the next one derive it. One that is told to
+// follow from those before it, or of which the lines that name which variables tell that it goes, isn't taken out yet. The
+// place from which on lines that went weren't taken out ends at the result.
 fn drop_before(
     alloc: Global,
     outer: Option<&Upper>,
     inner: Option<&Lower>,
-    front: Option<&Shape>,
+    told: bool,
     witnesses: &Witnesses,
     stands: &mut Vec<bool>,
     left: &mut Vec<Line>,
@@ -219,7 +186,7 @@ fn drop_before(
     requires constants { All (HasConstantsBelow order.now.count) (remove_range left.old.items (place + 1) next) }
     requires standing { IfSome outer (λ t. AreStanding (remove_range left.old.items (place + 1) next) stands.old.items (place + 1) t.now) }
     requires inner { IfSome inner (λ t. IsInnerFor order.now (remove_range left.old.items (place + 1) next) t.now) }
-    requires front { IfSome front (λ s. IsShapeAmong (take place (remove_range left.old.items (place + 1) next)) s.now) }
+    requires told { IsToldAt told (remove_range left.old.items (place + 1) next) place }
     requires witnesses { (lines : List Given) × IsWitnesses lines witnesses.now
         × AreWitnessed lines (remove_range left.old.items (place + 1) next) stands.old.items (place + 1) }
     ensures within { IfOk result (λ end. place ≤ end × (end ≤ length left.new.items)) }
@@ -230,13 +197,15 @@ fn drop_before(
     ensures moved { IfOk result (λ end. IsMoved (remove_range left.old.items (place + 1) next) stands.old.items place
         (remove_range left.new.items place end) stands.new.items) }
 {
+    if told {
+        stands[place] = false;
+        return Ok(next);
+    }
     if goes(witnesses, stands, &left[place], place) {
         return Ok(next);
     }
     take_out(left, place + 1, next);
-    drop_at(
-        alloc, outer, inner, front, witnesses, stands, left, order, place,
-    )?;
+    drop_at(alloc, outer, inner, witnesses, stands, left, order, place)?;
     Ok(place)
 }
 
@@ -269,7 +238,6 @@ fn drop_at(
     alloc: Global,
     outer: Option<&Upper>,
     inner: Option<&Lower>,
-    front: Option<&Shape>,
     witnesses: &Witnesses,
     stands: &mut Vec<bool>,
     left: &mut Vec<Line>,
@@ -281,7 +249,6 @@ fn drop_at(
     requires constants { All (HasConstantsBelow order.now.count) left.old.items }
     requires standing { IfSome outer (λ t. AreStanding left.old.items stands.old.items (place + 1) t.now) }
     requires inner { IfSome inner (λ t. IsInnerFor order.now left.old.items t.now) }
-    requires front { IfSome front (λ s. IsShapeAmong (take place left.old.items) s.now) }
     requires witnesses { (lines : List Given) × IsWitnesses lines witnesses.now
         × AreWitnessed lines left.old.items stands.old.items (place + 1) }
     ensures lines { OnOk result (IsKeptOrGone left.old.items place left.new.items) }
@@ -294,9 +261,7 @@ fn drop_at(
         return Ok(());
     }
     let line = left.remove(place);
-    let derived = is_derivable(
-        alloc, outer, inner, front, witnesses, stands, left, order, &line,
-    )?;
+    let derived = is_derivable(alloc, outer, inner, witnesses, stands, left, order, &line)?;
     if derived {
         return Ok(());
     }

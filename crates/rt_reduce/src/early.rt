@@ -1,4 +1,4 @@
-// Lines that a shape and arcs from inside, which were made before, tell to be derivable.
+// Bounds that arcs from inside, which were made before, tell to be derivable.
 ghost use Rattle.std.specs.Prelude.{◌∷◌, ◌<◌, List, All, IsTrue, IfOk, IfSome};
 ghost use Rattle.rt_lines.specs.declared.line.Line.{Line as Given};
 ghost use Rattle.rt_lines.specs.declared.line.Line.TheVariants.{Low as LowerBound, Up as UpperBound, Var as Exists};
@@ -6,25 +6,23 @@ ghost use Rattle.rt_lines.specs.Lines.{HasConstantsBelow};
 ghost use Rattle.rt_lines.specs.Orders.{Below};
 ghost use Rattle.rt_rules.specs.Rules.{Derivable};
 ghost use Rattle.rt_witness.specs.Witnesses.{IsLeft, IsWitnesses};
-ghost use Rattle.rt_reduce.specs.Deciding.{IsInnerFor, IsShapeAmong};
+ghost use Rattle.rt_reduce.specs.Deciding.{IsInnerFor};
 
 use crate::bounds::{lows, ups};
 use crate::deciding::told_named;
-use crate::derivable::{are_one, exists};
+use crate::derivable::exists;
 use rt_base::Memory;
 use rt_lines::{Dtv, Line, Order};
 use rt_outline::{Led, Lower};
-use rt_shape::Shape;
 use rt_witness::Witnesses;
 use std::alloc::Global;
 use std::slice;
 
-// Whether the line is derivable from the lines left, as far as the shape of some of these tells, and arcs from inside of
-// lines that these and the line derive. No bound has an arc, so a bound itself may be among those.
+// Whether the line is derivable from the lines left, as far as arcs from inside tell, of lines that these and the line derive.
+// No bound has an arc, so a bound itself may be among those.
 pub(crate) fn is_told(
     alloc: Global,
     inner: Option<&Lower>,
-    front: Option<&Shape>,
     witnesses: &Witnesses,
     stands: &[bool],
     left: &[Line],
@@ -32,18 +30,13 @@ pub(crate) fn is_told(
     line: &Line,
 ) -> Result<bool, Memory>
     requires inner { IfSome inner (λ t. IsInnerFor order.now (line.now ∷ left.now) t.now) }
-    requires front { IfSome front (λ s. IsShapeAmong left.now s.now) }
     requires witnesses { (lines : List Given) × IsWitnesses lines witnesses.now × IsLeft lines stands.now left.now }
     requires constants { All (HasConstantsBelow order.now.count) left.now }
     requires constant { HasConstantsBelow order.now.count line.now }
     ensures { IfOk result (λ yes. IsTrue yes → Derivable order.now left.now line.now) }
 {
     match line {
-        Line::Var(_) | Line::Sub(_, _) => Ok(false),
-        Line::Same(x, y) => match front {
-            Some(front) => Ok(are_one(front, x, y)),
-            None => Ok(false),
-        },
+        Line::Var(_) | Line::Same(_, _) | Line::Sub(_, _) => Ok(false),
         Line::Low(k, x) => match inner {
             Some(inner) => has_low(alloc, inner, witnesses, stands, left, order, *k, x),
             None => Ok(false),

@@ -72,7 +72,8 @@ fn merge_pending(
     requires pending { (order : Below) (n : ℕ) → HasEqual order lines n → contains nat_cmp pending n ≡ true }
     ensures merges { IfOk result (λ left. (order : Below) → Merges order left lines) }
     ensures scheme { IfOk result (λ left. AreOfScheme lines → AreOfScheme left) }
-    ensures constants { IfOk result (λ left. (count : ℕ) → All (HasConstantsBelow count) lines → All (HasConstantsBelow count) left) }
+    ensures constants { IfOk result
+        (λ left. (count : ℕ) → All (HasConstantsBelow count) lines → All (HasConstantsBelow count) left) }
     ensures named { IfOk result (λ left. (n : ℕ) → NamesBase left (Existential n) → NamesBase lines (Existential n)) }
 {
     let mut now = lines;
@@ -188,7 +189,8 @@ fn add_base(
 ) -> Result<(), Memory>
     requires { length equals.now ≡ length comparison.now.named }
     ensures kept { OnOk result ((n : ℕ) → contains nat_cmp found.old n ≡ true → contains nat_cmp found.new n ≡ true) }
-    ensures added { OnOk result ((n : ℕ) → base ≡ Existential n → (IsAloneAt comparison.now.named equals.now bases.now n → ⊥) →
+    ensures added { OnOk result ((n : ℕ) → base ≡ Existential n →
+        (IsAloneAt comparison.now.named equals.now bases.now n → ⊥) →
         contains nat_cmp found.new n ≡ true) }
 {
     let Base::Exist(existential) = base else {
@@ -268,7 +270,8 @@ fn first_of(
     own: usize,
 ) -> Result<Option<Dtv>, Memory>
     requires { length numbers.now ≡ length sides.now }
-    ensures { IfOk result (λ first. (order : Below) (lines : List Given) → AreAlikeAt order lines existential sides.now numbers.now own →
+    ensures { IfOk result
+        (λ first. (order : Below) (lines : List Given) → AreAlikeAt order lines existential sides.now numbers.now own →
         IsFirstAmong order lines existential sides.now first) }
 {
     let mut first = None;

@@ -1,12 +1,35 @@
-use Rattle.std.proofs.Common.{◌≡◌, ◌+◌, ◌<◌, List, length, inl, inr, sym, subst, ◌∙◌, arith}
+use Rattle.std.proofs.Common.{◌≡◌, ◌+◌, ◌<◌, List, length, inl, inr, refl, sym, subst, ◌∙◌, arith}
 use Rattle.std.specs.List.{remove, remove_range}
 use Rattle.std.proofs.lemmas.List.{get_or_default}
 use Rattle.rt_lines.specs.declared.line.Line.{Line}
 use Rattle.rt_rules.specs.Rules.{Derivable}
-use Rattle.rt_reduce.specs.Dropping.{Decides}
+use Rattle.rt_reduce.specs.Dropping.{Decides, IsToldAt}
 use Rattle.rt_reduce.proofs.Flags.{left_gone}
-use Rattle.rt_reduce.proofs.Holes.{before_hole, hole_wider, no_hole}
+use Rattle.rt_reduce.proofs.Holes.{above_hole, before_hole, hole_wider, no_hole}
+use Rattle.rt_reduce.proofs.Told.{told_gone}
 use Rattle.rt_reduce.proofs.dropping.drop_before.Goals as goal
+
+pub returns-then-told-clause-lines : goal.returns-then-told-clause-lines
+returns-then-told-clause-lines c =
+    inr (hole_wider c.args.left.now.items c.args.place c.args.next c.requires.within.0 (omega (arith, c.requires.within.0, c.requires.within.1)))
+
+pub returns-then-told-clause-decides : goal.returns-then-told-clause-decides
+returns-then-told-clause-decides c = λ l e.
+    let left = c.args.left.now.items in
+    let place = c.args.place in
+    let below : place < length left = omega (arith, c.requires.within.0, c.requires.within.1) in
+    let all = remove_range left (place + 1) c.args.next in
+    inl (
+      told_gone c.args.order.now all place l (above_hole left place c.args.next c.requires.within.0 below)
+          (subst (λ t. IsToldAt t all place) c.if-told.true c.requires.told) e,
+      hole_wider left place c.args.next c.requires.within.0 below,
+    )
+
+pub returns-then-told-clause-moved : goal.returns-then-told-clause-moved
+returns-then-told-clause-moved c = inl (
+  hole_wider c.args.left.now.items c.args.place c.args.next c.requires.within.0 (omega (arith, c.requires.within.0, c.requires.within.1)),
+  refl,
+)
 
 pub returns-then-goes-clause-lines : goal.returns-then-goes-clause-lines
 returns-then-goes-clause-lines c =

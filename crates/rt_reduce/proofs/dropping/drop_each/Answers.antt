@@ -1,4 +1,4 @@
-use Rattle.std.proofs.Common.{rules, ℕ, ◌≡◌, ◌+◌, ◌-◌, suc, [], List, All, Contains, true, length, take, replicate, sym, ap, subst, ◌∙◌, arith}
+use Rattle.std.proofs.Common.{rules, ℕ, ◌≡◌, ◌+◌, ◌-◌, suc, [], List, All, Contains, true, false, length, get_or, replicate, sym, ap, subst, ◌∙◌, arith}
 use Rattle.std.specs.List.{remove_range}
 use Rattle.std.proofs.lemmas.Grind.{common_steps}
 use Rattle.std.proofs.lemmas.List.{length-replicate}
@@ -7,12 +7,13 @@ use Rattle.rt_lines.specs.declared.line.Line.{Line}
 use Rattle.rt_lines.specs.Lines.{HasConstantsBelow}
 use Rattle.rt_named.specs.Naming.{named as named_by}
 use Rattle.rt_reduction.specs.Drops.{Drops}
-use Rattle.rt_reduce.specs.Deciding.{AreStanding, AreWitnessed, IsInnerFor, IsShapeAmong}
-use Rattle.rt_reduce.specs.Dropping.{Decides, IsKeptOrGone, IsMoved}
+use Rattle.rt_reduce.specs.Deciding.{AreStanding, AreWitnessed, IsInnerFor}
+use Rattle.rt_reduce.specs.Dropping.{Decides, IsKeptOrGone, IsMoved, IsToldAt}
 use Rattle.rt_reduce.proofs.Flags.{first_standing, first_witnessed, moved_long, moved_standing}
 use Rattle.rt_reduce.proofs.Holes.{no_hole}
-use Rattle.rt_reduce.proofs.Made.{first_inner, front_among, inner_stays}
+use Rattle.rt_reduce.proofs.Made.{first_inner, inner_stays}
 use Rattle.rt_reduce.proofs.Leaving.{AreLeft-all, AreLeft-next, AreLeft-none, left_below, left_long, left_stood}
+use Rattle.rt_reduce.proofs.Told.{told_left}
 use Rattle.rt_reduce.proofs.dropping.drop_each.Goals as goal
 
 pub loop-place-init : goal.loop-place-init
@@ -71,18 +72,16 @@ drop_before-requires-clause-inner c =
     IfSome_then c.args.inner c.loop-place.invariant.inner
     (λ t is. subst (λ n. IsInnerFor c.args.order.now (remove_range c.loop-place.left.items n c.loop-place.next) t.now) e is)
 
-pub drop_before-requires-clause-front : goal.drop_before-requires-clause-front
-drop_before-requires-clause-front c =
+pub drop_before-requires-clause-told : goal.drop_before-requires-clause-told
+drop_before-requires-clause-told c =
     let place = c.loop-place.place in
     let e : place ≡ (place - 1) + 1 = omega (arith, c.loop-place-test.true) in
+    let told = c.args.told.now in
     let left : ℕ → List Line = λ n. remove_range c.loop-place.left.items n c.loop-place.next in
     let inv = c.loop-place.invariant in
-    IfSome_then c.front_at-told.result c.front_at-told.ensures (λ s is.
-    subst (λ n. IsShapeAmong (take (place - 1) (left n)) s.now) e
-    (subst (λ g. IsShapeAmong (take (place - 1) (left place)) g) (sym is.0)
-    (front_among c.args.order.now c.args.lines.now (left place) c.args.count (place - 1) place c.args.front.now
-    inv.are_left (omega arith) is.1
-    (record { lines = take c.args.count c.args.lines.now; shape = c.requires.front; among = λ l d. d }))))
+    subst (λ n. IsToldAt (get_or told (place - 1) false) (left n) (place - 1)) e
+    (told_left c.args.order.now c.args.lines.now (left place) told (place - 1) place inv.are_left
+    (omega (arith, c.loop-place-test.true)) inv.inside c.requires.told)
 
 pub drop_before-requires-clause-witnesses : goal.drop_before-requires-clause-witnesses
 drop_before-requires-clause-witnesses c =

@@ -1,0 +1,4 @@
+pub mod Reaching
+pub mod Keeping
+pub mod Entering
+pub mod Derived
