@@ -6,6 +6,7 @@ pub mod Lowering
 pub mod Inner
 pub mod Pushing
 pub mod Swept
+pub mod Sought
 pub mod Closed
 pub mod Standing
 pub mod Joining

@@ -95,11 +95,11 @@ pub side_toward : (origins : Origins) (steps : List ((ℕ × Label) × ℕ)) (ar
 side_toward origins steps arcs back stands frame Co v w = (λ e. e, λ e. e)
 side_toward origins steps arcs back stands frame Contra v w = (λ e. (e.0, (frame.turned w v e.0).1 e.1, e.2), λ e. (e.0, (frame.turned w v e.0).0 e.1, e.2))
 
--- what a search of a side found without anything fresh
-pub swept_done : (origins : Origins) (steps : List ((ℕ × Label) × ℕ)) (arcs back : List (List Arc)) (stands : List Bool) (v p : ℕ) (l : Label) (known fresh found : List ℕ) → IsFrame origins steps arcs back → IsMade origins v p l →
-    ((w : ℕ) → Contains known w → Reaches (Leads arcs [] true) v w) → ((w : ℕ) → Contains fresh w → ⊥) →
-    IsSwept (Leads (side_of (label_variance l) arcs back) stands true) (end_of steps p l) (λ w. Contains known w ⊎ Contains fresh w) p found → IsDoneAt origins steps arcs stands v
-swept_done origins steps arcs back stands v p l known fresh found frame made is none s a m made_by =
+-- what a search of a side found, to whose ends pushed arcs lead
+pub swept_done : (origins : Origins) (steps : List ((ℕ × Label) × ℕ)) (arcs back : List (List Arc)) (stands : List Bool) (v p : ℕ) (l : Label) (noted found : List ℕ) → IsFrame origins steps arcs back → IsMade origins v p l →
+    ((w : ℕ) → Contains noted w → Reaches (Leads arcs [] true) v w) →
+    IsSwept (Leads (side_of (label_variance l) arcs back) stands true) (end_of steps p l) (Contains noted) p found → IsDoneAt origins steps arcs stands v
+swept_done origins steps arcs back stands v p l noted found frame made is s a m made_by =
     let same : (a ≡ p) × (m ≡ l) = same_parent origins v a p m l made_by made in (
       found,
       subst (λ b. IsSwept (toward (label_variance m) (Leads arcs stands true)) (end_of steps b m) (λ w. Reaches (Leads arcs [] true) v w) b found) (sym same.0)
@@ -110,7 +110,7 @@ swept_done origins steps arcs back stands v p l known fresh found frame made is 
     swept = record {
       start = s.start;
       onward = λ q w c e t. s.onward q w c e ((side_toward origins steps arcs back stands frame (label_variance l) q w).1 t);
-      ended = λ q w c e. (elim (s.ended q w c e) [ inl k ↦ is w k | inr f ↦ absurd (none w f) ]);
+      ended = λ q w c e. is w (s.ended q w c e);
     }
 
 -- an end is pushed to

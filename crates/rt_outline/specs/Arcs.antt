@@ -22,14 +22,16 @@ MayLead Edge sources targets = (s : ℕ) × (t : ℕ) × Contains sources s × R
 
 -- one or more arcs lead from one of the numbers to one of the others
 abbrev pub AreLed : (ℕ → ℕ → Type 0) → List ℕ → List ℕ → Type 0
-AreLed Edge sources targets = (s : ℕ) × (v : ℕ) × (t : ℕ) × Contains sources s × Edge s v × Reaches Edge v t × Contains targets t
+AreLed Edge sources targets = (s : ℕ) × (v : ℕ) × (t : ℕ) × Contains sources s × Edge s v × Reaches Edge v t ×
+    Contains targets t
 
 -- an arc more
 pub record IsAdded (from : ℕ) (arc : Arc) (old new : List (List Arc)) : Type 0 where
   pub each : length new ≡ length old
   pub kept : (v w : ℕ) (line : Option ℕ) → HasArc old v w line → HasArc new v w line
   pub added : HasArc new from arc.to arc.line
-  pub only : (v w : ℕ) (line : Option ℕ) → HasArc new v w line → HasArc old v w line ⊎ ((v ≡ from) × (w ≡ arc.to) × (line ≡ arc.line))
+  pub only : (v w : ℕ) (line : Option ℕ) → HasArc new v w line →
+      HasArc old v w line ⊎ ((v ≡ from) × (w ≡ arc.to) × (line ≡ arc.line))
 
 -- the same arcs the other way
 abbrev pub AreTurned : List (List Arc) → List (List Arc) → Type 0

@@ -17,7 +17,8 @@ AreThere lines extra = (order : Below) (x : Dtv) → Contains extra x → Deriva
 
 -- where arcs lead from one variable to another it lies below the other by the lines
 abbrev pub IsInner : List Line → List Dtv → List (List Arc) → List Bool → Type 0
-IsInner lines named arcs stands = (order : Below) (v w : ℕ) → v < length named → w < length named → Reaches (Leads arcs stands true) v w →
+IsInner lines named arcs stands = (order : Below) (v w : ℕ) → v < length named → w < length named →
+    Reaches (Leads arcs stands true) v w →
     Derivable order lines (Sub (variable_at named v) (variable_at named w))
 
 -- where a variable lies below another by the lines that stand, arcs of these and pushed ones lead from one to the other

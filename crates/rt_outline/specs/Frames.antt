@@ -32,7 +32,8 @@ abbrev pub step_of : List ((ℕ × Label) × ℕ) → ℕ → Label → Option �
 step_of steps p l = lookup (letter_eq (p, l)) steps
 
 -- the step is set to a node, if it is of that origin, and else is as it was
-abbrev pub IsSetAt : Option (ℕ × Label) → ℕ → ℕ → Label → List ((ℕ × Label) × ℕ) → List ((ℕ × Label) × ℕ) → Type 0
+abbrev pub IsSetAt : Option (ℕ × Label) → ℕ → ℕ → Label → List ((ℕ × Label) × ℕ) →
+    List ((ℕ × Label) × ℕ) → Type 0
 IsSetAt origin node p l old new = ((origin ≡ Some (p, l)) × (step_of new p l ≡ Some node)) ⊎
     ((origin ≡ Some (p, l) → ⊥) × (step_of new p l ≡ step_of old p l))
 

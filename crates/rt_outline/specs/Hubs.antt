@@ -40,7 +40,8 @@ AreHubs origins hubs = (key : ℕ × Label) (hub : ℕ) → lookup (letter_eq ke
 
 -- hubs stay those of their keys
 abbrev pub AreHubsKept : List ((ℕ × Label) × ℕ) → List ((ℕ × Label) × ℕ) → Type 0
-AreHubsKept old new = (key : ℕ × Label) (hub : ℕ) → lookup (letter_eq key) old ≡ Some hub → lookup (letter_eq key) new ≡ Some hub
+AreHubsKept old new = (key : ℕ × Label) (hub : ℕ) → lookup (letter_eq key) old ≡ Some hub →
+    lookup (letter_eq key) new ≡ Some hub
 
 -- nodes with more behind them, and arcs with more
 pub record IsGrownBy (old : Origins) (arcs : List (List Arc)) (new : Origins) (next : List (List Arc)) : Type 0 where

@@ -1,5 +1,5 @@
 -- Searches that end at the nearest nodes behind a letter.
-use Rattle.std.specs.Prelude.{◌≡◌, ℕ, ◌⊎◌, List, [], Bool, cond, nat_eq, Contains, Option, Some, None, true}
+use Rattle.std.specs.Prelude.{◌≡◌, ℕ, List, [], Bool, cond, nat_eq, Contains, Option, Some, None, true}
 use Rattle.rt_lines.specs.declared.label.Label.{Label}
 use Rattle.rt_lines.specs.declared.label.Variance.{Variance}
 use Rattle.rt_lines.specs.declared.label.Variance.TheVariants.{Co, Contra}
@@ -19,7 +19,8 @@ toward Co Edge v w = Edge v w
 toward Contra Edge v w = Edge w v
 
 -- what is found from a node: where a search doesn't end it goes on, and where it ends something holds of the end
-pub record IsSwept (Edge : ℕ → ℕ → Type 0) (end : ℕ → Option ℕ) (P : ℕ → Type 0) (p : ℕ) (found : List ℕ) : Type 0 where
+pub record IsSwept (Edge : ℕ → ℕ → Type 0) (end : ℕ → Option ℕ) (P : ℕ → Type 0) (p : ℕ) (found : List ℕ)
+    : Type 0 where
   pub start : Contains found p
   pub onward : (q w : ℕ) → Contains found q → end q ≡ None → Edge q w → Contains found w
   pub ended : (q w : ℕ) → Contains found q → end q ≡ Some w → P w
@@ -33,11 +34,9 @@ abbrev pub IsDoneAt : Origins → List ((ℕ × Label) × ℕ) → List (List Ar
 IsDoneAt origins steps arcs stands v = (p : ℕ) (l : Label) → IsMade origins v p l → (found : List ℕ) ×
     IsSwept (toward (label_variance l) (Leads arcs stands true)) (end_of steps p l) (λ w. Reaches (Leads arcs [] true) v w) p found
 
--- an end is known, or noted
-pub record IsNoted (end : Option ℕ) (known old new : List ℕ) : Type 0 where
-  pub kept : (w : ℕ) → Contains old w → Contains new w
-  pub ended : (w : ℕ) → end ≡ Some w → Contains known w ⊎ Contains new w
-  pub only : (w : ℕ) → Contains new w → Contains old w ⊎ (end ≡ Some w)
+-- each of the numbers is one of the others, or reached from one
+abbrev pub AreReached : (ℕ → ℕ → Type 0) → List ℕ → List ℕ → Type 0
+AreReached Edge old new = (w : ℕ) → Contains new w → (v : ℕ) × Contains old v × Reaches Edge v w
 
 -- arcs, or the same the other way, by a sign
 abbrev pub side_of : Variance → List (List Arc) → List (List Arc) → List (List Arc)

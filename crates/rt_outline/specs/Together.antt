@@ -8,7 +8,8 @@ use Rattle.rt_outline.specs.Arcs.{allows}
 -- numbers of so many nodes, equal exactly where edges lead both ways
 pub record AreTogetherBy (Edge : ℕ → ℕ → Type 0) (count : ℕ) (numbers : List ℕ) : Type 0 where
   pub each : length numbers ≡ count
-  pub equal : (i j : ℕ) → i < count → j < count → (slice_index_or numbers i 0 ≡ slice_index_or numbers j 0) ↔ AreTogether Edge i j
+  pub equal : (i j : ℕ) → i < count → j < count →
+      (slice_index_or numbers i 0 ≡ slice_index_or numbers j 0) ↔ AreTogether Edge i j
 
 -- the graph has so many nodes, and its edges are the pairs
 pub record IsGraphOf (pairs : List (ℕ × ℕ)) (count : ℕ) (graph : List (List ℕ)) : Type 0 where

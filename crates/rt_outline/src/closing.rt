@@ -12,8 +12,8 @@ use std::alloc::{AllocError, Global};
 // More passes than can be made.
 const PASSES: u64 = 0xff_ffff_ffff;
 
-// Adds pushed arcs until ways of them lead wherever something is pushed from a way of arcs. A pass adds few arcs of a node,
-// to the nearest of these alone, and the next pass twice as many: where ways of pushed arcs lead there need be none.
+// Adds pushed arcs until ways of them lead wherever something is pushed from a way of arcs. A pass adds arcs of a node to the
+// nearest of these alone: where ways of pushed arcs lead there need be none.
 pub(crate) fn close(alloc: Global, frame: &mut Frame, stands: &[bool]) -> Result<(), Memory>
     requires { IsFrame frame.old.origins.items frame.old.steps.entries frame.old.arcs.items frame.old.back.items }
     ensures frame { OnOk result (IsFrame frame.new.origins.items frame.new.steps.entries frame.new.arcs.items frame.new.back.items) }
@@ -21,20 +21,17 @@ pub(crate) fn close(alloc: Global, frame: &mut Frame, stands: &[bool]) -> Result
     ensures more { OnOk result (IsPushedMore frame.old.origins.items stands.now frame.old.arcs.items frame.new.arcs.items) }
     ensures closed { OnOk result (IsClosed frame.new.origins.items frame.new.arcs.items stands.now) }
 {
-    let mut limit: usize = 1;
     for _round in 0..PASSES {
-        let added = pass(alloc, frame, stands, limit)?;
+        let added = pass(alloc, frame, stands)?;
         if !added {
             return Ok(());
         }
-        limit = limit.saturating_mul(2);
     }
     Err(AllocError)
 }
 
 // Adds what is pushed to the nearest nodes from each node, those first of which others are made. Whether there was any.
-fn pass(alloc: Global, frame: &mut Frame, stands: &[bool], limit: usize) -> Result<bool, Memory>
-    requires limit { 0 < limit }
+fn pass(alloc: Global, frame: &mut Frame, stands: &[bool]) -> Result<bool, Memory>
     requires frame { IsFrame frame.old.origins.items frame.old.steps.entries frame.old.arcs.items frame.old.back.items }
     ensures frame { OnOk result (IsFrame frame.new.origins.items frame.new.steps.entries frame.new.arcs.items frame.new.back.items) }
     ensures origins { OnOk result (frame.new.origins.items ≡ frame.old.origins.items) }
@@ -45,7 +42,7 @@ fn pass(alloc: Global, frame: &mut Frame, stands: &[bool], limit: usize) -> Resu
     let mut room = Room::new(alloc, count)?;
     let mut added = false;
     for node in 0..count as u32 {
-        if push_node(alloc, frame, stands, &mut room, node, limit)? {
+        if push_node(alloc, frame, stands, &mut room, node)? {
             added = true;
         }
     }
@@ -59,9 +56,7 @@ fn push_node(
     stands: &[bool],
     room: &mut Room,
     node: u32,
-    limit: usize,
 ) -> Result<bool, Memory>
-    requires limit { 0 < limit }
     requires frame { IsFrame frame.old.origins.items frame.old.steps.entries frame.old.arcs.items frame.old.back.items }
     requires node { node < length frame.old.origins.items }
     ensures frame { OnOk result (IsFrame frame.new.origins.items frame.new.steps.entries frame.new.arcs.items frame.new.back.items) }
@@ -73,7 +68,7 @@ fn push_node(
 {
     match frame.origins[node as usize] {
         Some(origin) => {
-            let fresh = ends(alloc, frame, stands, room, node, origin, limit)?;
+            let fresh = ends(alloc, frame, stands, room, node, origin)?;
             enter(frame, node, &fresh)?;
             Ok(!fresh.is_empty())
         }

@@ -58,6 +58,13 @@ impl Found {
         }
     }
 
+    // The numbers in the order in which they were found.
+    pub(crate) fn numbers(&self) -> &[u32]
+        ensures { result.now ≡ self.now }
+    {
+        &self.numbers
+    }
+
     // The number that was found at an index.
     pub(crate) fn get(&self, index: usize) -> Option<u32>
         ensures { result ≡ slice_get self.now index }

@@ -16,6 +16,7 @@ mod hubs;
 mod led;
 mod lower;
 mod resting;
+mod seeking;
 mod spreading;
 mod sweeping;
 mod upper;

@@ -1,14 +1,13 @@
-use Rattle.std.proofs.Common.{refl, subst, ◌∙◌, arith, rules}
+use Rattle.std.proofs.Common.{refl, subst, ◌∙◌}
 use Rattle.rt_outline.specs.Frames.{IsPushedMore}
 use Rattle.rt_outline.proofs.Closed.{more_more, more_same}
 use Rattle.rt_outline.proofs.closing.close.Goals as goal
 
 pub loop-round-init : goal.loop-round-init
-loop-round-init c = record { limit = omega arith; frame = c.requires; origins = refl; more = more_same c.args.frame.now.origins.items c.args.stands.now c.args.frame.now.arcs.items }
+loop-round-init c = record { frame = c.requires; origins = refl; more = more_same c.args.frame.now.origins.items c.args.stands.now c.args.frame.now.arcs.items }
 
 pub loop-round-preserved : goal.loop-round-preserved
 loop-round-preserved c = record {
-  limit = (let h = c.loop-round.invariant.limit in search rules);
   frame = c.in_ok-added.ensures.frame;
   origins = c.in_ok-added.ensures.origins ∙ c.loop-round.invariant.origins;
   more = more_more c.args.frame.now.origins.items c.args.stands.now c.args.frame.now.arcs.items c.loop-round.frame.arcs.items c.pass.new.frame.arcs.items c.loop-round.invariant.more

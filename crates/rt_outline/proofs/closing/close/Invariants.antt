@@ -1,10 +1,9 @@
-use Rattle.std.proofs.Common.{◌≡◌, ◌<◌}
+use Rattle.std.proofs.Common.{◌≡◌}
 use Rattle.rt_outline.specs.Frames.{IsFrame, IsPushedMore}
 use Rattle.rt_outline.proofs.closing.close.Given as goal
 
 abbrev pub invariant-loop-round : goal.invariant-loop-round
 invariant-loop-round l = record {
-  limit : 0 < l.limit;
   frame : IsFrame l.frame.origins.items l.frame.steps.entries l.frame.arcs.items l.frame.back.items;
   origins : l.frame.origins.items ≡ l.fn.frame.origins.items;
   more : IsPushedMore l.fn.frame.origins.items l.stands l.fn.frame.arcs.items l.frame.arcs.items;

@@ -1,6 +1,5 @@
-use Rattle.std.proofs.Common.{◌⊎◌, true, List, [], Contains, subst}
+use Rattle.std.proofs.Common.{true, List, [], Contains, subst}
 use Rattle.rt_outline.specs.declared.arc.Arc.{Arc}
-use Rattle.rt_base.proofs.Lists.{Contains-none}
 use Rattle.rt_components.specs.Groups.{Reaches}
 use Rattle.rt_outline.specs.Arcs.{Leads}
 use Rattle.rt_outline.specs.Sweeps.{IsEnd, IsSwept, end_of}
@@ -10,12 +9,11 @@ use Rattle.rt_outline.proofs.sweeping.ends.Goals as goal
 pub returns-clause-pushed : goal.returns-clause-pushed
 returns-clause-pushed c = λ w h.
     end_pushed c.args.frame.now.origins.items c.args.frame.now.steps.entries c.args.frame.now.arcs.items c.args.frame.now.back.items c.args.stands.now c.args.node c.args.origin.0 c.args.origin.1 w c.requires.frame c.requires.made
-    (subst (λ xs. IsEnd (Leads xs c.args.stands.now true) c.args.frame.now.steps.entries c.args.origin.0 c.args.origin.1 w) c.side-arcs.ensures (c.in_ok-fresh.ensures.ends w h))
+    (subst (λ xs. IsEnd (Leads xs c.args.stands.now true) c.args.frame.now.steps.entries c.args.origin.0 c.args.origin.1 w) c.side-arcs.ensures (c.in_ok-sweep.ensures.ends w (c.in_ok-fresh.ensures.only w h)))
 
 pub returns-clause-done : goal.returns-clause-done
 returns-clause-done c = λ e.
     swept_done c.args.frame.now.origins.items c.args.frame.now.steps.entries c.args.frame.now.arcs.items c.args.frame.now.back.items c.args.stands.now c.args.node c.args.origin.0 c.args.origin.1
-    c.know.new.known c.in_ok-fresh.fresh.items c.sweep.new.room.found c.requires.frame c.requires.made
-    (λ w k. subst (λ (ys : List (List Arc)). Reaches (Leads ys [] true) c.args.node w) c.deref.ensures.value (c.in_ok-know.ensures w k))
-    (λ w h. Contains-none w (subst (λ xs. Contains xs w) e h))
-    (subst (λ xs. IsSwept (Leads xs c.args.stands.now true) (end_of c.args.frame.now.steps.entries c.args.origin.0 c.args.origin.1) (λ w. Contains c.know.new.known w ⊎ Contains c.in_ok-fresh.fresh.items w) c.args.origin.0 c.sweep.new.room.found) c.side-arcs.ensures (c.in_ok-fresh.ensures.swept e))
+    c.sweep.new.room.ends c.sweep.new.room.found c.requires.frame c.requires.made
+    (λ w k. subst (λ (ys : List (List Arc)). Reaches (Leads ys [] true) c.args.node w) c.deref.ensures.value (c.in_ok-fresh.ensures.none e w k))
+    (subst (λ xs. IsSwept (Leads xs c.args.stands.now true) (end_of c.args.frame.now.steps.entries c.args.origin.0 c.args.origin.1) (Contains c.sweep.new.room.ends) c.args.origin.0 c.sweep.new.room.found) c.side-arcs.ensures c.in_ok-sweep.ensures.swept)
