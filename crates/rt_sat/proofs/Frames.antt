@@ -17,8 +17,11 @@ use Rattle.rt_named.specs.Laws.{IsPrefix, IsGiven}
 use Rattle.rt_named.specs.Nodes.{flips_at, AreNodesOf, AreFlipsOf}
 use Rattle.rt_named.proofs.Contents.{contents_law, once_law}
 use Rattle.rt_sat.specs.Deciding.{flips_by}
+use Rattle.rt_sat.specs.declared.state.Edge.{Edge}
+use Rattle.rt_sat.specs.declared.table.Begun.{Begun}
 use Rattle.rt_sat.specs.Numbered.{at_number, AreDistinct}
-use Rattle.rt_sat.specs.Tables.{AreFlagged, AreThere, FrameLaw}
+use Rattle.rt_sat.specs.Pushes.{IsClosing}
+use Rattle.rt_sat.specs.Tables.{AreFlagged, AreThere, FrameLaw, IsBegun, IsTableOf}
 use Rattle.rt_sat.proofs.Deciding.{are_flips}
 
 -- flags of nodes are flags of the variables
@@ -62,3 +65,22 @@ module _ (lines : List Line) (extra known : List Dtv) (is : known ≡ named_by l
 
   pub extra_named : (x : Dtv) → Contains extra x → Contains known x
   extra_named x c = given_named x (inr c)
+
+-- what a table begins with, and all that is pushed, are a table
+abbrev pub begun_table : (lines : List Line) (extra : List Dtv) (marks : List Bool) (begun : Begun) → IsBegun lines extra marks begun → (edges : List Edge) →
+    IsClosing begun.frame.named begun.frame.flips.items begun.frame.matters.items begun.first.items edges → IsTableOf lines extra begun.frame.named edges
+begun_table lines extra marks begun is edges closing = record {
+  graph = is.graph;
+  flips = begun.frame.flips.items;
+  marks = marks;
+  matters = begun.frame.matters.items;
+  first = begun.first.items;
+  is_named = is.is_named;
+  shape = is.shape;
+  flagged = is.flagged;
+  marked = is.marked;
+  mattering = is.mattering;
+  extra_there = is.extra_there;
+  entered = is.entered;
+  closing = closing;
+}

@@ -13,7 +13,6 @@ pub mod Entered
 pub mod Frames
 pub mod Mattering
 pub mod Marks
-pub mod Sources
 pub mod Below
 pub mod Bounded
 pub mod Probes

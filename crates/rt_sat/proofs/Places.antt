@@ -23,7 +23,7 @@ key_parts a b false false e = (omega (arith, e), refl)
 key_parts a b true false e = absurd (omega (arith, e))
 key_parts a b false true e = absurd (omega (arith, e))
 
-key_one : (s t : State) → key_of s ≡ key_of t → s ≡ t
+pub key_one : (s t : State) → key_of s ≡ key_of t → s ≡ t
 key_one s t e =
     let p : (s.variable ≡ t.variable) × (s.contra ≡ t.contra) = key_parts s.variable t.variable s.contra t.contra e in
     λ i. record { variable = p.0 i; contra = p.1 i }

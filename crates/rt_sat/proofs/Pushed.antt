@@ -1,4 +1,4 @@
--- Edges more, and what is pushed to children.
+-- What is pushed to children.
 use Rattle.std.proofs.Common.{◌≡◌, ℕ, ◌<◌, ◌≤◌, ◌⊎◌, inl, inr, Bool, true, false, List, [], length, get_or, Contains, refl, sym, ap, subst, ◌∙◌, arith}
 use Rattle.rt_lines.specs.declared.label.Label.{Label}
 use Rattle.rt_lines.specs.declared.label.Label.TheVariants.{Load, Store, In, Out, Field}
@@ -10,8 +10,10 @@ use Rattle.rt_rules.specs.Rules.{longer}
 use Rattle.rt_bridge.specs.Counted.{IsPointer}
 use Rattle.rt_sat.specs.declared.state.State.{State}
 use Rattle.rt_sat.specs.declared.state.Edge.{Edge}
+use Rattle.rt_sat.specs.declared.layers.Layers.{Layers}
+use Rattle.rt_sat.proofs.Growing.{grown_as, noted_as}
 use Rattle.rt_sat.specs.Numbered.{sign_of, is_contra, at_number, AreDistinct}
-use Rattle.rt_sat.specs.Pushes.{IsChildOf, AreChildren, PushBy, asked_of, matter_at, IsPushed, IsPushedTo, IsPushedOn, IsDoneAt, IsDoneTo, IsDoneOn, IsGrown, IsClosedFrom, IsNeeding, flip_at, needed_of}
+use Rattle.rt_sat.specs.Pushes.{IsChildOf, AreChildren, PushBy, asked_of, matter_at, IsPushed, IsPushedTo, IsPushedOn, IsDoneAt, IsDoneTo, IsDoneOn, IsGrown, IsNoted, IsClosedFrom, IsNeeding, flip_at, needed_of}
 use Rattle.rt_sat.specs.Searches.{state_eq, Allows, IsKnown, IsWithin, IsSearch}
 use Rattle.rt_sat.proofs.Searching.{state_equal, allows_less}
 use Rattle.std.specs.Prelude.{slice_get, Option, Some, None}
@@ -21,21 +23,6 @@ use Rattle.std.proofs.lemmas.Map.Entries.{place_from_lookup}
 use Rattle.rt_sat.proofs.Numbered.{sign_contra, contra_sign, number_one}
 use Rattle.rt_named.proofs.Making.{no_base, last_letter}
 use Rattle.rt_chain.proofs.Digits.{bit-small, times-twice}
-
-pub grown_more : (P Q R : Edge → Type 0) (a b c : List Edge) → ((e : Edge) → P e → R e) → ((e : Edge) → Q e → R e) → IsGrown P a b → IsGrown Q b c → IsGrown R a c
-grown_more P Q R a b c f g p q = record {
-  only = λ e h. (elim (q.only e h) [
-    | inl i ↦ elim (p.only e i) [ inl j ↦ inl j | inr j ↦ inr (f e j) ]
-    | inr i ↦ inr (g e i)
-  ]);
-  kept = λ h. p.kept (q.kept h);
-}
-
-pub grown_none : (P : Edge → Type 0) (a : List Edge) → IsGrown P a a
-grown_none P a = record { only = λ e h. inl h; kept = λ h. h }
-
-pub grown_as : (P R : Edge → Type 0) (a b : List Edge) → ((e : Edge) → P e → R e) → IsGrown P a b → IsGrown R a b
-grown_as P R a b f p = record { only = λ e h. (elim (p.only e h) [ inl i ↦ inl i | inr i ↦ inr (f e i) ]); kept = p.kept }
 
 -- what a letter says of the sign of a child
 pub sign_child : (s : Variance) (child parent : Bool) → times s (sign_of child) ≡ sign_of parent → child ≡ is_contra (times s (sign_of parent))
@@ -72,11 +59,11 @@ child_one known apart end target other m l e c d =
     (λ i. record { variable = sym e i; contra = sym s i }, sym p.1)
 
 module _ (known : List Dtv) (flip : Bool) (first : Label) (source other : State) (count : ℕ) (most : Option ℕ) (found : List (State × ℕ)) where
-  pub child_grown : (target : State) (second : Label) (old new : List Edge) → IsChildOf known target other second →
-      IsGrown (λ (e : Edge). (e.from ≡ source) × (e.to ≡ target) × PushBy flip first second count (sign_of source.contra) (sign_of target.contra) e.count) old new →
-      IsGrown (λ (e : Edge). (e.from ≡ source) × IsPushedTo known flip first other count (sign_of source.contra) e.to e.count) old new
-  child_grown target second old new c g =
-      grown_as (λ (e : Edge). (e.from ≡ source) × (e.to ≡ target) × PushBy flip first second count (sign_of source.contra) (sign_of target.contra) e.count) (λ (e : Edge). (e.from ≡ source) × IsPushedTo known flip first other count (sign_of source.contra) e.to e.count) old new
+  pub child_noted : (target : State) (second : Label) (old new : Layers) (after : List (State × ℕ)) → IsChildOf known target other second →
+      IsNoted (λ (e : Edge). (e.from ≡ source) × (e.to ≡ target) × PushBy flip first second count (sign_of source.contra) (sign_of target.contra) e.count) old new found after →
+      IsNoted (λ (e : Edge). (e.from ≡ source) × IsPushedTo known flip first other count (sign_of source.contra) e.to e.count) old new found after
+  child_noted target second old new after c g =
+      noted_as (λ (e : Edge). (e.from ≡ source) × (e.to ≡ target) × PushBy flip first second count (sign_of source.contra) (sign_of target.contra) e.count) (λ (e : Edge). (e.from ≡ source) × IsPushedTo known flip first other count (sign_of source.contra) e.to e.count) old new found after
       (λ e p. (p.0, (second, subst (λ t. IsChildOf known t other second) (sym p.1) c, subst (λ (t : State). PushBy flip first second count (sign_of source.contra) (sign_of t.contra) e.count) (sym p.1) p.2))) g
 
   pub child_done : AreDistinct known → (target : State) (second : Label) → IsChildOf known target other second →
@@ -106,7 +93,7 @@ module _ (known : List Dtv) (flip : Bool) (first : Label) (source other : State)
 
 -- walks of one parent, and what is known along pushed edges from its child
 module _ (known : List Dtv) (flips matters : List Bool) (edges pushed : List Edge) (source parent : State) (first : Label) (child : IsChildOf known source parent first) (reached found : List (State × ℕ)) (needed most : Option ℕ) (search : IsSearch needed edges parent reached) (back : IsSearch most pushed source found) where
-  pub from_grown : (old new : List Edge) →
+  pub from_grown : (old new : Layers) →
       IsGrown (λ (e : Edge). (e.from ≡ source) × IsPushedOn known (flip_at flips parent.variable) first (sign_of source.contra) reached e.to e.count) old new → IsGrown (IsPushed known flips edges) old new
   from_grown old new g =
       grown_as (λ (e : Edge). (e.from ≡ source) × IsPushedOn known (flip_at flips parent.variable) first (sign_of source.contra) reached e.to e.count) (IsPushed known flips edges) old new

@@ -10,6 +10,7 @@ use Rattle.rt_rules.proofs.Lists.{Contains-none, Contains-here, Contains-cons_ca
 use Rattle.rt_sat.specs.declared.state.State.{State}
 use Rattle.rt_sat.specs.declared.state.Edge.{Edge}
 use Rattle.rt_sat.specs.contracts.state.StateEq.TheImpl.Laws as state_laws
+use Rattle.rt_sat.specs.Reached.{key_of}
 use Rattle.rt_sat.specs.Searches.{state_eq, turned, Walk, stays, turns, steps, IsKnown, IsWithin, Allows, AreNoted, IsRelaxed, AreRelaxed, AreFallen, IsOffered, IsIndexed, IsSearch, IsVisited, IsPassed, IsFollowed}
 use Rattle.rt_sat.proofs.Weighed.{known_one}
 
@@ -50,6 +51,9 @@ allows_nought (Some m) = omega arith
 module _ (old new : List (State × ℕ)) (to : State) (count : ℕ) (updates : (q : State) → lookup (state_eq q) new ≡ cond (state_eq to q) (Some count) (lookup (state_eq q) old)) where
   here : (s : State) → to ≡ s → IsKnown new s count
   here s e = updates s ∙ ap (λ b. cond b (Some count) (lookup (state_eq s) old)) (ap (λ t. state_eq t s) e ∙ state_self s)
+
+  pub put_down : IsKnown new to count
+  put_down = here to refl
 
   elsewhere : (s : State) → state_eq to s ≡ false → lookup (state_eq s) new ≡ lookup (state_eq s) old
   elsewhere s e = updates s ∙ ap (λ b. cond b (Some count) (lookup (state_eq s) old)) e
@@ -202,21 +206,21 @@ passed-split edges items i e h f g p = by (cases_eq p.0 i)
     by (inl s) = inr (sym p.2 ∙ ap (λ n. get_or edges (get_or items n 0) g) s ∙ get_or_default edges (get_or items i 0) g e h ∙ sym f)
     by (inr n) = inl (p.0, (let less = p.1 in omega arith), p.2)
 
--- all edges that leave a state are among those of its variable's indices
+-- all edges that leave a state are among those of its indices
 pub passed_all : (edges : List Edge) (out : List (List ℕ)) (state : State) (e : Edge) → IsIndexed edges out → Contains edges e → e.from ≡ state →
-    IsPassed edges (get_or out state.variable []) (length (get_or out state.variable [])) e
+    IsPassed edges (get_or out (key_of state) []) (length (get_or out (key_of state) [])) e
 passed_all edges out state e indexed c f =
-    let a : (i : ℕ) × Contains (get_or out e.from.variable []) i × (i < length edges) × (get_or edges i e ≡ e) = indexed.all e c in
-    let d : Contains (get_or out state.variable []) a.0 = subst (λ (s : State). Contains (get_or out s.variable []) a.0) f a.1 in
-    (d.0, d.1, ap (λ n. get_or edges n e) (get_or_default (get_or out state.variable []) d.0 0 a.0 d.1 ∙ d.2) ∙ a.3)
+    let a : (i : ℕ) × Contains (get_or out (key_of e.from) []) i × (i < length edges) × (get_or edges i e ≡ e) = indexed.all e c in
+    let d : Contains (get_or out (key_of state) []) a.0 = subst (λ (s : State). Contains (get_or out (key_of s) []) a.0) f a.1 in
+    (d.0, d.1, ap (λ n. get_or edges n e) (get_or_default (get_or out (key_of state) []) d.0 0 a.0 d.1 ∙ d.2) ∙ a.3)
 
 -- from a visit of the first indices to all edges
 pub visited_whole : (most : Option ℕ) (edges : List Edge) (out : List (List ℕ)) (old mid new : List (State × ℕ)) (active between next rest : List State) (state : State) (count : ℕ) → IsIndexed edges out → IsKnown old state count →
     IsOffered most old mid active between (turned state) (1 + count) →
-    IsFollowed most edges (get_or out state.variable []) mid new between next state count (length (get_or out state.variable [])) →
+    IsFollowed most edges (get_or out (key_of state) []) mid new between next state count (length (get_or out (key_of state) [])) →
     IsVisited most edges old new active next state count (Contains edges)
 visited_whole most edges out old mid new active between next rest state count indexed known offered followed =
-    visited_more most edges old active state count known new next (IsPassed edges (get_or out state.variable []) (length (get_or out state.variable []))) (Contains edges)
+    visited_more most edges old active state count known new next (IsPassed edges (get_or out (key_of state) []) (length (get_or out (key_of state) []))) (Contains edges)
     (λ g c f. passed_all edges out state g indexed c f)
     (followed.follows old active known (visited_turn most edges old active state count known mid between offered))
 
@@ -224,15 +228,6 @@ visited_whole most edges out old mid new active between next rest state count in
 pub follows_none : (most : Option ℕ) (edges : List Edge) (items : List ℕ) (found : List (State × ℕ)) (next : List State) (state : State) (count : ℕ) → IsFollowed most edges items found found next next state count 0
 follows_none most edges items found next state count = record {
   follows = λ old active known v. visited_more most edges old active state count known found next (λ e. ⊥) (IsPassed edges items 0) (λ g p f. (let less = p.1 in omega arith)) v;
-}
-
--- an index of another state's edge
-pub follows_other : (most : Option ℕ) (edges : List Edge) (items : List ℕ) (before found : List (State × ℕ)) (first next : List State) (state : State) (count i : ℕ) (e : Edge) → get_or items i 0 < length edges → e ≡ get_or edges (get_or items i 0) e →
-    (e.from ≡ state → ⊥) → IsFollowed most edges items before found first next state count i → IsFollowed most edges items before found first next state count (i + 1)
-follows_other most edges items before found first next state count i e h f apart w = record {
-  follows = λ old active known v. visited_more most edges old active state count known found next (IsPassed edges items i) (IsPassed edges items (i + 1))
-      (λ g p q. elim (passed-split edges items i e h f g p) [ inl d ↦ d | inr s ↦ absurd (apart (ap (λ (z : Edge). z.from) (sym s) ∙ q)) ])
-      (w.follows old active known v);
 }
 
 -- an index of an edge of the state
@@ -245,13 +240,6 @@ follows_edge most edges items before mid found first between next state count i 
 
 pub differ : (a b : State) (r : Bool) → r ≡ not (state_eq a b) → r ≡ true → a ≡ b → ⊥
 differ a b r e f g = let h : state_eq a b ≡ true = subst (λ z. state_eq a z ≡ true) g (state_self a) in let k : r ≡ false = e ∙ ap not h in absurd (cc)
-
-pub agree : (a b : State) (r : Bool) → r ≡ not (state_eq a b) → r ≡ false → a ≡ b
-agree a b r e f = by (state_eq a b) refl
-  where
-    by : (c : Bool) → state_eq a b ≡ c → a ≡ b
-    by true g = state_equal a b g
-    by false g = let k : r ≡ true = e ∙ ap not g in absurd (cc)
 
 -- the start alone
 pub begun : (most : Option ℕ) (edges : List Edge) (old new : List (State × ℕ)) (start : State) (count : ℕ) → count ≡ 0 → ((s : State) (k : ℕ) → IsKnown old s k → ⊥) →

@@ -31,7 +31,8 @@ IsLineEdge known x y e = IsEdgeOf known e (st (vd x) Co) (st (vd y) Co) ⊎ IsEd
 -- the edges are those of the subtype lines, and of them turned round
 pub record AreLineEdges (lines : List Line) (known : List Dtv) (edges : List Edge) : Type 0 where
   pub forth : (x y : Dtv) → Contains lines (Sub x y) → (e : Edge) × Contains edges e × IsEdgeOf known e (st (vd x) Co) (st (vd y) Co)
-  pub back : (x y : Dtv) → Contains lines (Sub x y) → (e : Edge) × Contains edges e × IsEdgeOf known e (st (vd y) Contra) (st (vd x) Contra)
+  pub back : (x y : Dtv) → Contains lines (Sub x y) →
+      (e : Edge) × Contains edges e × IsEdgeOf known e (st (vd y) Contra) (st (vd x) Contra)
   pub only : (e : Edge) → Contains edges e → (x : Dtv) × (y : Dtv) × Contains lines (Sub x y) × IsLineEdge known x y e
   pub within : AreWithin known edges
 

@@ -16,7 +16,8 @@ mark_at marks (Some n) = slice_index_or marks n true
 -- each node is marked that has a load and a store, or a label to a marked one
 abbrev pub AreMarked : Graph → List Bool → Type 0
 AreMarked graph marks =
-    (n m : ℕ) (l : Label) → step_of graph n l ≡ Some m → (flips_at graph (Some n) ≡ true) ⊎ (mark_at marks (Some m) ≡ true) →
+    (n m : ℕ) (l : Label) → step_of graph n l ≡ Some m →
+    (flips_at graph (Some n) ≡ true) ⊎ (mark_at marks (Some m) ≡ true) →
     mark_at marks (Some n) ≡ true
 
 -- counts above nought matter at the variable: its node is marked

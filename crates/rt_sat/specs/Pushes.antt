@@ -1,5 +1,5 @@
 -- What is pushed from ways between parents to edges between children, by numbers.
-use Rattle.std.specs.Prelude.{◌≡◌, ℕ, ◌+◌, ◌<◌, ◌≤◌, ◌⊎◌, ◌↔◌, List, [], Contains, Bool, true, false, Option, Some, None, length, drop}
+use Rattle.std.specs.Prelude.{◌≡◌, ℕ, ◌+◌, ◌<◌, ◌≤◌, ◌⊎◌, ◌↔◌, ◌++◌, List, [], Contains, Bool, true, false, Option, Some, None, length, drop}
 use Rattle.std.specs.Prelude.{slice_index_or}
 use Rattle.rt_lines.specs.declared.label.Label.{Label}
 use Rattle.rt_lines.specs.declared.label.Label.TheVariants.{Load, Store}
@@ -12,9 +12,10 @@ use Rattle.rt_bridge.specs.Counted.{bit, differ, IsEven, IsPointer, Bridge, Flip
 use Rattle.rt_bridge.specs.Laws.{Named}
 use Rattle.rt_sat.specs.declared.state.State.{State}
 use Rattle.rt_sat.specs.declared.state.Edge.{Edge}
+use Rattle.rt_sat.specs.declared.layers.Layers.{Layers}
 use Rattle.rt_sat.specs.Deciding.{is_among}
 use Rattle.rt_sat.specs.Numbered.{sign_of, at_number, state_of, AreWithin}
-use Rattle.rt_sat.specs.Searches.{Walk, Allows, IsKnown, IsWithin}
+use Rattle.rt_sat.specs.Searches.{Walk, Allows, IsIndexed, IsKnown, IsWithin}
 
 -- the child's variable is the parent's with the letter, and its sign with the letter's is the parent's
 pub record IsChildOf (known : List Dtv) (child parent : State) (l : Label) : Type 0 where
@@ -99,10 +100,49 @@ abbrev pub IsClosedBy : List Dtv → List Bool → List Bool → List Edge → L
 IsClosedBy known flips matters edges pushed = (child parent : State) (l : Label) → IsChildOf known child parent l →
     IsClosedFrom known flips matters edges pushed child parent l
 
--- edges more, of each of which something holds
-pub record IsGrown (P : Edge → Type 0) (old new : List Edge) : Type 0 where
-  pub only : (e : Edge) → Contains new e → Contains old e ⊎ P e
-  pub kept : new ≡ [] → old ≡ []
+-- the pushed edges
+abbrev pub pushed_of : Layers → List Edge
+pushed_of layers = drop layers.lines layers.edges.items
+
+-- the indices are those of all edges, and of the pushed ones
+pub record AreIndexed (layers : Layers) : Type 0 where
+  pub few : layers.lines ≤ length layers.edges.items
+  pub all : IsIndexed layers.edges.items layers.out.items
+  pub pushed : IsIndexed (pushed_of layers) layers.out_pushed.items
+
+-- what is pushed from a child's parent has a walk along the pushed edges
+abbrev pub IsClosedIn : List Dtv → List Bool → List Bool → Layers → State → State → Label → Type 0
+IsClosedIn known flips matters layers child parent l =
+    IsClosedFrom known flips matters layers.edges.items (pushed_of layers) child parent l
+
+-- no edge more
+abbrev pub IsStill : Layers → Layers → Type 0
+IsStill old new = new.edges.items ≡ old.edges.items
+
+-- pushed edges more, of each of which something holds
+pub record IsGrown (P : Edge → Type 0) (old new : Layers) : Type 0 where
+  pub fresh : List Edge
+  pub is : new.edges.items ≡ old.edges.items ++ fresh
+  pub only : (e : Edge) → Contains fresh e → P e
+  pub lines : new.lines ≡ old.lines
+  pub indexed : AreIndexed old → AreIndexed new
+
+-- pushed edges more, and where there are none, what is known stays
+pub record IsNoted (P : Edge → Type 0) (old new : Layers) (before after : List (State × ℕ)) : Type 0 where
+  pub grown : IsGrown P old new
+  pub kept : IsStill old new → after ≡ before
+
+-- edges more, each pushed from ways along edges before it
+pub data Grows (known : List Dtv) (flips : List Bool) (old : List Edge) : List Edge → Type 0 where
+  same : Grows known flips old old
+  more : {edges : List Edge} → Grows known flips old edges → (fresh : List Edge) →
+      ((e : Edge) → Contains fresh e → IsPushed known flips edges e) → Grows known flips old (edges ++ fresh)
+
+-- pushed edges more, each from ways along edges before it
+pub record AreGrown (known : List Dtv) (flips : List Bool) (old new : Layers) : Type 0 where
+  pub grows : Grows known flips old.edges.items new.edges.items
+  pub lines : new.lines ≡ old.lines
+  pub indexed : AreIndexed old → AreIndexed new
 
 -- the variables exist, and it is known which can be read and written through
 pub record IsFrame (L : Given) (known : List Dtv) (flips : List Bool) : Type 0 where
@@ -147,4 +187,5 @@ pub record IsClosing (known : List Dtv) (flips matters : List Bool) (lines edges
   pub closed : IsClosedBy known flips matters edges (drop (length lines) edges)
   pub within : AreWithin known lines → AreWithin known edges
   pub sound : (L : Given) → IsFrame L known flips →
-      ((x y : Var) → HasSub L x y → Named (is_among known) x × Named (is_among known) y) → AreSound L known lines → AreSound L known edges
+      ((x y : Var) → HasSub L x y → Named (is_among known) x × Named (is_among known) y) → AreSound L known lines →
+      AreSound L known edges

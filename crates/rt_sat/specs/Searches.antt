@@ -1,8 +1,9 @@
 -- Ways along numbered edges, and what a search of them finds.
-use Rattle.std.specs.Prelude.{◌≡◌, ℕ, ◌+◌, ◌<◌, ◌≤◌, ◌⊎◌, List, [], Contains, Bool, not, Option, Some, None, length, slice_index_or}
+use Rattle.std.specs.Prelude.{◌≡◌, ℕ, ◌+◌, ◌<◌, ◌≤◌, ◌⊎◌, ◌++◌, ◌∷◌, List, [], Contains, Bool, not, Option, Some, None, length, slice_index_or}
 use Rattle.std.specs.Map.{lookup}
 use Rattle.rt_sat.specs.declared.state.State.{State}
 use Rattle.rt_sat.specs.declared.state.Edge.{Edge}
+use Rattle.rt_sat.specs.Reached.{key_of}
 use Rattle.rt_sat.specs.contracts.state.StatePartialEq.TheImpl as the_state
 
 abbrev pub state_eq : State → State → Bool
@@ -57,11 +58,21 @@ pub record IsOffered (most : Option ℕ) (old new : List (State × ℕ)) (old_ac
   pub changed : (s : State) (k : ℕ) → IsKnown new s k → IsKnown old s k ⊎
       (Contains new_active s × (s ≡ to) × (k ≡ count) × Allows most count)
 
--- for each variable the indices of the edges that leave it
+-- the indices at a state's key
+abbrev pub leaving_of : List (List ℕ) → State → List ℕ
+leaving_of out s = slice_index_or out (key_of s) []
+
+-- for each state, by its key, the indices of the edges that leave it
 pub record IsIndexed (edges : List Edge) (out : List (List ℕ)) : Type 0 where
-  pub within : (v i : ℕ) → Contains (slice_index_or out v []) i → i < length edges
-  pub all : (e : Edge) → Contains edges e → (i : ℕ) × Contains (slice_index_or out e.from.variable []) i × (i < length edges) ×
+  pub within : (s : State) (i : ℕ) → Contains (leaving_of out s) i → (i < length edges) ×
+      ((e : Edge) → (slice_index_or edges i e).from ≡ s)
+  pub all : (e : Edge) → Contains edges e → (i : ℕ) × Contains (leaving_of out e.from) i × (i < length edges) ×
       (slice_index_or edges i e ≡ e)
+
+-- an index is put behind the others of a key
+pub record IsEntered (key index : ℕ) (old new : List (List ℕ)) : Type 0 where
+  pub here : slice_index_or new key [] ≡ slice_index_or old key [] ++ index ∷ []
+  pub others : (n : ℕ) → (n ≡ key → ⊥) → slice_index_or new n [] ≡ slice_index_or old n []
 
 -- each state that a way of a count that is asked for leads to from the start, with the least count
 pub record IsSearch (most : Option ℕ) (edges : List Edge) (start : State) (found : List (State × ℕ)) : Type 0 where

@@ -1,5 +1,5 @@
 -- Which named variable lies below which, by numbered edges.
-use Rattle.std.specs.Prelude.{◌≡◌, ℕ, ◌<◌, ◌↔◌, ◌⊎◌, List, Contains, Bool, [], false, Some, length, slice_get}
+use Rattle.std.specs.Prelude.{◌≡◌, ℕ, ◌<◌, ◌↔◌, ◌⊎◌, List, Contains, Bool, IsTrue, [], false, Some, length, slice_get}
 use Rattle.rt_lines.specs.declared.variable.Dtv.{Dtv}
 use Rattle.rt_lines.specs.declared.line.Line.{Line}
 use Rattle.rt_lines.specs.declared.line.Line.TheVariants.{Var, Sub, Low, Up}
@@ -12,8 +12,9 @@ use Rattle.rt_named.specs.Naming.{named}
 use Rattle.rt_named.specs.Nodes.{flips_at}
 use Rattle.rt_sat.specs.declared.state.State.{State}
 use Rattle.rt_sat.specs.declared.state.Edge.{Edge}
-use Rattle.rt_sat.specs.Numbered.{at_number}
-use Rattle.rt_sat.specs.Pushes.{flip_at, IsFrame, IsClosing}
+use Rattle.rt_sat.specs.declared.table.Begun.{Begun}
+use Rattle.rt_sat.specs.Numbered.{at_number, AreDistinct}
+use Rattle.rt_sat.specs.Pushes.{flip_at, AreChildren, Grows, IsFrame, IsClosing}
 use Rattle.rt_sat.specs.Mattering.{AreMarked, AreMattering}
 use Rattle.rt_sat.specs.Closings.{AreLineEdges}
 use Rattle.rt_sat.specs.Searches.{Walk}
@@ -48,6 +49,19 @@ pub record IsTableOf (lines : List Line) (extra known : List Dtv) (edges : List 
   pub entered : AreLineEdges lines known first
   pub closing : IsClosing known flips matters first edges
 
+-- what a table begins with: the named variables with what is known of them, and the edges of the lines
+pub record IsBegun (lines : List Line) (extra : List Dtv) (marks : List Bool) (begun : Begun) : Type 0 where
+  pub graph : Graph
+  pub is_named : begun.frame.named ≡ named lines extra
+  pub distinct : AreDistinct begun.frame.named
+  pub children : AreChildren begun.frame.named begun.frame.children.items
+  pub shape : IsShapeOf lines graph
+  pub flagged : AreFlagged graph begun.frame.named begun.frame.flips.items
+  pub marked : AreMarked graph marks
+  pub mattering : AreMattering graph marks begun.frame.named begun.frame.matters.items
+  pub extra_there : AreThere lines extra
+  pub entered : AreLineEdges lines begun.frame.named begun.first.items
+
 -- a table in which counts matter everywhere
 pub record IsWholeTableOf (lines : List Line) (extra known : List Dtv) (edges : List Edge) : Type 0 where
   pub table : IsTableOf lines extra known edges
@@ -65,30 +79,27 @@ place n = record { variable = n; contra = false }
 -- in a table a way of count nought leads from one variable to another exactly if the first lies below the second
 abbrev pub BelowLaw : Type 0
 BelowLaw =
-    (order : Below) (lines : List Line) (extra known : List Dtv) (edges : List Edge) → IsTableOf lines extra known edges → (i j : ℕ) →
+    (order : Below) (lines : List Line) (extra known : List Dtv) (edges : List Edge) → IsTableOf lines extra known edges →
+    (i j : ℕ) →
     i < length known → j < length known →
     Derivable order lines (Sub (at_number known i) (at_number known j)) ↔ Walk edges (place i) (place j) 0
 
 -- one of the variables lies below one of the others
 abbrev pub HasBelow : Below → List Line → List Dtv → List ℕ → List ℕ → Type 0
 HasBelow order lines known sources targets =
-    (s : ℕ) × (t : ℕ) × Contains sources s × Contains targets t × Derivable order lines (Sub (at_number known s) (at_number known t))
+    (s : ℕ) × (t : ℕ) × Contains sources s × Contains targets t ×
+    Derivable order lines (Sub (at_number known s) (at_number known t))
 
 -- a way of count nought leads from one of the numbers to one of the others
 abbrev pub HasNought : List Edge → List ℕ → List ℕ → Type 0
 HasNought edges sources targets = (s : ℕ) × (t : ℕ) × Contains sources s × Contains targets t × Walk edges (place s) (place t) 0
 
--- an edge from a new number to a source
-pub record IsSourceEdge (number source : ℕ) (e : Edge) : Type 0 where
-  pub start : e.from ≡ place number
-  pub end : e.to ≡ place source
-  pub none : e.count ≡ 0
-
--- the edges, and one from a new number to each source
-pub record AreSourced (number : ℕ) (sources : List ℕ) (edges all : List Edge) : Type 0 where
-  pub kept : (e : Edge) → Contains edges e → Contains all e
-  pub each : (s : ℕ) → Contains sources s → (e : Edge) × Contains all e × IsSourceEdge number s e
-  pub only : (e : Edge) → Contains all e → Contains edges e ⊎ ((s : ℕ) × Contains sources s × IsSourceEdge number s e)
+-- what is pushed from the edges of lines has a way of count nought, as it is answered: yes is said of edges pushed so far, no of all
+pub record IsAnswer (begun : Begun) (sources targets : List ℕ) (yes : Bool) : Type 0 where
+  pub edges : List Edge
+  pub grows : Grows begun.frame.named begun.frame.flips.items begun.first.items edges
+  pub says : IsTrue yes ↔ HasNought edges sources targets
+  pub whole : IsTrue yes ⊎ IsClosing begun.frame.named begun.frame.flips.items begun.frame.matters.items begun.first.items edges
 
 -- the numbers of the variables of lower bounds at or above a constant
 pub record AreLows (order : Below) (lines : List Line) (known : List Dtv) (k : ℕ) (numbers : List ℕ) : Type 0 where

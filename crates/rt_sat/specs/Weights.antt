@@ -24,7 +24,8 @@ variables listed = named listed.lines listed.extra
 
 -- the count that is known of a state, or the greatest number of 32 bits where that is no more
 abbrev pub IsCapped : List (State × ℕ) → State → Option ℕ → Type 0
-IsCapped row s said = MatchOption said ((k : ℕ) → IsKnown row s k → ⊥) (λ w. (k : ℕ) × IsKnown row s k × (w ≡ min k 4294967295))
+IsCapped row s said = MatchOption said ((k : ℕ) → IsKnown row s k → ⊥)
+    (λ w. (k : ℕ) × IsKnown row s k × (w ≡ min k 4294967295))
 
 -- the weight from one number's variable to another's, which no order of constants changes
 abbrev pub IsWeightAt : Listed → ℕ → Variance → ℕ → Variance → Option ℕ → Type 0

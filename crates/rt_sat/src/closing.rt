@@ -1,14 +1,12 @@
 // Edges with all that is pushed from their ways.
-ghost use Rattle.std.specs.Prelude.{◌≡◌, ◌<◌, ◌≤◌, ◌++◌, ℕ, [], List, drop, length, slice_index_or, IfOk, OnOk, Contains};
+ghost use Rattle.std.specs.Prelude.{◌≡◌, ℕ, [], length, slice_index_or, IfOk, OnOk};
 ghost use Rattle.rt_lines.specs.declared.label.Label.{Label as Letter};
 ghost use Rattle.rt_sat.specs.declared.state.State.{State as Place};
-ghost use Rattle.rt_sat.specs.declared.state.Edge.{Edge as Arrow};
 ghost use Rattle.rt_sat.specs.Numbered.{AreDistinct};
-ghost use Rattle.rt_sat.specs.Pushes.{AreChildren, IsChildOf, IsClosedBy, IsClosedFrom, IsClosing, IsGrown, IsPushed};
-ghost use Rattle.rt_sat.specs.Searches.{IsIndexed};
+ghost use Rattle.rt_sat.specs.Pushes.{pushed_of, AreChildren, AreGrown, AreIndexed, IsChildOf, IsClosedBy, IsClosedIn, IsClosing, IsStill};
 
-use crate::indexing::indexed;
-use crate::pushing::{Frame, Layer, push_below};
+use crate::layers::Layers;
+use crate::pushing::{Frame, push_below};
 use crate::reached::Reached;
 use crate::state::{Edge, State};
 use rt_base::{Memory, Sequence};
@@ -44,103 +42,64 @@ pub(crate) fn no_numbers(alloc: Global, count: usize) -> Result<Vec<Sequence<u32
 }
 
 // The edges, and behind them what is pushed from ways along edges, as far as no way along pushed edges is as short: all
-// counts where they matter, and nought elsewhere. A pass notes few edges of a source, those to the nearest ends first, and
-// the next pass twice as many: where pushes add up to others, these are seldom noted.
+// counts where they matter, and nought elsewhere.
 pub(crate) fn closed(alloc: Global, frame: &Frame, lines: Vec<Edge>) -> Result<Vec<Edge>, Memory>
     requires children { AreChildren frame.now.named frame.now.children.items }
     requires distinct { AreDistinct frame.now.named }
     ensures { IfOk result (λ edges. IsClosing frame.now.named frame.now.flips.items frame.now.matters.items lines.items edges.items) }
 {
-    let count = lines.len();
-    let mut edges = lines;
-    let mut limit: usize = 1;
+    let mut layers = Layers::new(alloc, lines)?;
     loop {
-        let fresh = pass(alloc, frame, &edges, &edges[count..], limit)?;
-        if fresh.is_empty() {
+        let before = layers.edges.len();
+        pass(alloc, frame, &mut layers)?;
+        if layers.edges.len() == before {
+            let Layers { edges, .. } = layers;
             return Ok(edges);
         }
-        enter(&mut edges, fresh)?;
-        limit = limit.saturating_mul(2);
     }
 }
 
-// Puts edges behind others.
-fn enter(edges: &mut Vec<Edge>, fresh: Vec<Edge>) -> Result<(), Memory>
-    ensures { OnOk result (edges.new.items ≡ edges.old.items ++ fresh.items) }
-{
-    for edge in fresh {
-        edges.push(edge)?;
-    }
-    Ok(())
-}
-
-// What is pushed from ways along edges, as far as no way along the pushed ones is as short, but no more of a source than
-// the limit wants.
-fn pass(
-    alloc: Global,
-    frame: &Frame,
-    edges: &[Edge],
-    pushed: &[Edge],
-    limit: usize,
-) -> Result<Vec<Edge>, Memory>
+// Puts in what is pushed from ways along edges, as far as no way along the pushed ones is as short. Each search goes along
+// the edges that there are by then, so what is put in behind it is left to another pass.
+pub(crate) fn pass(alloc: Global, frame: &Frame, layers: &mut Layers) -> Result<(), Memory>
     requires children { AreChildren frame.now.named frame.now.children.items }
     requires distinct { AreDistinct frame.now.named }
-    requires limit { 0 < limit }
-    ensures pushed { IfOk result (λ fresh. (e : Arrow) → Contains fresh.items e →
-        IsPushed frame.now.named frame.now.flips.items edges.now e) }
-    ensures done { IfOk result (λ fresh. fresh.items ≡ [] →
-        IsClosedBy frame.now.named frame.now.flips.items frame.now.matters.items edges.now pushed.now) }
+    requires indexed { AreIndexed layers.old }
+    ensures grown { OnOk result (AreGrown frame.now.named frame.now.flips.items layers.old layers.new) }
+    ensures done { OnOk result (IsStill layers.old layers.new →
+        IsClosedBy frame.now.named frame.now.flips.items frame.now.matters.items layers.old.edges.items (pushed_of layers.old)) }
 {
-    let leaving = indexed(alloc, edges)?;
-    let leaving_pushed = indexed(alloc, pushed)?;
-    let all = Layer {
-        edges,
-        out: &leaving,
-    };
-    let known = Layer {
-        edges: pushed,
-        out: &leaving_pushed,
-    };
-    let mut fresh = Vec::new(alloc);
-    let mut above = Reached::new(alloc);
-    let mut below = Reached::new(alloc);
+    let mut reached = Reached::new(alloc);
+    let mut known = Reached::new(alloc);
     for number in 0..frame.named.len() {
         push_number(
             alloc,
             frame,
-            &all,
-            &known,
-            &mut fresh,
+            layers,
             number as u32,
-            limit,
-            &mut above,
-            &mut below,
+            &mut reached,
+            &mut known,
         )?;
     }
-    Ok(fresh)
+    Ok(())
 }
 
-// Notes what is pushed from ways of a variable, of both signs.
+// Puts in what is pushed from ways of a variable, of both signs.
 fn push_number(
     alloc: Global,
     frame: &Frame,
-    all: &Layer<'_>,
-    pushed: &Layer<'_>,
-    fresh: &mut Vec<Edge>,
+    layers: &mut Layers,
     number: u32,
-    limit: usize,
     reached: &mut Reached,
     known: &mut Reached,
 ) -> Result<(), Memory>
     requires children { AreChildren frame.now.named frame.now.children.items }
     requires distinct { AreDistinct frame.now.named }
-    requires indexed { IsIndexed all.now.edges.now all.now.out.now × IsIndexed pushed.now.edges.now pushed.now.out.now }
-    requires limit { 0 < limit }
-    ensures grown { OnOk result (IsGrown (IsPushed frame.now.named frame.now.flips.items all.now.edges.now)
-        fresh.old.items fresh.new.items) }
-    ensures done { OnOk result (fresh.new.items ≡ [] → (child parent : Place) (l : Letter) → parent.variable ≡ number →
+    requires indexed { AreIndexed layers.old }
+    ensures grown { OnOk result (AreGrown frame.now.named frame.now.flips.items layers.old layers.new) }
+    ensures done { OnOk result (IsStill layers.old layers.new → (child parent : Place) (l : Letter) → parent.variable ≡ number →
         IsChildOf frame.now.named child parent l →
-        IsClosedFrom frame.now.named frame.now.flips.items frame.now.matters.items all.now.edges.now pushed.now.edges.now child parent l) }
+        IsClosedIn frame.now.named frame.now.flips.items frame.now.matters.items layers.old child parent l) }
 {
     let forth = State {
         variable: number,
@@ -150,11 +109,7 @@ fn push_number(
         variable: number,
         contra: true,
     };
-    push_below(
-        alloc, frame, all, pushed, fresh, forth, limit, reached, known,
-    )?;
-    push_below(
-        alloc, frame, all, pushed, fresh, back, limit, reached, known,
-    )?;
+    push_below(alloc, frame, layers, forth, reached, known)?;
+    push_below(alloc, frame, layers, back, reached, known)?;
     Ok(())
 }

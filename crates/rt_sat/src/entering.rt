@@ -67,7 +67,7 @@ fn enter_sub(
 }
 
 // An edge of count nought, between states of one sign.
-pub(crate) fn edge(alloc: Global, from: u32, to: u32, contra: bool) -> Edge
+fn edge(alloc: Global, from: u32, to: u32, contra: bool) -> Edge
     ensures from { result.from ≡ record { variable = from; contra = contra } }
     ensures to { result.to ≡ record { variable = to; contra = contra } }
     ensures count { result.count ≡ 0 }

@@ -9,7 +9,8 @@ ghost use Rattle.rt_rules.specs.Rules.{Derivable, HasSide, line_of};
 ghost use Rattle.rt_shape.specs.Shapes.{IsShapeOf};
 ghost use Rattle.rt_sat.specs.Tables.{AreLows, AreUps};
 
-use crate::table::{meets, saturated};
+use crate::asking::reaches;
+use crate::table::begin;
 use rt_base::Memory;
 use rt_lines::{Dtv, Judge, Line, Order};
 use rt_named::Named;
@@ -41,14 +42,16 @@ pub fn derives(alloc: Global, lines: &[Line], order: &Order, judge: &Judge) -> R
 
 // Whether the variable exists.
 fn is_there(shape: &Shape, x: &Dtv) -> bool
-    ensures { (lines : List Given) (order : Below) → IsShapeOf lines shape.now → IsTrue result ↔ Derivable order lines (Exists x.now) }
+    ensures { (lines : List Given) (order : Below) → IsShapeOf lines shape.now →
+        IsTrue result ↔ Derivable order lines (Exists x.now) }
 {
     shape.node(x).is_some()
 }
 
 // Whether two variables have one shape.
 fn are_one(shape: &Shape, x: &Dtv, y: &Dtv) -> bool
-    ensures { (lines : List Given) (order : Below) → IsShapeOf lines shape.now → IsTrue result ↔ Derivable order lines (Same x.now y.now) }
+    ensures { (lines : List Given) (order : Below) → IsShapeOf lines shape.now →
+        IsTrue result ↔ Derivable order lines (Same x.now y.now) }
 {
     match (shape.node(x), shape.node(y)) {
         (Some(m), Some(n)) => m == n,
@@ -65,12 +68,12 @@ fn is_below(alloc: Global, lines: &[Line], shape: &Shape, x: &Dtv, y: &Dtv) -> R
         return Ok(false);
     }
     let extra = both(alloc, x, y)?;
-    let table = saturated(alloc, lines, shape, &extra)?;
-    let left = table.named.number(x);
-    let right = table.named.number(y);
+    let begun = begin(alloc, lines, shape, &extra)?;
+    let left = begun.frame.named.number(x);
+    let right = begun.frame.named.number(y);
     let sources = one(alloc, left)?;
     let targets = one(alloc, right)?;
-    let yes = meets(alloc, table, &sources, &targets)?;
+    let yes = reaches(alloc, begun, &sources, &targets)?;
     Ok(yes)
 }
 
@@ -94,11 +97,11 @@ fn has_low(
         return Ok(false);
     }
     let extra = alone(alloc, x)?;
-    let table = saturated(alloc, lines, shape, &extra)?;
-    let right = table.named.number(x);
-    let sources = lows(alloc, &table.named, lines, order, k)?;
+    let begun = begin(alloc, lines, shape, &extra)?;
+    let right = begun.frame.named.number(x);
+    let sources = lows(alloc, &begun.frame.named, lines, order, k)?;
     let targets = one(alloc, right)?;
-    let yes = meets(alloc, table, &sources, &targets)?;
+    let yes = reaches(alloc, begun, &sources, &targets)?;
     Ok(yes)
 }
 
@@ -122,11 +125,11 @@ fn has_up(
         return Ok(false);
     }
     let extra = alone(alloc, x)?;
-    let table = saturated(alloc, lines, shape, &extra)?;
-    let left = table.named.number(x);
+    let begun = begin(alloc, lines, shape, &extra)?;
+    let left = begun.frame.named.number(x);
     let sources = one(alloc, left)?;
-    let targets = ups(alloc, &table.named, lines, order, k)?;
-    let yes = meets(alloc, table, &sources, &targets)?;
+    let targets = ups(alloc, &begun.frame.named, lines, order, k)?;
+    let yes = reaches(alloc, begun, &sources, &targets)?;
     Ok(yes)
 }
 

@@ -3,6 +3,7 @@
 //! below what is then a least count of nought.
 #![tactic(auto)]
 
+mod asking;
 mod closing;
 mod count;
 mod digits;
@@ -10,6 +11,7 @@ mod entering;
 mod indexing;
 mod judging;
 pub mod laws;
+mod layers;
 mod marking;
 mod pushing;
 mod reached;

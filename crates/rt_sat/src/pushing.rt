@@ -1,22 +1,21 @@
 // Pushes from ways between variables to edges between those with a letter more.
-ghost use Rattle.std.specs.Prelude.{◌≡◌, ℕ, ◌<◌, ◌≤◌, ◌↔◌, [], List, Bool, false, true, None};
-ghost use Rattle.std.specs.Prelude.{length, slice_index_or, IsTrue, IfOk, IfSome, OnOk, Contains};
+ghost use Rattle.std.specs.Prelude.{◌≡◌, ℕ, ◌<◌, ◌↔◌, [], List, Bool, false, true, None};
+ghost use Rattle.std.specs.Prelude.{length, slice_index_or, IsTrue, IfOk, IfSome, OnOk};
 ghost use Rattle.rt_lines.specs.declared.label.Label.{Label as Letter};
-ghost use Rattle.rt_lines.specs.declared.label.Variance.{Variance as Sign};
 ghost use Rattle.rt_lines.specs.Words.{label_variance, times};
 ghost use Rattle.rt_bridge.specs.Counted.{IsPointer};
 ghost use Rattle.rt_sat.specs.declared.state.State.{State as Place};
 ghost use Rattle.rt_sat.specs.declared.state.Edge.{Edge as Arrow};
-ghost use Rattle.rt_sat.specs.Numbered.{AreDistinct, AreWithin, is_contra, sign_of};
-ghost use Rattle.rt_sat.specs.Pushes.{AreChildren, asked_of, matter_at, HasWalk, IsChildOf, IsClosedBy, IsClosedFrom, IsDoneAt};
-ghost use Rattle.rt_sat.specs.Pushes.{IsNeeding, needed_of};
-ghost use Rattle.rt_sat.specs.Pushes.{IsDoneOn, IsDoneTo, IsGrown, IsHalf, IsPushed, IsPushedOn, IsPushedTo, PushBy, flip_at};
+ghost use Rattle.rt_sat.specs.Numbered.{AreDistinct, is_contra, sign_of};
+ghost use Rattle.rt_sat.specs.Pushes.{asked_of, needed_of, AreChildren, IsChildOf, IsClosedIn, IsDoneAt, IsDoneOn, IsDoneTo, IsHalf};
+ghost use Rattle.rt_sat.specs.Pushes.{AreGrown, AreIndexed, IsGrown, IsNeeding, IsNoted, IsPushed, IsPushedOn, IsPushedTo, IsStill, PushBy};
 ghost use Rattle.rt_sat.specs.Counts.{IsLeastHalf};
-ghost use Rattle.rt_sat.specs.Searches.{Allows, IsIndexed, IsSearch, IsWithin, Walk};
+ghost use Rattle.rt_sat.specs.Searches.{Allows, IsSearch, IsWithin};
 
 use crate::count::Count;
+use crate::layers::Layers;
 use crate::reached::Reached;
-use crate::search::{allows, search};
+use crate::search::allows;
 use crate::state::{Edge, State};
 use rt_base::{Memory, Sequence};
 use rt_lines::{Label, Variance};
@@ -64,19 +63,21 @@ fn is_pointer(label: Label) -> bool
     }
 }
 
-// Puts an edge into the fresh ones, where its count is asked for and none that is as small is known of its end.
+// Puts in an edge where its count is asked for and none that is as small is known of its end. What lies behind it along
+// pushed edges is known from then on too.
 fn note(
     alloc: Global,
-    fresh: &mut Vec<Edge>,
+    layers: &mut Layers,
     most: Option<u32>,
-    known: &Reached,
+    known: &mut Reached,
     from: State,
     to: State,
     count: Count,
 ) -> Result<(), Memory>
-    ensures grown { OnOk result (IsGrown (λ (e : Arrow). (e.from ≡ from) × (e.to ≡ to) ×
-        (e.count ≡ count)) fresh.old.items fresh.new.items) }
-    ensures done { OnOk result (fresh.new.items ≡ [] → Allows most count → IsWithin known.now to count) }
+    requires indexed { AreIndexed layers.old }
+    ensures noted { OnOk result (IsNoted (λ (e : Arrow). (e.from ≡ from) × (e.to ≡ to) ×
+        (e.count ≡ count)) layers.old layers.new known.old known.new) }
+    ensures done { OnOk result (IsStill layers.old layers.new → Allows most count → IsWithin known.old to count) }
 {
     if !allows(alloc, most, &count) {
         return Ok(());
@@ -86,56 +87,61 @@ fn note(
             return Ok(());
         }
     }
-    fresh.push(Edge { from, to, count })?;
+    let again = count.copy(alloc)?;
+    layers.push(alloc, Edge { from, to, count })?;
+    layers.go_on(alloc, to, again, most, known)?;
     Ok(())
 }
 
-// Notes the count between two parents for children under one letter.
+// Puts in the count between two parents for children under one letter.
 fn push_kept(
     alloc: Global,
-    fresh: &mut Vec<Edge>,
+    layers: &mut Layers,
     most: Option<u32>,
-    known: &Reached,
+    known: &mut Reached,
     source: State,
     first: Label,
     target: State,
     second: Label,
     count: &Count,
 ) -> Result<(), Memory>
-    ensures grown { OnOk result (IsGrown (λ (e : Arrow). (e.from ≡ source) × (e.to ≡ target) × (first ≡ second) ×
-        (count.now ≡ e.count)) fresh.old.items fresh.new.items) }
-    ensures done { OnOk result (fresh.new.items ≡ [] → first ≡ second → Allows most count.now →
-        IsWithin known.now target count.now) }
+    requires indexed { AreIndexed layers.old }
+    ensures noted { OnOk result (IsNoted (λ (e : Arrow). (e.from ≡ source) × (e.to ≡ target) × (first ≡ second) ×
+        (count.now ≡ e.count)) layers.old layers.new known.old known.new) }
+    ensures done { OnOk result (IsStill layers.old layers.new → first ≡ second → Allows most count.now →
+        IsWithin known.old target count.now) }
 {
     if first == second {
         let copy = count.copy(alloc)?;
-        note(alloc, fresh, most, known, source, target, copy)?;
+        note(alloc, layers, most, known, source, target, copy)?;
     }
     Ok(())
 }
 
-// Notes half the count between two parents, one of which can be read and written through, for children behind pointer letters.
+// Puts in half the count between two parents, one of which can be read and written through, for children behind pointer letters.
 fn push_half(
     alloc: Global,
     flip: bool,
-    fresh: &mut Vec<Edge>,
+    layers: &mut Layers,
     most: Option<u32>,
-    known: &Reached,
+    known: &mut Reached,
     source: State,
     first: Label,
     target: State,
     second: Label,
     count: &Count,
 ) -> Result<(), Memory>
-    ensures grown { OnOk result (IsGrown (λ (e : Arrow). (e.from ≡ source) × (e.to ≡ target) ×
-        IsHalf flip first second count.now (sign_of source.contra) (sign_of target.contra) e.count) fresh.old.items fresh.new.items) }
-    ensures done { OnOk result (fresh.new.items ≡ [] → (k : ℕ) →
+    requires indexed { AreIndexed layers.old }
+    ensures noted { OnOk result (IsNoted (λ (e : Arrow). (e.from ≡ source) × (e.to ≡ target) ×
+        IsHalf flip first second count.now (sign_of source.contra) (sign_of target.contra) e.count)
+        layers.old layers.new known.old known.new) }
+    ensures done { OnOk result (IsStill layers.old layers.new → (k : ℕ) →
         IsHalf flip first second count.now (sign_of source.contra) (sign_of target.contra) k → Allows most k →
-        IsWithin known.now target k) }
+        IsWithin known.old target k) }
 {
     if flip && is_pointer(first) && is_pointer(second) {
         let half = half_between(alloc, source, first, target, second, count)?;
-        note(alloc, fresh, most, known, source, target, half)?;
+        note(alloc, layers, most, known, source, target, half)?;
     }
     Ok(())
 }
@@ -159,41 +165,43 @@ fn half_between(
     count.half_push(alloc, left, right, a, b)
 }
 
-// Notes what the count between two parents gives between two children.
+// Puts in what the count between two parents gives between two children.
 fn push_between(
     alloc: Global,
     flip: bool,
-    fresh: &mut Vec<Edge>,
+    layers: &mut Layers,
     most: Option<u32>,
-    known: &Reached,
+    known: &mut Reached,
     source: State,
     first: Label,
     target: State,
     second: Label,
     count: &Count,
 ) -> Result<(), Memory>
-    ensures grown { OnOk result (IsGrown (λ (e : Arrow). (e.from ≡ source) × (e.to ≡ target) ×
-        PushBy flip first second count.now (sign_of source.contra) (sign_of target.contra) e.count) fresh.old.items fresh.new.items) }
-    ensures done { OnOk result (fresh.new.items ≡ [] → (k : ℕ) →
+    requires indexed { AreIndexed layers.old }
+    ensures noted { OnOk result (IsNoted (λ (e : Arrow). (e.from ≡ source) × (e.to ≡ target) ×
+        PushBy flip first second count.now (sign_of source.contra) (sign_of target.contra) e.count)
+        layers.old layers.new known.old known.new) }
+    ensures done { OnOk result (IsStill layers.old layers.new → (k : ℕ) →
         PushBy flip first second count.now (sign_of source.contra) (sign_of target.contra) k → Allows most k →
-        IsWithin known.now target k) }
+        IsWithin known.old target k) }
 {
     push_kept(
-        alloc, fresh, most, known, source, first, target, second, count,
+        alloc, layers, most, known, source, first, target, second, count,
     )?;
     push_half(
-        alloc, flip, fresh, most, known, source, first, target, second, count,
+        alloc, flip, layers, most, known, source, first, target, second, count,
     )?;
     Ok(())
 }
 
-// Notes what the count between two parents gives between a child of the first and the children of the second.
+// Puts in what the count between two parents gives between a child of the first and the children of the second.
 fn push_to(
     alloc: Global,
     frame: &Frame,
-    fresh: &mut Vec<Edge>,
+    layers: &mut Layers,
     most: Option<u32>,
-    known: &Reached,
+    known: &mut Reached,
     flip: bool,
     source: State,
     first: Label,
@@ -202,14 +210,16 @@ fn push_to(
 ) -> Result<(), Memory>
     requires children { AreChildren frame.now.named frame.now.children.items }
     requires distinct { AreDistinct frame.now.named }
-    ensures grown { OnOk result (IsGrown (λ (e : Arrow). (e.from ≡ source) ×
-        IsPushedTo frame.now.named flip first other count.now (sign_of source.contra) e.to e.count) fresh.old.items fresh.new.items) }
-    ensures done { OnOk result (fresh.new.items ≡ [] →
-        IsDoneTo frame.now.named flip first other count.now (sign_of source.contra) most known.now) }
+    requires indexed { AreIndexed layers.old }
+    ensures noted { OnOk result (IsNoted (λ (e : Arrow). (e.from ≡ source) ×
+        IsPushedTo frame.now.named flip first other count.now (sign_of source.contra) e.to e.count)
+        layers.old layers.new known.old known.new) }
+    ensures done { OnOk result (IsStill layers.old layers.new →
+        IsDoneTo frame.now.named flip first other count.now (sign_of source.contra) most known.old) }
 {
     for child in numbers_at(&frame.children, other.variable) {
         push_child(
-            alloc, frame, fresh, most, known, flip, source, first, other, count, *child,
+            alloc, frame, layers, most, known, flip, source, first, other, count, *child,
         )?;
     }
     Ok(())
@@ -225,13 +235,13 @@ pub(crate) fn numbers_at(lists: &[Sequence<u32>], number: u32) -> &[u32]
     }
 }
 
-// Notes what the count between two parents gives between a child of the first and one of the second, if it is that.
+// Puts in what the count between two parents gives between a child of the first and one of the second, if it is that.
 fn push_child(
     alloc: Global,
     frame: &Frame,
-    fresh: &mut Vec<Edge>,
+    layers: &mut Layers,
     most: Option<u32>,
-    known: &Reached,
+    known: &mut Reached,
     flip: bool,
     source: State,
     first: Label,
@@ -241,10 +251,12 @@ fn push_child(
 ) -> Result<(), Memory>
     requires child { child < length frame.now.named }
     requires distinct { AreDistinct frame.now.named }
-    ensures grown { OnOk result (IsGrown (λ (e : Arrow). (e.from ≡ source) ×
-        IsPushedTo frame.now.named flip first other count.now (sign_of source.contra) e.to e.count) fresh.old.items fresh.new.items) }
-    ensures done { OnOk result (fresh.new.items ≡ [] →
-        IsDoneAt frame.now.named flip first other count.now (sign_of source.contra) most known.now child) }
+    requires indexed { AreIndexed layers.old }
+    ensures noted { OnOk result (IsNoted (λ (e : Arrow). (e.from ≡ source) ×
+        IsPushedTo frame.now.named flip first other count.now (sign_of source.contra) e.to e.count)
+        layers.old layers.new known.old known.new) }
+    ensures done { OnOk result (IsStill layers.old layers.new →
+        IsDoneAt frame.now.named flip first other count.now (sign_of source.contra) most known.old child) }
 {
     match frame.named.origin(child) {
         Origin::Longer(parent, second) => {
@@ -257,7 +269,7 @@ fn push_child(
                 contra,
             };
             push_between(
-                alloc, flip, fresh, most, known, source, first, target, second, count,
+                alloc, flip, layers, most, known, source, first, target, second, count,
             )?;
             Ok(())
         }
@@ -265,100 +277,56 @@ fn push_child(
     }
 }
 
-// Edges, and the indices of those that leave each variable.
-#[derive(Drop)]
-pub(crate) struct Layer<'a> {
-    pub(crate) edges: &'a [Edge],
-    pub(crate) out: &'a [Sequence<usize>],
-}
-
-// Notes what is pushed from the ways of a state to edges of its children, as far as no way along pushed edges is as
+// Puts in what is pushed from the ways of a state to edges of its children, as far as no way along pushed edges is as
 // short. Children that need the same bound share one search.
 pub(crate) fn push_below(
     alloc: Global,
     frame: &Frame,
-    all: &Layer<'_>,
-    pushed: &Layer<'_>,
-    fresh: &mut Vec<Edge>,
+    layers: &mut Layers,
     parent: State,
-    limit: usize,
     reached: &mut Reached,
     known: &mut Reached,
 ) -> Result<(), Memory>
     requires children { AreChildren frame.now.named frame.now.children.items }
     requires distinct { AreDistinct frame.now.named }
-    requires indexed { IsIndexed all.now.edges.now all.now.out.now × IsIndexed pushed.now.edges.now pushed.now.out.now }
-    requires limit { 0 < limit }
-    ensures grown { OnOk result (IsGrown (IsPushed frame.now.named frame.now.flips.items all.now.edges.now)
-        fresh.old.items fresh.new.items) }
-    ensures done { OnOk result (fresh.new.items ≡ [] → (child : Place) (l : Letter) →
+    requires indexed { AreIndexed layers.old }
+    ensures grown { OnOk result (AreGrown frame.now.named frame.now.flips.items layers.old layers.new) }
+    ensures done { OnOk result (IsStill layers.old layers.new → (child : Place) (l : Letter) →
         IsChildOf frame.now.named child parent l →
-        IsClosedFrom frame.now.named frame.now.flips.items frame.now.matters.items all.now.edges.now pushed.now.edges.now
-        child parent l) }
+        IsClosedIn frame.now.named frame.now.flips.items frame.now.matters.items layers.old child parent l) }
 {
-    push_bound(
-        alloc, frame, all, pushed, fresh, parent, None, limit, reached, known,
-    )?;
-    push_bound(
-        alloc,
-        frame,
-        all,
-        pushed,
-        fresh,
-        parent,
-        Some(0),
-        limit,
-        reached,
-        known,
-    )?;
-    push_bound(
-        alloc,
-        frame,
-        all,
-        pushed,
-        fresh,
-        parent,
-        Some(1),
-        limit,
-        reached,
-        known,
-    )?;
+    push_bound(alloc, frame, layers, parent, None, reached, known)?;
+    push_bound(alloc, frame, layers, parent, Some(0), reached, known)?;
+    push_bound(alloc, frame, layers, parent, Some(1), reached, known)?;
     Ok(())
 }
 
-// Notes what is pushed from the ways of a state to edges of those of its children that need a bound.
+// Puts in what is pushed from the ways of a state to edges of those of its children that need a bound.
 fn push_bound(
     alloc: Global,
     frame: &Frame,
-    all: &Layer<'_>,
-    pushed: &Layer<'_>,
-    fresh: &mut Vec<Edge>,
+    layers: &mut Layers,
     parent: State,
     bound: Option<u32>,
-    limit: usize,
     reached: &mut Reached,
     known: &mut Reached,
 ) -> Result<(), Memory>
     requires children { AreChildren frame.now.named frame.now.children.items }
     requires distinct { AreDistinct frame.now.named }
-    requires indexed { IsIndexed all.now.edges.now all.now.out.now × IsIndexed pushed.now.edges.now pushed.now.out.now }
-    requires limit { 0 < limit }
-    ensures grown { OnOk result (IsGrown (IsPushed frame.now.named frame.now.flips.items all.now.edges.now)
-        fresh.old.items fresh.new.items) }
-    ensures done { OnOk result (fresh.new.items ≡ [] → (child : Place) (l : Letter) →
+    requires indexed { AreIndexed layers.old }
+    ensures grown { OnOk result (IsGrown (IsPushed frame.now.named frame.now.flips.items layers.old.edges.items)
+        layers.old layers.new) }
+    ensures done { OnOk result (IsStill layers.old layers.new → (child : Place) (l : Letter) →
         IsChildOf frame.now.named child parent l →
         IsNeeding frame.now.named frame.now.flips.items frame.now.matters.items bound parent.variable child.variable l →
-        IsClosedFrom frame.now.named frame.now.flips.items frame.now.matters.items all.now.edges.now pushed.now.edges.now
-        child parent l) }
+        IsClosedIn frame.now.named frame.now.flips.items frame.now.matters.items layers.old child parent l) }
 {
     if !is_needed(frame, parent.variable, bound) {
         return Ok(());
     }
-    search(alloc, all.edges, all.out, parent, bound, reached)?;
+    layers.search(alloc, parent, bound, reached)?;
     for child in numbers_at(&frame.children, parent.variable) {
-        push_child_of(
-            alloc, frame, all, pushed, fresh, parent, bound, reached, *child, limit, known,
-        )?;
+        push_child_of(alloc, frame, layers, parent, bound, reached, *child, known)?;
     }
     Ok(())
 }
@@ -404,34 +372,28 @@ fn needing(frame: &Frame, parent: u32, child: u32, bound: Option<u32>) -> Option
     Some(first)
 }
 
-// Notes what is pushed from the ways of a state within a bound to edges of its child of a number, if it is that and
+// Puts in what is pushed from the ways of a state within a bound to edges of its child of a number, if it is that and
 // needs the bound.
 fn push_child_of(
     alloc: Global,
     frame: &Frame,
-    all: &Layer<'_>,
-    pushed: &Layer<'_>,
-    fresh: &mut Vec<Edge>,
+    layers: &mut Layers,
     parent: State,
     bound: Option<u32>,
     reached: &Reached,
     child: u32,
-    limit: usize,
     known: &mut Reached,
 ) -> Result<(), Memory>
     requires children { AreChildren frame.now.named frame.now.children.items }
     requires distinct { AreDistinct frame.now.named }
-    requires indexed { IsIndexed pushed.now.edges.now pushed.now.out.now }
-    requires reached { IsSearch bound all.now.edges.now parent reached.now }
+    requires indexed { AreIndexed layers.old }
     requires child { child < length frame.now.named }
-    requires limit { 0 < limit }
-    ensures grown { OnOk result (IsGrown (IsPushed frame.now.named frame.now.flips.items all.now.edges.now)
-        fresh.old.items fresh.new.items) }
-    ensures done { OnOk result (fresh.new.items ≡ [] → (end : Place) (l : Letter) → end.variable ≡ child →
-        IsChildOf frame.now.named end parent l →
+    ensures grown { OnOk result ((before : List Arrow) → IsSearch bound before parent reached.now →
+        IsGrown (IsPushed frame.now.named frame.now.flips.items before) layers.old layers.new) }
+    ensures done { OnOk result (IsStill layers.old layers.new → IsSearch bound layers.old.edges.items parent reached.now →
+        (end : Place) (l : Letter) → end.variable ≡ child → IsChildOf frame.now.named end parent l →
         IsNeeding frame.now.named frame.now.flips.items frame.now.matters.items bound parent.variable child l →
-        IsClosedFrom frame.now.named frame.now.flips.items frame.now.matters.items all.now.edges.now pushed.now.edges.now
-        end parent l) }
+        IsClosedIn frame.now.named frame.now.flips.items frame.now.matters.items layers.old end parent l) }
 {
     let Some(first) = needing(frame, parent.variable, child, bound) else {
         return Ok(());
@@ -442,9 +404,9 @@ fn push_child_of(
     };
     let flip = flag(&frame.flips, parent.variable);
     let most = asked(flag(&frame.matters, child));
-    search(alloc, pushed.edges, pushed.out, source, most, known)?;
+    layers.search_pushed(alloc, source, most, known)?;
     push_reached(
-        alloc, frame, fresh, most, known, flip, source, first, reached, limit,
+        alloc, frame, layers, most, known, flip, source, first, reached,
     )?;
     Ok(())
 }
@@ -479,45 +441,34 @@ fn flag(flags: &[bool], number: u32) -> bool
     }
 }
 
-// Notes what counts from a parent give to its child, those of the first ends, until there are as many as the limit wants.
+// Puts in what counts from a parent give to its child.
 fn push_reached(
     alloc: Global,
     frame: &Frame,
-    fresh: &mut Vec<Edge>,
+    layers: &mut Layers,
     most: Option<u32>,
-    known: &Reached,
+    known: &mut Reached,
     flip: bool,
     source: State,
     first: Label,
     reached: &Reached,
-    limit: usize,
 ) -> Result<(), Memory>
     requires children { AreChildren frame.now.named frame.now.children.items }
     requires distinct { AreDistinct frame.now.named }
-    requires limit { 0 < limit }
-    ensures grown { OnOk result (IsGrown (λ (e : Arrow). (e.from ≡ source) ×
-        IsPushedOn frame.now.named flip first (sign_of source.contra) reached.now e.to e.count) fresh.old.items fresh.new.items) }
-    ensures done { OnOk result (fresh.new.items ≡ [] →
-        IsDoneOn frame.now.named flip first (sign_of source.contra) reached.now most known.now) }
+    requires indexed { AreIndexed layers.old }
+    ensures noted { OnOk result (IsNoted (λ (e : Arrow). (e.from ≡ source) ×
+        IsPushedOn frame.now.named flip first (sign_of source.contra) reached.now e.to e.count)
+        layers.old layers.new known.old known.new) }
+    ensures done { OnOk result (IsStill layers.old layers.new →
+        IsDoneOn frame.now.named flip first (sign_of source.contra) reached.now most known.old) }
 {
-    let wanted = fresh.len().saturating_add(limit);
     for i in 0..reached.len() {
-        if has_enough(fresh, wanted) {
-            return Ok(());
-        }
         let Some(entry) = reached.at(i) else {
             unreachable!()
         };
         push_to(
-            alloc, frame, fresh, most, known, flip, source, first, entry.0, &entry.1,
+            alloc, frame, layers, most, known, flip, source, first, entry.0, &entry.1,
         )?;
     }
     Ok(())
-}
-
-// Whether there are so many edges.
-fn has_enough(edges: &[Edge], most: usize) -> bool
-    ensures { IsTrue result → most ≤ length edges.now }
-{
-    edges.len() >= most
 }

@@ -113,7 +113,7 @@ impl Reached {
 }
 
 // The key of a state.
-fn key(state: State) -> usize
+pub(crate) fn key(state: State) -> usize
     ensures { result ≡ key_of state }
 {
     let twice = 2 * (state.variable as usize);

@@ -1,10 +1,10 @@
 // Least counts from a state along edges.
-ghost use Rattle.std.specs.Prelude.{◌≡◌, ℕ, ◌<◌, ◌++◌, ◌∷◌, ◌↔◌, [], List, Contains, IsTrue, IfOk, OnOk, length, slice_index_or};
-ghost use Rattle.rt_sat.specs.Searches.{Allows, AreFallen, AreNoted, AreRelaxed, IsFollowed, IsIndexed, IsOffered, IsSearch, turned};
+ghost use Rattle.std.specs.Prelude.{◌≡◌, ◌++◌, ◌∷◌, ◌↔◌, [], List, IsTrue, IfOk, OnOk, length};
+ghost use Rattle.rt_sat.specs.Searches.{Allows, AreFallen, AreNoted, AreRelaxed, IsFollowed, IsIndexed, IsOffered, IsSearch, IsWithin, leaving_of, turned};
 ghost use Rattle.rt_sat.specs.declared.state.State.{State as Place};
 
 use crate::count::Count;
-use crate::reached::Reached;
+use crate::reached::{Reached, key};
 use crate::state::{Edge, State};
 use rt_base::{Memory, Sequence};
 use std::alloc::{AllocError, Global};
@@ -13,9 +13,8 @@ use std::alloc::{AllocError, Global};
 const ROUNDS: u64 = 0xff_ffff_ffff;
 
 // The least count of a way to each state that a way leads to from the start, or, where a bound is given, of each state
-// whose least count is no greater. With the bound nought no turn is followed. The edges that leave a variable are given by
-// their indices. Each round goes on from the states whose counts fell in the one before. What was found before is
-// forgotten.
+// whose least count is no greater. With the bound nought no turn is followed. The edges that leave a state are given by
+// their indices. What was found before is forgotten.
 pub(crate) fn search(
     alloc: Global,
     edges: &[Edge],
@@ -29,8 +28,46 @@ pub(crate) fn search(
 {
     found.clear();
     found.insert(start, Count::small(alloc, 0))?;
+    settle(alloc, most, edges, out, found, start)?;
+    Ok(())
+}
+
+// Puts down a count of a state, and goes on from there to states whose counts fall.
+pub(crate) fn go_on(
+    alloc: Global,
+    edges: &[Edge],
+    out: &[Sequence<usize>],
+    to: State,
+    count: Count,
+    most: Option<u32>,
+    found: &mut Reached,
+) -> Result<(), Memory>
+    requires { IsIndexed edges.now out.now }
+    ensures { OnOk result (IsWithin found.new to count) }
+{
+    found.insert(to, count)?;
+    settle(alloc, most, edges, out, found, to)?;
+    Ok(())
+}
+
+// Goes on from a state until no count falls any more. Each round goes on from the states whose counts fell in the one
+// before.
+fn settle(
+    alloc: Global,
+    most: Option<u32>,
+    edges: &[Edge],
+    out: &[Sequence<usize>],
+    found: &mut Reached,
+    from: State,
+) -> Result<(), Memory>
+    requires { IsIndexed edges.now out.now }
+    ensures walks { OnOk result ((start : Place) → AreNoted most edges.now start found.old →
+        AreNoted most edges.now start found.new) }
+    ensures fallen { OnOk result (AreFallen found.old found.new) }
+    ensures relaxed { OnOk result (AreRelaxed most edges.now found.old (from ∷ []) → AreRelaxed most edges.now found.new []) }
+{
     let mut active = Vec::new(alloc);
-    active.push(start)?;
+    active.push(from)?;
     for _ in 0..ROUNDS {
         if active.is_empty() {
             return Ok(());
@@ -90,41 +127,37 @@ fn visit(
         contra: !state.contra,
     };
     offer(alloc, most, found, next, other, turn)?;
-    let leaving = leaving(out, state.variable);
-    follow(alloc, most, edges, leaving, found, next, state, &count)?;
+    follow(alloc, most, edges, out, found, next, state, &count)?;
     Ok(())
 }
 
-// The indices of the edges that leave a variable.
-fn leaving(out: &[Sequence<usize>], variable: u32) -> &[usize]
-    ensures { result.now ≡ slice_index_or out.now variable [] }
+// The indices of the edges that leave a state.
+fn leaving(out: &[Sequence<usize>], state: State) -> &[usize]
+    ensures { result.now ≡ leaving_of out.now state }
 {
-    match out.get(variable as usize) {
+    match out.get(key(state)) {
         Some(indices) => indices.items(),
         None => &[],
     }
 }
 
-// Goes on along the edges of these indices that leave the state, of which a count is known.
+// Goes on along the edges that leave the state, of which a count is known.
 fn follow(
     alloc: Global,
     most: Option<u32>,
     edges: &[Edge],
-    leaving: &[usize],
+    out: &[Sequence<usize>],
     found: &mut Reached,
     next: &mut Vec<State>,
     state: State,
     count: &Count,
 ) -> Result<(), Memory>
-    requires { (i : ℕ) → Contains leaving.now i → i < length edges.now }
-    ensures { OnOk result (IsFollowed most edges.now leaving.now found.old found.new next.old.items next.new.items state
-        count.now (length leaving.now)) }
+    requires { IsIndexed edges.now out.now }
+    ensures { OnOk result (IsFollowed most edges.now (leaving_of out.now state) found.old found.new next.old.items
+        next.new.items state count.now (length (leaving_of out.now state))) }
 {
-    for index in leaving {
+    for index in leaving(out, state) {
         let edge = &edges[*index];
-        if edge.from != state {
-            continue;
-        }
         let sum = edge.count.plus(alloc, count)?;
         offer(alloc, most, found, next, edge.to, sum)?;
     }

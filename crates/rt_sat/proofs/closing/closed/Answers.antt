@@ -1,22 +1,30 @@
-use Rattle.std.proofs.Common.{◌≡◌, [], List, drop, Contains, subst, arith}
+use Rattle.std.proofs.Common.{◌≤◌, length, sym, subst, ◌∙◌, arith}
 use Rattle.std.proofs.lemmas.Grind.{common_steps}
-use Rattle.rt_sat.specs.declared.state.Edge.{Edge}
-use Rattle.rt_sat.specs.Pushes.{IsPushed, IsClosedBy}
-use Rattle.rt_sat.proofs.Growing.{growing_more, growing_closed, tail_whole}
+use Rattle.rt_sat.specs.Pushes.{Grows, same}
+use Rattle.rt_sat.proofs.Growing.{all_longer, grows_more, still_closing}
 use Rattle.rt_sat.proofs.closing.closed.Goals as goal
 
-pub returns-then-is_empty : goal.returns-then-is_empty
-returns-then-is_empty c =
-    let empty : c.in_ok-fresh.fresh.items ≡ [] = grind (arith, common_steps) in
-    growing_closed c.args.frame.now.named c.args.frame.now.flips.items c.args.frame.now.matters.items c.args.lines.items c.loop-edges.edges.items c.len-count.result c.loop-edges.invariant.count c.loop-edges.invariant.growing
-    (subst (λ (xs : List Edge). IsClosedBy c.args.frame.now.named c.args.frame.now.flips.items c.args.frame.now.matters.items xs (drop c.len-count.result c.loop-edges.edges.items)) c.deref.ensures.value
-    (subst (λ (xs : List Edge). IsClosedBy c.args.frame.now.named c.args.frame.now.flips.items c.args.frame.now.matters.items c.deref.result.now (drop c.len-count.result xs)) c.deref-in-loop-edges.ensures.value
-    (subst (λ (xs : List Edge). IsClosedBy c.args.frame.now.named c.args.frame.now.flips.items c.args.frame.now.matters.items c.deref.result.now xs) (tail_whole c.len-count.result c.deref-in-loop-edges.result.now) (c.in_ok-fresh.ensures.done empty))))
+pub loop-layers-init : goal.loop-layers-init
+loop-layers-init c = record {
+  lines = c.in_ok-layers.ensures.lines;
+  indexed = c.in_ok-layers.ensures.indexed;
+  grows = subst (Grows c.args.frame.now.named c.args.frame.now.flips.items c.args.lines.items) (sym c.in_ok-layers.ensures.edges) same;
+}
 
-pub loop-edges-preserved : goal.loop-edges-preserved
-loop-edges-preserved c = record {
-  count = c.loop-edges.invariant.count;
-  limit = grind arith;
-  growing = growing_more c.args.frame.now.named c.args.frame.now.flips.items c.args.lines.items c.loop-edges.edges.items c.in_ok-fresh.fresh.items c.enter.new.edges.items c.in_ok-enter.ensures
-      (subst (λ (xs : List Edge). (e : Edge) → Contains c.in_ok-fresh.fresh.items e → IsPushed c.args.frame.now.named c.args.frame.now.flips.items xs e) c.deref.ensures.value c.in_ok-fresh.ensures.pushed) c.loop-edges.invariant.growing;
+pub returns-then-len-before : goal.returns-then-len-before
+returns-then-len-before c =
+    still_closing c.args.frame.now.named c.args.frame.now.flips.items c.args.frame.now.matters.items c.args.lines.items c.loop-layers.layers c.pass.new.layers c.loop-layers.invariant.lines c.loop-layers.invariant.grows
+    c.in_ok-pass.ensures.grown c.in_ok-pass.ensures.done (grind (arith, common_steps))
+
+pub loop-layers-smaller : goal.loop-layers-smaller
+loop-layers-smaller c =
+    let longer : length c.loop-layers.layers.edges.items ≤ length c.pass.new.layers.edges.items =
+    all_longer c.args.frame.now.named c.args.frame.now.flips.items c.loop-layers.layers c.pass.new.layers c.in_ok-pass.ensures.grown in
+    grind (arith, common_steps, longer)
+
+pub loop-layers-preserved : goal.loop-layers-preserved
+loop-layers-preserved c = record {
+  lines = c.in_ok-pass.ensures.grown.lines ∙ c.loop-layers.invariant.lines;
+  indexed = c.in_ok-pass.ensures.grown.indexed c.loop-layers.invariant.indexed;
+  grows = grows_more c.args.frame.now.named c.args.frame.now.flips.items c.args.lines.items c.loop-layers.layers.edges.items c.pass.new.layers.edges.items c.loop-layers.invariant.grows c.in_ok-pass.ensures.grown.grows;
 }

@@ -1,13 +1,13 @@
-use Rattle.std.proofs.Common.{◌≡◌, ◌<◌, ◌-◌, length}
-use Rattle.rt_sat.proofs.Growing.{IsGrowing}
+use Rattle.std.proofs.Common.{◌≡◌, ◌-◌, length}
+use Rattle.rt_sat.specs.Pushes.{AreIndexed, Grows}
 use Rattle.rt_sat.proofs.closing.closed.Given as goal
 
-abbrev pub invariant-loop-edges : goal.invariant-loop-edges
-invariant-loop-edges l = record {
-  count : l.count ≡ length l.fn.lines.items;
-  limit : 0 < l.limit;
-  growing : IsGrowing l.frame.named l.frame.flips.items l.fn.lines.items l.edges.items;
+abbrev pub invariant-loop-layers : goal.invariant-loop-layers
+invariant-loop-layers l = record {
+  lines : l.layers.lines ≡ length l.fn.lines.items;
+  indexed : AreIndexed l.layers;
+  grows : Grows l.frame.named l.frame.flips.items l.fn.lines.items l.layers.edges.items;
 }
 
-abbrev pub decreases-loop-edges : goal.decreases-loop-edges
-decreases-loop-edges l = 18446744073709551616 - length l.edges.items
+abbrev pub decreases-loop-layers : goal.decreases-loop-layers
+decreases-loop-layers l = 18446744073709551616 - length l.layers.edges.items

@@ -5,4 +5,4 @@ abbrev pub invariant-loop-alloc : goal.invariant-loop-alloc
 invariant-loop-alloc l = (v : ℕ) → get_or l.out.items v [] ≡ get_or l.fn.out.items v []
 
 abbrev pub decreases-loop-alloc : goal.decreases-loop-alloc
-decreases-loop-alloc l = l.variable + 1 - length l.out.items
+decreases-loop-alloc l = l.key + 1 - length l.out.items

@@ -5,7 +5,7 @@ use Rattle.rt_lines.specs.Words.{label_variance, times}
 use Rattle.rt_sat.specs.declared.state.Edge.{Edge}
 use Rattle.rt_sat.specs.declared.state.State.{State}
 use Rattle.rt_sat.specs.Numbered.{is_contra, sign_of}
-use Rattle.rt_sat.specs.Pushes.{IsChildOf, IsGrown, IsNeeding, IsPushedOn, IsDoneOn, PushBy, asked_of, flip_at, matter_at}
+use Rattle.rt_sat.specs.Pushes.{IsChildOf, IsGrown, IsNeeding, IsPushedOn, IsDoneOn, PushBy, asked_of, flip_at, matter_at, pushed_of}
 use Rattle.rt_sat.specs.Searches.{Allows}
 use Rattle.rt_sat.proofs.Pushed.{closed_one, from_grown, from_done, needed_enough, needing_child}
 use Rattle.rt_sat.proofs.pushing.push_child_of.Goals as goal
@@ -29,14 +29,14 @@ returns c =
       subst (λ o. Allows o k) (sym most) q,
     ) in
     record {
-      grown = from_grown known flips matters c.args.all.now.edges.now c.args.pushed.now.edges.now source c.args.parent c.in-Some.first child c.args.reached.now c.search.new.found
-          c.args.bound c.asked-most.result c.requires.reached c.in_ok-search.ensures c.args.fresh.now.items c.push_reached.new.fresh.items
-          (subst (λ b. IsGrown (λ (e : Edge). (e.from ≡ source) × IsPushedOn c.args.frame.now.named b c.in-Some.first (sign_of source.contra) c.args.reached.now e.to e.count) c.args.fresh.now.items c.push_reached.new.fresh.items)
-          same c.in_ok-push_reached.ensures.grown);
-      done = λ h end l e k n. closed_one known flips matters c.args.all.now.edges.now c.args.pushed.now.edges.now c.requires.distinct source c.args.parent c.in-Some.first child
-          (from_done known flips matters c.args.all.now.edges.now c.args.pushed.now.edges.now source c.args.parent c.in-Some.first child c.args.reached.now c.search.new.found
-          c.args.bound c.asked-most.result c.requires.reached c.in_ok-search.ensures
+      grown = λ before search. from_grown known flips matters before (pushed_of c.args.layers.now) source c.args.parent c.in-Some.first child c.args.reached.now c.search_pushed.new.found
+          c.args.bound c.asked-most.result search c.in_ok-search_pushed.ensures c.args.layers.now c.push_reached.new.layers
+          (subst (λ b. IsGrown (λ (e : Edge). (e.from ≡ source) × IsPushedOn c.args.frame.now.named b c.in-Some.first (sign_of source.contra) c.args.reached.now e.to e.count) c.args.layers.now c.push_reached.new.layers)
+          same c.in_ok-push_reached.ensures.noted.grown);
+      done = λ h search end l e k n. closed_one known flips matters c.args.layers.now.edges.items (pushed_of c.args.layers.now) c.requires.distinct source c.args.parent c.in-Some.first child
+          (from_done known flips matters c.args.layers.now.edges.items (pushed_of c.args.layers.now) source c.args.parent c.in-Some.first child c.args.reached.now c.search_pushed.new.found
+          c.args.bound c.asked-most.result search c.in_ok-search_pushed.ensures
           enough
-          (subst (λ b. IsDoneOn c.args.frame.now.named b c.in-Some.first (sign_of source.contra) c.args.reached.now c.asked-most.result c.search.new.found) same (c.in_ok-push_reached.ensures.done h)))
+          (subst (λ b. IsDoneOn c.args.frame.now.named b c.in-Some.first (sign_of source.contra) c.args.reached.now c.asked-most.result c.search_pushed.new.found) same (c.in_ok-push_reached.ensures.done h)))
           end l e k;
     }

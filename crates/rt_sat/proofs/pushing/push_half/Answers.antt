@@ -4,11 +4,11 @@ use Rattle.rt_sat.specs.Numbered.{sign_of}
 use Rattle.rt_sat.specs.Pushes.{IsHalf}
 use Rattle.rt_sat.specs.Searches.{IsWithin}
 use Rattle.rt_sat.proofs.Searching.{allows_less}
-use Rattle.rt_sat.proofs.Pushed.{grown_as}
+use Rattle.rt_sat.proofs.Growing.{noted_as}
 use Rattle.rt_sat.proofs.pushing.push_half.Goals as goal
 
-pub returns-in_ok-note-clause-grown : goal.returns-in_ok-note-clause-grown
-returns-in_ok-note-clause-grown c = grown_as _ _ _ _
+pub returns-in_ok-note-clause-noted : goal.returns-in_ok-note-clause-noted
+returns-in_ok-note-clause-noted c = noted_as _ _ _ _ _ _
     (λ (e : Edge) (p : (e.from ≡ c.args.source) × (e.to ≡ c.args.target) × (e.count ≡ c.in_ok-half.half)). (
       p.0,
       p.1,
@@ -20,7 +20,7 @@ returns-in_ok-note-clause-grown c = grown_as _ _ _ _
         parity = c.in_ok-half.ensures.parity;
       }),
     ))
-    c.in_ok-note.ensures.grown
+    c.in_ok-note.ensures.noted
 
 pub returns-in_ok-note-clause-done : goal.returns-in_ok-note-clause-done
 returns-in_ok-note-clause-done c = λ h k i a.

@@ -1,13 +1,10 @@
-use Rattle.std.proofs.Common.{◌≡◌, ℕ, ◌+◌, List, [], Contains, Some, get_or, length, sym, subst, ap, ◌∙◌, arith}
-use Rattle.rt_sat.specs.Searches.{turned, IsKnown, IsOffered, IsFollowed, IsVisited}
+use Rattle.std.proofs.Common.{◌≡◌, ◌+◌, [], Contains, Some, sym, subst, ap, ◌∙◌, arith}
+use Rattle.rt_sat.specs.Searches.{turned, IsKnown, IsOffered, IsVisited}
 use Rattle.rt_sat.proofs.Searching.{unknown_state, visited_whole, visited_all}
 use Rattle.rt_sat.proofs.search.visit.Goals as goal
 
 pub returns-in_default-clause-relaxed : goal.returns-in_default-clause-relaxed
 returns-in_default-clause-relaxed c = λ rest r. unknown_state c.args.most c.args.edges.now c.args.found.now c.args.next.now.items rest c.args.state (sym c.in_default.ensures.value) r
-
-pub follow-requires : goal.follow-requires
-follow-requires c = λ i h. c.requires.within c.args.state.variable i (subst (λ xs. Contains xs i) c.leaving-leaving.ensures h)
 
 pub returns : goal.returns
 returns c =
@@ -20,10 +17,8 @@ returns c =
     let turn : c.in_ok-turn.turn ≡ 1 + c.in_ok-count.count = grind arith in
     let offered : IsOffered c.args.most c.args.found.now c.offer.new.found c.args.next.now.items c.offer.new.next.items (turned c.args.state) (1 + c.in_ok-count.count) =
     subst (IsOffered c.args.most c.args.found.now c.offer.new.found c.args.next.now.items c.offer.new.next.items (turned c.args.state)) turn c.in_ok-offer.ensures in
-    let followed : IsFollowed c.args.most c.args.edges.now (get_or c.args.out.now c.args.state.variable []) c.offer.new.found c.follow.new.found c.offer.new.next.items c.follow.new.next.items c.args.state c.in_ok-count.count (length (get_or c.args.out.now c.args.state.variable [])) =
-    subst (λ (xs : List ℕ). IsFollowed c.args.most c.args.edges.now xs c.offer.new.found c.follow.new.found c.offer.new.next.items c.follow.new.next.items c.args.state c.in_ok-count.count (length xs)) c.leaving-leaving.ensures c.in_ok-follow.ensures in
     let visited : IsVisited c.args.most c.args.edges.now c.args.found.now c.follow.new.found c.args.next.now.items c.follow.new.next.items c.args.state c.in_ok-count.count (Contains c.args.edges.now) =
-    visited_whole c.args.most c.args.edges.now c.args.out.now old c.offer.new.found new active c.offer.new.next.items next [] c.args.state count c.requires known offered followed in
+    visited_whole c.args.most c.args.edges.now c.args.out.now old c.offer.new.found new active c.offer.new.next.items next [] c.args.state count c.requires known offered c.in_ok-follow.ensures in
     record {
       walks = visited.walks;
       fallen = visited.fallen;

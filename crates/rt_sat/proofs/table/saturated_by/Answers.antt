@@ -1,40 +1,13 @@
-use Rattle.std.proofs.Common.{rules, List, Option, ℕ, sym, subst}
-use Rattle.rt_named.specs.Nodes.{AreFlipsOf, AreNodesOf}
+use Rattle.std.proofs.Common.{rules}
 use Rattle.rt_sat.specs.Tables.{IsTableOf}
-use Rattle.rt_sat.proofs.Frames.{flagged_by, named_distinct, side_named}
+use Rattle.rt_sat.proofs.Frames.{begun_table}
 use Rattle.rt_sat.proofs.table.saturated_by.Goals as goal
-
-pub line_edges-requires : goal.line_edges-requires
-line_edges-requires c = side_named c.args.lines.now c.args.extra.now c.in_ok-named.named c.in_ok-named.ensures
-
-pub closed-requires-clause-distinct : goal.closed-requires-clause-distinct
-closed-requires-clause-distinct c = named_distinct c.args.lines.now c.args.extra.now c.in_ok-named.named c.in_ok-named.ensures
 
 pub returns : goal.returns
 returns c =
-    let table : IsTableOf c.args.lines.now c.args.extra.now c.in_ok-named.named c.in_ok-edges.edges.items = record {
-      graph = c.args.shape.now;
-      flips = c.in_ok-flips.flips.items;
-      marks = c.args.marks.now;
-      matters = c.in_ok-matters.matters.items;
-      first = c.in_ok-first.first.items;
-      is_named = c.in_ok-named.ensures;
-      shape = c.requires.shape;
-      flagged =
-          flagged_by c.args.shape.now c.in_ok-named.named c.in_ok-nodes.nodes.items c.in_ok-flips.flips.items c.in_ok-nodes.ensures
-          (subst (λ (ns : List (Option ℕ)). AreFlipsOf c.args.shape.now ns c.in_ok-flips.flips.items) c.deref.ensures.value c.in_ok-flips.ensures);
-      marked = c.requires.marked;
-      mattering =
-          c.in_ok-matters.ensures c.args.shape.now c.in_ok-named.named
-          (subst (λ (ns : List (Option ℕ)). AreNodesOf c.args.shape.now c.in_ok-named.named ns) (sym c.deref-2.ensures.value) c.in_ok-nodes.ensures);
-      extra_there = c.requires.there;
-      entered = c.in_ok-first.ensures;
-      closing = c.in_ok-edges.ensures;
-    } in
+    let table : IsTableOf c.args.lines.now c.args.extra.now c.in_ok-begun.begun.frame.named c.in_ok-edges.edges.items =
+    begun_table c.args.lines.now c.args.extra.now c.args.marks.now c.in_ok-begun.begun c.in_ok-begun.ensures c.in_ok-edges.edges.items c.in_ok-edges.ensures in
     record {
       layered = record { table = table; counted = search rules };
       whole = λ h. record { table = table; whole = h };
     }
-
-pub children-requires : goal.children-requires
-children-requires c = named_distinct c.args.lines.now c.args.extra.now c.in_ok-named.named c.in_ok-named.ensures
