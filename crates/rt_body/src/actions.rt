@@ -179,7 +179,8 @@ pub(crate) fn kind_action(symbols: &Symbols, link: Option<Link>, kind: Kind) -> 
 
 // What a site does.
 fn site_action(links: &Links, symbols: &Symbols, site: &Site) -> Action
-    ensures { (object : Object) → AreLinksOf object links.now → AreSymbolsOf object symbols.now → result ≡ site_action object site.now }
+    ensures { (object : Object) → AreLinksOf object links.now → AreSymbolsOf object symbols.now →
+        result ≡ site_action object site.now }
 {
     let link = links.at(site.place.section, site.place.offset);
     kind_action(symbols, link, site.kind)

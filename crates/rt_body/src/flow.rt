@@ -31,7 +31,8 @@ pub(crate) fn graph_of(
 // Lets a site define registers.
 fn define_each(graph: &mut Graph, site: u32, registers: &[u8]) -> Result<(), Memory>
     requires { site < graph.old.sites }
-    ensures { OnOk result (graph.new ≡ record graph.old { defs = graph.old.defs ++ map (λ register. (site, pos register)) registers.now }) }
+    ensures { OnOk result (graph.new ≡
+        record graph.old { defs = graph.old.defs ++ map (λ register. (site, pos register)) registers.now }) }
 {
     for register in registers {
         graph.add_def(site, i64::from(*register))?;

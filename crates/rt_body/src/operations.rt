@@ -50,7 +50,8 @@ pub(crate) fn operations(alloc: Global, actions: &[Action]) -> Result<Ops, Memor
     ensures sites { IfOk result (λ ops. ops_sites ops ≡ length actions.now) }
     ensures same { IfOk result (λ ops. (s r : ℕ) → Contains (defined_by (action_at actions.now s)) r →
         op_in ops s r ≡ op_at actions.now s r) }
-    ensures rest { IfOk result (λ ops. (s r : ℕ) → (Contains (defined_by (action_at actions.now s)) r → ⊥) → op_in ops s r ≡ Op.Own) }
+    ensures rest { IfOk result
+        (λ ops. (s r : ℕ) → (Contains (defined_by (action_at actions.now s)) r → ⊥) → op_in ops s r ≡ Op.Own) }
 {
     let mut ops = Ops::new(alloc, actions.len() as u32)?;
     for (site, action) in actions.iter().enumerate() {

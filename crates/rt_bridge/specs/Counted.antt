@@ -34,8 +34,10 @@ IsPointer Store = Unit {0}
 IsPointer l = ⊥
 
 pub data Push (L : Given) (x : Var) : Label → Label → ℕ → Variance → Variance → ℕ → Type 0 where
-  half : {l m : Label} {d k : ℕ} {a b : Variance} → IsPointer l → IsPointer m → Der L (V (dot x Load)) → Der L (V (dot x Store)) →
-      d + bit (times (label_variance l) a) ≤ (k + k) + bit (times (label_variance m) b) → IsEven (k + differ a b) → Push L x l m d a b k
+  half : {l m : Label} {d k : ℕ} {a b : Variance} → IsPointer l → IsPointer m → Der L (V (dot x Load)) →
+      Der L (V (dot x Store)) →
+      d + bit (times (label_variance l) a) ≤ (k + k) + bit (times (label_variance m) b) → IsEven (k + differ a b) →
+      Push L x l m d a b k
   kept : {l : Label} {d : ℕ} {a b : Variance} → Push L x l l d a b d
 
 pub data Bridge (L : Given) (M : Var → Type 0) : State → State → ℕ → Type 0 where
@@ -44,7 +46,8 @@ pub data Bridge (L : Given) (M : Var → Type 0) : State → State → ℕ → T
   up : {x y : Var} → HasSub L x y → Bridge L M (st x Co) (st y Co) 0
   down : {x y : Var} → HasSub L x y → Bridge L M (st y Contra) (st x Contra) 0
   join : {x y z : State} {j k : ℕ} → Bridge L M x y j → Bridge L M y z k → Bridge L M x z (j + k)
-  push : {x y : Var} {l m : Label} {a b : Variance} {d k : ℕ} → M (dot x l) → M (dot y m) → Der L (V (dot x l)) → Der L (V (dot y m)) →
+  push : {x y : Var} {l m : Label} {a b : Variance} {d k : ℕ} → M (dot x l) → M (dot y m) → Der L (V (dot x l)) →
+      Der L (V (dot y m)) →
       Bridge L M (st x (times (label_variance l) a)) (st y (times (label_variance m) b)) d → Push L x l m d a b k →
       Bridge L M (st (dot x l) a) (st (dot y m) b) k
 

@@ -36,7 +36,8 @@ AreFlips L flips = (x : Var) → IsTrue (flips x) ↔ Flip L x
 -- between named variables, of which the first exists, one lies below the other exactly if a judgement counts nought
 abbrev pub ExactLaw : Type 0
 ExactLaw =
-    (L : Given) (named flips : Var → Bool) → AreNamed L named → AreFlips L flips → (x y : Var) → Named named x → Named named y →
+    (L : Given) (named flips : Var → Bool) → AreNamed L named → AreFlips L flips → (x y : Var) → Named named x →
+    Named named y →
     Der L (V x) →
     Der L (S x y) ↔ Bridge L (Named named) (st x Co) (st y Co) 0
 
@@ -49,21 +50,24 @@ pub record IsTable (L : Given) (named : Var → Bool) (edge : State → State �
 -- a closed table has ways for the counted judgements, and no others
 abbrev pub WaysLaw : Type 0
 WaysLaw =
-    (L : Given) (named : Var → Bool) (edge : State → State → ℕ → Bool) → AreNamed L named → IsTable L named edge → (x y : State) (k : ℕ) →
+    (L : Given) (named : Var → Bool) (edge : State → State → ℕ → Bool) → AreNamed L named → IsTable L named edge →
+    (x y : State) (k : ℕ) →
     (Bridge L (Named named) x y k → WayIn (Edge edge) x y k) ×
     (Named named x.var → Der L (V x.var) → Way (Edge edge) x y k → Bridge L (Named named) x y k)
 
 -- in a closed table a way of count nought leads from one variable to another exactly if the first lies below the second
 abbrev pub TableLaw : Type 0
 TableLaw =
-    (L : Given) (named flips : Var → Bool) (edge : State → State → ℕ → Bool) → AreNamed L named → AreFlips L flips → IsTable L named edge →
+    (L : Given) (named flips : Var → Bool) (edge : State → State → ℕ → Bool) → AreNamed L named → AreFlips L flips →
+    IsTable L named edge →
     (x y : Var) → Named named x → Named named y → Der L (V x) → Der L (S x y) ↔ Way (Edge edge) (st x Co) (st y Co) 0
 
 -- where edges have the lines of a shorter list, and are closed under the pushes of a longer one, of which each fact of the shorter one
 -- holds, there is a way wherever the shorter list says that a variable lies below another
 abbrev pub FewerLaw : Type 0
 FewerLaw =
-    (L fewer : Given) (named : Var → Bool) (edge : State → State → ℕ → Bool) → AreNamed fewer named → ((f : Fact) → Der fewer f → Der L f) →
+    (L fewer : Given) (named : Var → Bool) (edge : State → State → ℕ → Bool) → AreNamed fewer named →
+    ((f : Fact) → Der fewer f → Der L f) →
     IsClosed (Edge edge) L (Named named) → HasLines (Edge edge) fewer →
     (x y : Var) → Named named x → Named named y → Der fewer (S x y) → Way (Edge edge) (st x Co) (st y Co) 0
 
@@ -76,5 +80,6 @@ LowLaw =
 -- and an upper bound by a constant below the count
 abbrev pub UpLaw : Type 0
 UpLaw =
-    (order : Below) (lines : List Line) (x : Dtv) (k : ℕ) → IsOrder order → All (HasConstantsBelow order.count) lines → k < order.count →
+    (order : Below) (lines : List Line) (x : Dtv) (k : ℕ) → IsOrder order → All (HasConstantsBelow order.count) lines →
+    k < order.count →
     Derivable order lines (Up x k) ↔ HasUp order lines x k

@@ -23,7 +23,8 @@ module _ (Edge : State → State → ℕ → Type 0) where
   -- whatever is pushed from a way has a way
   abbrev pub IsClosed : Given → (Var → Type 0) → Type 0
   IsClosed L M =
-      (x y : Var) (l m : Label) (a b : Variance) (d k : ℕ) → M (dot x l) → M (dot y m) → Der L (V (dot x l)) → Der L (V (dot y m)) →
+      (x y : Var) (l m : Label) (a b : Variance) (d k : ℕ) → M (dot x l) → M (dot y m) → Der L (V (dot x l)) →
+      Der L (V (dot y m)) →
       Way Edge (st x (times (label_variance l) a)) (st y (times (label_variance m) b)) d → Push L x l m d a b k →
       WayIn (st (dot x l) a) (st (dot y m) b) k
 

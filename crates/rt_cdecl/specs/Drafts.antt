@@ -166,7 +166,8 @@ Fits parts (Stated returns n args) = MayReturn parts parts.stage returns n × Al
 -- the parts are those of a header
 abbrev pub IsWhole : Parts → Type 0
 IsWhole parts =
-    (parts.stage ≡ Idle) × (length parts.structs ≡ parts.named) × All (Contains (used_types parts.structs parts.functions)) parts.typedefs
+    (parts.stage ≡ Idle) × (length parts.structs ≡ parts.named) ×
+    All (Contains (used_types parts.structs parts.functions)) parts.typedefs
 
 -- the declarations of whole parts
 abbrev pub decls_of : Parts → Decls

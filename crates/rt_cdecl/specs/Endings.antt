@@ -55,7 +55,8 @@ AreApart (x ∷ xs) = (Contains xs x → ⊥) × AreApart xs
 
 -- a list has the items of another but one, and but those of a third
 abbrev pub IsDropped : {X : Type 0} → List X → X → List X → Type 0
-IsDropped {X} old item new = (x : X) → (Contains new x → Contains old x × (x ≡ item → ⊥)) × (Contains old x → Contains new x ⊎ (x ≡ item))
+IsDropped {X} old item new = (x : X) →
+    (Contains new x → Contains old x × (x ≡ item → ⊥)) × (Contains old x → Contains new x ⊎ (x ≡ item))
 
 abbrev pub Drops : {X : Type 0} → List X → List X → List X → Type 0
 Drops {X} old gone new =

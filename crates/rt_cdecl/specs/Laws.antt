@@ -6,4 +6,5 @@ use Rattle.rt_cdecl.specs.GoodDecls.{IsGoodDecls}
 
 -- a text is that of one list of declarations alone
 abbrev pub OneHeader : Type 0
-OneHeader = (first second : Decls) → IsGoodDecls first → IsGoodDecls second → decls_text first ≡ decls_text second → first ≡ second
+OneHeader = (first second : Decls) → IsGoodDecls first → IsGoodDecls second → decls_text first ≡ decls_text second →
+    first ≡ second

@@ -83,7 +83,8 @@ fn scalar_parts(text: &[u8]) -> Option<(&[u8], u8)>
 
 // The scalar of what stands after `rt_`.
 pub fn read_scalar(alloc: Global, text: &[u8]) -> Result<CType, TextFault>
-    ensures { (name : List ℕ) (bits : ℕ) → IsWidth bits → name ++ 95 ∷ decimal bits ≡ text.now → Gives (Scalar name bits) result }
+    ensures { (name : List ℕ) (bits : ℕ) → IsWidth bits → name ++ 95 ∷ decimal bits ≡ text.now →
+        Gives (Scalar name bits) result }
 {
     let Some((name, bits)) = scalar_parts(text) else {
         return Err(TextFault::BadText(0));
@@ -110,7 +111,8 @@ fn take_pointer(text: &[u8]) -> Result<(CType, &[u8]), TextFault>
 
 // The scalar that a text begins with, up to a space, and what follows the space.
 fn take_scalar(alloc: Global, text: &[u8]) -> Result<(CType, &[u8]), TextFault>
-    ensures { (name : List ℕ) (bits : ℕ) (rest : List ℕ) → IsType (Scalar name bits) → scalar_text name bits ++ 32 ∷ rest ≡ text.now →
+    ensures { (name : List ℕ) (bits : ℕ) (rest : List ℕ) → IsType (Scalar name bits) →
+        scalar_text name bits ++ 32 ∷ rest ≡ text.now →
         MatchResult result (λ p. (p.0 ≡ Scalar name bits) × (p.1.now ≡ rest)) (λ e. e ≡ Memory) }
 {
     let (front, back) = split_before(text, b' ');

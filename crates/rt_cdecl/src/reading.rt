@@ -124,7 +124,8 @@ fn read_struct_line(text: &[u8]) -> Option<Row>
 
 // What a function gives, which a text begins with, and what follows it.
 fn take_returns(alloc: Global, text: &[u8]) -> Result<(Returns, &[u8]), TextFault>
-    ensures { (returns : Returns) (n : ℕ) (rest : List ℕ) → IsReturned returns → IsNumber n → returns_text n returns ++ rest ≡ text.now →
+    ensures { (returns : Returns) (n : ℕ) (rest : List ℕ) → IsReturned returns → IsNumber n →
+        returns_text n returns ++ rest ≡ text.now →
         MatchResult result (λ p. (p.0 ≡ returns) × (p.1.now ≡ rest)) (λ e. e ≡ Memory) }
 {
     if let Some(rest) = after_front(text, b"void ") {
@@ -167,7 +168,8 @@ fn place(i: u32) -> Loc
 
 // What follows the name of an argument, which a text begins with.
 fn after_place(text: &[u8]) -> &[u8]
-    ensures { (i : ℕ) (rest : List ℕ) → i ≤ 16392 → StopsDigits rest → loc_text (place_of i) ++ rest ≡ text.now → result.now ≡ rest }
+    ensures { (i : ℕ) (rest : List ℕ) → i ≤ 16392 → StopsDigits rest → loc_text (place_of i) ++ rest ≡ text.now →
+        result.now ≡ rest }
 {
     match text {
         [] => text,
@@ -177,7 +179,8 @@ fn after_place(text: &[u8]) -> &[u8]
 
 // The arguments of a text that goes on to the end of a line, of which there are some.
 fn take_args(alloc: Global, text: &[u8]) -> Result<CArgs, TextFault>
-    ensures { (arg : Loc × CType) (args : List (Loc × CType)) → AreArgs (arg ∷ args) → args_text (arg ∷ args) ++ codes ");" ≡ text.now →
+    ensures { (arg : Loc × CType) (args : List (Loc × CType)) → AreArgs (arg ∷ args) →
+        args_text (arg ∷ args) ++ codes ");" ≡ text.now →
         Gives (arg ∷ args) result }
 {
     let mut args = CArgs::new(alloc);

@@ -26,7 +26,8 @@ count_true flips = count_by (λ b. b) flips
 
 -- a place that flips holds a load or a store
 abbrev pub AreAtPointers : List Label → List Bool → Type 0
-AreAtPointers word flips = (i : ℕ) → i < length word → IsTrue (slice_index_or flips i false) → IsPointer (slice_index_or word i Load)
+AreAtPointers word flips = (i : ℕ) → i < length word → IsTrue (slice_index_or flips i false) →
+    IsPointer (slice_index_or word i Load)
 
 -- from each place that flips the rest keeps the order
 abbrev pub AreAllOnes : List Label → List Bool → Type 0

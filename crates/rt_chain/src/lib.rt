@@ -43,7 +43,8 @@ pub fn next(alloc: Global, word: &Word, flips: &[bool]) -> Result<Option<Word>, 
     ensures spelling { IfOk result (λ found. MatchOption found (AreAllOnes word.now flips.now) (λ w. AreSpellings flips.now word.now w)) }
     ensures number { IfOk result (λ found. MatchOption found (AreAllOnes word.now flips.now)
         (λ w. number_of w flips.now ≡ number_of word.now flips.now + 1)) }
-    ensures not_all { IfOk result (λ found. MatchOption found (AreAllOnes word.now flips.now) (λ w. AreAllOnes word.now flips.now → ⊥)) }
+    ensures not_all { IfOk result
+        (λ found. MatchOption found (AreAllOnes word.now flips.now) (λ w. AreAllOnes word.now flips.now → ⊥)) }
 {
     let mut sign = variance_of(word);
     let letters = word.items();

@@ -32,5 +32,6 @@ pub record AreSuccessors (graph : List (List ℕ)) (class : List ℕ) (count upt
   pub each : length others ≡ count
   pub found : (a b : ℕ) → a < upto → HasEdge graph a b → slice_index class b ≢ slice_index class a →
       Contains (group_at others (slice_index class a)) (slice_index class b)
-  pub only : (k h : ℕ) → Contains (group_at others k) h → (a : ℕ) × (b : ℕ) × HasEdge graph a b × (slice_index class a ≡ k) ×
+  pub only : (k h : ℕ) → Contains (group_at others k) h →
+      (a : ℕ) × (b : ℕ) × HasEdge graph a b × (slice_index class a ≡ k) ×
       (slice_index class b ≡ h) × (h ≢ k)

@@ -31,7 +31,8 @@ pub record AreGroups (count : ℕ) (Edge : ℕ → ℕ → Type 0) (groups : Lis
   pub nodes : (a : ℕ) → (a < count) ↔ IsAmongFirst groups (length groups) a
   pub full : (k : ℕ) → k < length groups → 0 < length (group_at groups k)
   pub rising : (k : ℕ) → k < length groups → IsStrictlyIncreasing (group_at groups k)
-  pub together : (j k a b : ℕ) → Contains (group_at groups j) a → Contains (group_at groups k) b → (j ≡ k) ↔ AreTogether Edge a b
+  pub together : (j k a b : ℕ) → Contains (group_at groups j) a → Contains (group_at groups k) b →
+      (j ≡ k) ↔ AreTogether Edge a b
   pub may : (k : ℕ) → k < length groups → MayCome Edge groups k k
   pub least : (k j : ℕ) → k ≤ j → j < length groups → MayCome Edge groups k j →
       slice_index (group_at groups k) 0 ≤ slice_index (group_at groups j) 0

@@ -62,7 +62,8 @@ pub record IsQueueOf (others members : List (List ℕ)) (come : List Bool) (orde
   pub waiting_each : length waiting ≡ length others
   pub come_on : (k : ℕ) → HasCome come k → Contains order k
   pub come_back : (k : ℕ) → Contains order k → HasCome come k
-  pub passed_come : (k e : ℕ) → e < slice_index passed k → e < length (group_at others k) → HasCome come (slice_index (group_at others k) e)
+  pub passed_come : (k e : ℕ) → e < slice_index passed k → e < length (group_at others k) →
+      HasCome come (slice_index (group_at others k) e)
   pub somewhere : (k : ℕ) → k < length others → IsToCome come k → Contains ready (least_of members k) ⊎
       (IsWaiting others come waiting k ⊎ Contains todo k)
   pub ready_only : (a : ℕ) → Contains ready a → (k : ℕ) × (k < length others) × (least_of members k ≡ a) × IsToCome come k ×

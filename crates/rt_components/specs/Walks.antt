@@ -26,12 +26,14 @@ IsNotBefore starts i j = (s : ℕ) → Contains starts s → s ≤ i → s ≤ j
 
 -- the node is in a class, or on the path in the component of a place or a later one
 abbrev pub IsMet : List State → List ℕ → ℕ → ℕ → Type 0
-IsMet state starts i a = ((g : ℕ) × (state_of state a ≡ InClass g)) ⊎ ((j : ℕ) × (state_of state a ≡ OnPath j) × IsNotBefore starts i j)
+IsMet state starts i a = ((g : ℕ) × (state_of state a ≡ InClass g)) ⊎
+    ((j : ℕ) × (state_of state a ≡ OnPath j) × IsNotBefore starts i j)
 
 -- an edge that was followed from the node, at a place, leads to a node that is in a class or lies on
 abbrev pub LeadsOn : List (List ℕ) → List State → List ℕ → List ℕ → ℕ → ℕ → Type 0
 LeadsOn graph state followed starts i a =
-    (e : ℕ) → e < slice_index followed a → e < length (successors graph a) → IsMet state starts i (slice_index (successors graph a) e)
+    (e : ℕ) → e < slice_index followed a → e < length (successors graph a) →
+    IsMet state starts i (slice_index (successors graph a) e)
 
 -- the node has no edge left to follow
 abbrev pub IsSpent : List (List ℕ) → List ℕ → ℕ → Type 0
@@ -42,8 +44,10 @@ IsSpent graph followed a = length (successors graph a) ≤ slice_index followed 
 pub record AreWhole (graph : List (List ℕ)) (state : List State) (heads : List ℕ) : Type 0 where
   pub within : (a g : ℕ) → state_of state a ≡ InClass g → (a < length graph) × (g < length heads)
   pub some : (g : ℕ) → g < length heads → state_of state (slice_index heads g) ≡ InClass g
-  pub down : (a b g : ℕ) → state_of state a ≡ InClass g → HasEdge graph a b → (h : ℕ) × (state_of state b ≡ InClass h) × (h ≤ g)
-  pub together : (a b g h : ℕ) → state_of state a ≡ InClass g → state_of state b ≡ InClass h → (g ≡ h) ↔ AreTogether (HasEdge graph) a b
+  pub down : (a b g : ℕ) → state_of state a ≡ InClass g → HasEdge graph a b →
+      (h : ℕ) × (state_of state b ≡ InClass h) × (h ≤ g)
+  pub together : (a b g h : ℕ) → state_of state a ≡ InClass g → state_of state b ≡ InClass h →
+      (g ≡ h) ↔ AreTogether (HasEdge graph) a b
 
 -- The path: each of its nodes knows its place. Each place is in a component. Places that are not pending have no edge
 -- left to follow. An edge that was followed leads on, and what lies on is reached.

@@ -21,7 +21,8 @@ pub(crate) struct Classes {
 pub(crate) fn members_of(alloc: Global, classes: &Classes) -> Result<Vec<Sequence<u32>>, Memory>
     requires classes { All (λ k. k < classes.now.count) classes.now.class.items }
     requires nodes { length classes.now.class.items < 2 ^ 32 }
-    ensures { IfOk result (λ members. AreMembers classes.now.class.items classes.now.count (length classes.now.class.items) members.items) }
+    ensures { IfOk result
+        (λ members. AreMembers classes.now.class.items classes.now.count (length classes.now.class.items) members.items) }
 {
     let mut members = empty_lists(alloc, classes.count)?;
     for node in 0..classes.class.len() as u32 {

@@ -27,7 +27,8 @@ struct Queue {
 // The index of the first successor from an index on that has not come, or their number.
 fn first_left(come: &[bool], successors: &[usize], from: usize) -> usize
     requires { All (λ k. k < length come.now) successors.now }
-    ensures come { (e : ℕ) → from ≤ e → e < result → e < length successors.now → HasCome come.now (slice_index successors.now e) }
+    ensures come { (e : ℕ) → from ≤ e → e < result → e < length successors.now →
+        HasCome come.now (slice_index successors.now e) }
     ensures left { result < length successors.now → IsToCome come.now (slice_index successors.now result) }
 {
     let mut next = from;

@@ -96,4 +96,5 @@ IsKnownForm object Stop = Unit {0}
 
 -- what a site names is the object's
 abbrev pub IsLawOfNames : Type 0
-IsLawOfNames = (object : Object) (place : Place) (form : Form) → IsLinkable object → IsAt object place (Ok form) → IsKnownForm object form
+IsLawOfNames = (object : Object) (place : Place) (form : Form) → IsLinkable object → IsAt object place (Ok form) →
+    IsKnownForm object form

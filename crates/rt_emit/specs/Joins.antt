@@ -42,4 +42,5 @@ IsGrounded graph b = (n : ℕ) × (node_of graph (bare b) ≡ Some n) × (node_o
 -- the line comes to the others where its base is grounded, and else they stay as they are
 abbrev pub IsKeptOrLeft : Graph → Line → List Line → List Line → Type 0
 IsKeptOrLeft graph l old new =
-    (IsGrounded graph (first_side l).base × (new ≡ old ++ l ∷ [])) ⊎ ((IsGrounded graph (first_side l).base → ⊥) × (new ≡ old))
+    (IsGrounded graph (first_side l).base × (new ≡ old ++ l ∷ [])) ⊎
+    ((IsGrounded graph (first_side l).base → ⊥) × (new ≡ old))

@@ -17,7 +17,8 @@ IsReached graph n = (x : Dtv) × (node_of graph x ≡ Some n)
 
 -- the letters that are given for a variable's node are those that lead on
 abbrev pub AreLettersOf : Graph → BTreeMap ℕ (List Label) → Type 0
-AreLettersOf graph letters = (n : ℕ) (l : Label) → IsReached graph n → Contains (letters_at letters n) l ↔ IsSome (step_of graph n l)
+AreLettersOf graph letters = (n : ℕ) (l : Label) → IsReached graph n →
+    Contains (letters_at letters n) l ↔ IsSome (step_of graph n l)
 
 -- edges of the graph, from nodes of variables
 abbrev pub AreEdges : Graph → List ((ℕ × Label) × ℕ) → Type 0

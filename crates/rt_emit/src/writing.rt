@@ -59,7 +59,8 @@ pub fn push_next(queue: &mut Queue, x: &Dtv, letters: &Word) -> Result<(), Memor
 // Takes the letters away from the node, and puts the variables in that have one of them more than its variable.
 fn push_letters(letters: &mut Letters, queue: &mut Queue, node: u32, x: &Dtv) -> Result<(), Memory>
     ensures letters { OnOk result ((m : ℕ) → letters_at letters.new m ≡ cond (nat_eq node m) [] (letters_at letters.old m)) }
-    ensures holds { OnOk result ((y : Dtv) → Contains queue.new y ↔ (Contains queue.old y ⊎ IsNext x.now (letters_at letters.old node) y)) }
+    ensures holds { OnOk result ((y : Dtv) →
+        Contains queue.new y ↔ (Contains queue.old y ⊎ IsNext x.now (letters_at letters.old node) y)) }
     ensures less { OnOk result (total letters.new + length queue.new ≤ total letters.old + length queue.old) }
 {
     match letters.remove(&node) {

@@ -28,9 +28,11 @@ pub record AreImplicit (L fewer : Given) (I : Var → Type 0) : Type 0 where
 -- what is pushed behind load and store of these variables, from what lies below what, and what may have a common lower variable
 pub record ArePushedBehind (L : Given) (M I : Var → Type 0) (below meets pushed : Var → Var → Type 0) : Type 0 where
   pub co : {x y : Var} (p l : Label) → IsPointer p → variance_of_word (p ∷ l ∷ []) ≡ Co → I x →
-      IsThere L M (dot (dot x p) l) → IsThere L M (dot (dot y p) l) → Der L (E x y) → below x y → pushed (dot (dot x p) l) (dot (dot y p) l)
+      IsThere L M (dot (dot x p) l) → IsThere L M (dot (dot y p) l) → Der L (E x y) → below x y →
+      pushed (dot (dot x p) l) (dot (dot y p) l)
   pub contra : {x y : Var} (p l : Label) → IsPointer p → variance_of_word (p ∷ l ∷ []) ≡ Contra → I x →
-      IsThere L M (dot (dot x p) l) → IsThere L M (dot (dot y p) l) → Der L (E x y) → below x y → pushed (dot (dot y p) l) (dot (dot x p) l)
+      IsThere L M (dot (dot x p) l) → IsThere L M (dot (dot y p) l) → Der L (E x y) → below x y →
+      pushed (dot (dot y p) l) (dot (dot x p) l)
   pub pointer_co : {x y : Var} (l : Label) → label_variance l ≡ Co → I x →
       IsThere L M (dot (dot x Store) l) → IsThere L M (dot (dot y Load) l) → Der L (E x y) → meets x y →
       pushed (dot (dot x Store) l) (dot (dot y Load) l)

@@ -39,7 +39,8 @@ FewerLaw =
 -- the law of fewer lines, of an upper relation by hubs
 abbrev pub HubsLaw : Type 0
 HubsLaw =
-    (L fewer : Given) (named : Var → Bool) (lies pushed : Var → Var → Bool) → AreNamed fewer named → ((f : Fact) → Der fewer f → Der L f) →
+    (L fewer : Given) (named : Var → Bool) (lies pushed : Var → Var → Bool) → AreNamed fewer named →
+    ((f : Fact) → Der fewer f → Der L f) →
     IsByHubs L (Named named) (Holds lies) (Holds pushed) → HasLines fewer (Holds lies) →
     (x y : Var) → Named named x → Named named y → Der fewer (S x y) → Steps fewer (Holds pushed) x y
 
@@ -50,7 +51,8 @@ NeedNoHub L M = (x y : Var) (l m : Label) → NeedHub L M x y l m → Lower L M 
 -- where no hub is needed for what doesn't meet, the lower relation is derivability between named variables
 abbrev pub ExactLaw : Type 0
 ExactLaw =
-    (L : Given) (named : Var → Bool) → AreNamed L named → NeedNoHub L (Named named) → (x y : Var) → Named named x → Named named y →
+    (L : Given) (named : Var → Bool) → AreNamed L named → NeedNoHub L (Named named) → (x y : Var) → Named named x →
+    Named named y →
     Der L (S x y) ↔ Lower L (Named named) below x y
 
 -- the law of fewer lines, of an upper relation that leaves out load and store of some variables, if it has what is pushed behind these

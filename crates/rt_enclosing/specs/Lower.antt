@@ -40,9 +40,11 @@ pub data Lower (L : Given) (M : Var → Type 0) : Relation → Var → Var → T
   contra : {r : Relation} {x y : Var} (w : List Label) → variance_of_word w ≡ Contra → Lower L M r x y →
       IsThere L M (rest x w) → IsThere L M (rest y w) → Lower L M (opposite r) (rest y w) (rest x w)
   pointer_co : {x y : Var} (w : List Label) → variance_of_word w ≡ Co → Lower L M meets x y →
-      IsThere L M (rest (dot x Store) w) → IsThere L M (rest (dot y Load) w) → Lower L M below (rest (dot x Store) w) (rest (dot y Load) w)
+      IsThere L M (rest (dot x Store) w) → IsThere L M (rest (dot y Load) w) →
+      Lower L M below (rest (dot x Store) w) (rest (dot y Load) w)
   pointer_contra : {x y : Var} (w : List Label) → variance_of_word w ≡ Contra → Lower L M meets x y →
-      IsThere L M (rest (dot x Store) w) → IsThere L M (rest (dot y Load) w) → Lower L M below (rest (dot y Load) w) (rest (dot x Store) w)
+      IsThere L M (rest (dot x Store) w) → IsThere L M (rest (dot y Load) w) →
+      Lower L M below (rest (dot y Load) w) (rest (dot x Store) w)
 
 -- what the relations say by derivability
 abbrev pub Means : Given → Relation → Var → Var → Type 0

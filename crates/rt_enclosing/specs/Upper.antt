@@ -30,7 +30,8 @@ pub record IsUpper (L : Given) (M : Var → Type 0) (below meets pushed : Var �
   -- have a common lower variable
   pub co : {x y : Var} (l : Label) → label_variance l ≡ Co → IsThere L M (dot x l) → IsThere L M (dot y l) → Der L (E x y) →
       below x y → pushed (dot x l) (dot y l)
-  pub contra : {x y : Var} (l : Label) → label_variance l ≡ Contra → IsThere L M (dot x l) → IsThere L M (dot y l) → Der L (E x y) →
+  pub contra : {x y : Var} (l : Label) → label_variance l ≡ Contra → IsThere L M (dot x l) → IsThere L M (dot y l) →
+      Der L (E x y) →
       below x y → pushed (dot y l) (dot x l)
   pub pointer : {x y : Var} → IsThere L M (dot x Store) → IsThere L M (dot y Load) → Flip L x → Der L (E x y) →
       meets x y → pushed (dot x Store) (dot y Load)
@@ -55,7 +56,8 @@ pub record IsByHubs (L : Given) (M : Var → Type 0) (below pushed : Var → Var
   pub chain : {x y z : Var} → below x y → below y z → below x z
   pub stays : {x y : Var} → pushed x y → below x y
   pub co : {x y : Var} (l : Label) → label_variance l ≡ Co → M (dot x l) → M (dot y l) → below x y → pushed (dot x l) (dot y l)
-  pub contra : {x y : Var} (l : Label) → label_variance l ≡ Contra → M (dot x l) → M (dot y l) → below x y → pushed (dot y l) (dot x l)
+  pub contra : {x y : Var} (l : Label) → label_variance l ≡ Contra → M (dot x l) → M (dot y l) → below x y →
+      pushed (dot y l) (dot x l)
   pub pointer : {x : Var} → M (dot x Store) → M (dot x Load) → pushed (dot x Store) (dot x Load)
   -- load and store of what can be read and written through are in the set, and where a hub is needed there is one
   pub filled : {x : Var} → IsThere L M x → Flip L x → M (dot x Load) × M (dot x Store)

@@ -8,6 +8,3 @@ mod file;
 pub use entail::entails;
 pub use fault::EntailFault;
 pub use file::read_file;
-
-#[cfg(test)]
-mod tests;

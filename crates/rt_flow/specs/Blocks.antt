@@ -27,7 +27,8 @@ pub record AreTargets (body : Body) (block firsts : List ℕ) (targets : List (L
   pub each : length targets + 1 ≡ length firsts
   pub all : (s t : ℕ) → Steps body s t → slice_index firsts (slice_index block t) ≡ t →
       Contains (slice_index_or targets (slice_index block s) []) (slice_index block t)
-  pub only : (b c : ℕ) → Contains (slice_index_or targets b []) c → (s : ℕ) × (t : ℕ) × Steps body s t × (slice_index block s ≡ b) ×
+  pub only : (b c : ℕ) → Contains (slice_index_or targets b []) c →
+      (s : ℕ) × (t : ℕ) × Steps body s t × (slice_index block s ≡ b) ×
       (slice_index block t ≡ c) × (slice_index firsts c ≡ t)
 
 -- none of the sites is in a range
@@ -53,11 +54,13 @@ pub record AreLasts (firsts sites : List ℕ) (lasts : List (Option ℕ)) : Type
 -- where one comes from some blocks through blocks without a definition
 pub data Run (targets : List (List ℕ)) (lasts : List (Option ℕ)) (starts : List ℕ) : ℕ → Type 0 where
   begins : {b : ℕ} → Contains starts b → Run targets lasts starts b
-  goes : {b c : ℕ} → Run targets lasts starts b → slice_index_or lasts b None ≡ None → Contains (slice_index_or targets b []) c →
+  goes : {b c : ℕ} → Run targets lasts starts b → slice_index_or lasts b None ≡ None →
+      Contains (slice_index_or targets b []) c →
       Run targets lasts starts c
 
 -- the definition reaches the first site of the block: Entry from the entry's block, that of a site from the targets of the
 -- block in which it is the last one
 abbrev pub Arrives : List (List ℕ) → List (Option ℕ) → ℕ → Def → ℕ → Type 0
 Arrives targets lasts entry Entry b = Run targets lasts (entry ∷ []) b
-Arrives targets lasts entry (At d) b = (a : ℕ) × (slice_index_or lasts a None ≡ Some d) × Run targets lasts (slice_index_or targets a []) b
+Arrives targets lasts entry (At d) b = (a : ℕ) × (slice_index_or lasts a None ≡ Some d) ×
+    Run targets lasts (slice_index_or targets a []) b

@@ -26,4 +26,5 @@ pub record IsTable (firsts : List ℕ) (targets : List (List ℕ)) (entry : ℕ)
   pub within : (b : ℕ) → b < length table → slice_index table b < length sets
   pub order : (b : ℕ) → b < length table → AllPairs Precedes (slice_index_or sets (slice_index table b) [])
   pub arriving : (lasts : List (Option ℕ)) × AreLasts firsts sites lasts ×
-      ((b : ℕ) (x : Def) → b < length table → Contains (slice_index_or sets (slice_index table b) []) x ↔ Arrives targets lasts entry x b)
+      ((b : ℕ) (x : Def) → b < length table →
+      Contains (slice_index_or sets (slice_index table b) []) x ↔ Arrives targets lasts entry x b)

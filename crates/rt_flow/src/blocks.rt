@@ -91,7 +91,8 @@ fn part(joined: &mut Vec<bool>, site: u32)
 fn part_others(joined: &mut Vec<bool>, graph: &Graph)
     ensures each { length joined.new.items ≡ length joined.old.items }
     ensures kept { (t : ℕ) → IsTrue (slice_index_or joined.new.items t false) → IsTrue (slice_index_or joined.old.items t false) }
-    ensures only { (t a b : ℕ) → IsTrue (slice_index_or joined.new.items t false) → Steps graph.now a b → (a + 1 ≡ t) ⊎ (b ≡ t) →
+    ensures only { (t a b : ℕ) → IsTrue (slice_index_or joined.new.items t false) → Steps graph.now a b →
+        (a + 1 ≡ t) ⊎ (b ≡ t) →
         (a + 1 ≡ t) × (b ≡ t) }
 {
     for (from, to) in graph.edges() {

@@ -193,7 +193,8 @@ fn ask_target(asked: &mut Asked, site: u32, call: &Call) -> Result<(), Memory>
 
 // Asks for what is passed in an argument register, if the callee takes it.
 fn ask_argument(asked: &mut Asked, site: u32, call: &Call, register: u8) -> Result<(), Memory>
-    ensures { OnOk result (asked.new ≡ asked.old ++ (if takes_register call.now register then Question.OfUse site register ∷ [] else [])) }
+    ensures { OnOk result (asked.new ≡ asked.old
+        ++ (if takes_register call.now register then Question.OfUse site register ∷ [] else [])) }
 {
     if call.takes_register(register) {
         ask(asked, site, register)?;
@@ -237,7 +238,8 @@ pub(crate) fn asked(
     site: u32,
 ) -> Result<Sequence<Question>, Memory>
     requires { site < sites_in body.now }
-    ensures { IfOk result (λ asked. asked ≡ questions (reading_of body.now) calls.now site (action_at (reading_of body.now).actions site)) }
+    ensures { IfOk result
+        (λ asked. asked ≡ questions (reading_of body.now) calls.now site (action_at (reading_of body.now).actions site)) }
 {
     let mut asked = Sequence::new(alloc);
     let action = body.actions()[site as usize];

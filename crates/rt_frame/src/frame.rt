@@ -27,7 +27,8 @@ pub struct Frame {
     pub(crate) reach: Reach,
     ghost taken_rising: { AreRising taken },
     ghost saved_rising: { AreRising saved },
-    ghost within: { (site d : ℕ) (loc : ℤ) → site < sites_of reach → Contains (defs_in reach site loc) (At d) → d < sites_of reach },
+    ghost within: { (site d : ℕ) (loc : ℤ) → site < sites_of reach → Contains (defs_in reach site loc) (At d) →
+        d < sites_of reach },
 }
 
 impl Frame {

@@ -29,7 +29,8 @@ fn width_bytes(width: Width) -> u32
 // Lets a site define so many bytes from an offset on. Locations don't wrap.
 fn define_bytes(graph: &mut Graph, site: u32, offset: i32, count: u32) -> Result<(), Memory>
     requires { site < graph.old.sites }
-    ensures { OnOk result (graph.new ≡ record graph.old { defs = graph.old.defs ++ map (λ byte. (site, byte)) (bytes_from offset count) }) }
+    ensures { OnOk result (graph.new ≡
+        record graph.old { defs = graph.old.defs ++ map (λ byte. (site, byte)) (bytes_from offset count) }) }
 {
     for i in 0..count {
         graph.add_def(site, BYTES + i64::from(offset) + i64::from(i))?;

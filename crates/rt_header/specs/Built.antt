@@ -110,7 +110,8 @@ pub record IsFunctionBuilt (forest : Forest) (structs : Structs) (i : ℕ) (func
   pub places : (j : ℕ) → j < length function.args → (get_or function.args j (place_of 0, Unused)).0 ≡ place_of j
   pub args : (j : ℕ) → j < length function.args →
       IsPortOf forest structs i (In (place_of j)) (get_or function.args j (place_of 0, Unused)).1
-  pub all : (loc : Loc) → IsSome (step_of (tree_of forest i) 0 (In loc)) → (j : ℕ) × (j < length function.args) × (place_of j ≡ loc)
+  pub all : (loc : Loc) → IsSome (step_of (tree_of forest i) 0 (In loc)) →
+      (j : ℕ) × (j < length function.args) × (place_of j ≡ loc)
   pub out0 : IsPortOf forest structs i (Out 0) function.out0
   pub out1 : IsPortOf forest structs i (Out 1) function.out1
 

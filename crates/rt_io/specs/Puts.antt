@@ -40,7 +40,7 @@ pub record PutsFront {S : Type 0} (written : S → Option (List ℕ)) (Takes Ref
   pub put : IsPutUpTo Takes Refuses text old new
 
 -- A line was put whole, in one put: it was appended, unless that put failed.
-pub record PutsLine {S : Type 0} (written : S → Option (List ℕ)) (faults : S → ℕ) (Takes Refuses : S → List ℕ → S → Type 0) (old new : S)
-    (line : List ℕ) : Type 0 where
+pub record PutsLine {S : Type 0} (written : S → Option (List ℕ)) (faults : S → ℕ)
+    (Takes Refuses : S → List ℕ → S → Type 0) (old new : S) (line : List ℕ) : Type 0 where
   pub told : Tells (faults old) (faults new) (written old) (written new) line
   pub put : Takes old line new ⊎ Refuses old line new

@@ -75,7 +75,8 @@ impl Files for FilesOf {
         ensures same { (n : List ℕ) → content_of self.new.contents n ≡ content_of self.old.contents n }
         ensures counted { (n : List ℕ) → faults_of self.old n ≤ faults_of self.new n }
         ensures failed { IsErrOf result FileFault.Failed → Rose (faults_of self.old name.now) (faults_of self.new name.now) }
-        ensures longer { IsErrOf result FileFault.Longer → IfSome (content_of self.old.contents name.now) (λ bytes. limit < length bytes) }
+        ensures longer { IsErrOf result FileFault.Longer →
+            IfSome (content_of self.old.contents name.now) (λ bytes. limit < length bytes) }
         ensures ok { IfOk result (λ found. IfSome (content_of self.old.contents name.now) (λ bytes. found.items ≡ bytes)) }
         ensures within { IfOk result (λ found. length found.items ≤ limit) }
         ensures next { self.new ≡ after_read self.old }

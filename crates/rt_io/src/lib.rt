@@ -14,6 +14,3 @@ pub use files::{FileFault, Files};
 pub use files_of::FilesOf;
 pub use put::{put_all, put_line};
 pub use sink::{Sink, SinkFault};
-
-#[cfg(test)]
-mod tests;

@@ -54,7 +54,8 @@ pub record HaveNoJoin (R : ℕ → ℕ → Type 0) (names : List (List ℕ)) (fi
 pub data IsOrderFault (R : ℕ → ℕ → Type 0) (names : List (List ℕ)) : LatFault → Type 0 where
   is_cycle : (name : List ℕ) → IsOnCycle R names name → IsOrderFault R names (Cycle name)
   is_no_top : HasNoCycle R (length names) → (HasTop R (length names) → ⊥) → IsOrderFault R names NoTop
-  is_no_bottom : HasNoCycle R (length names) → HasTop R (length names) → (HasBottom R (length names) → ⊥) → IsOrderFault R names NoBottom
+  is_no_bottom : HasNoCycle R (length names) → HasTop R (length names) → (HasBottom R (length names) → ⊥) →
+      IsOrderFault R names NoBottom
   is_no_join : (first second : List ℕ) → HasNoCycle R (length names) → HasTop R (length names) → HasBottom R (length names) →
       HaveNoJoin R names first second
       → IsOrderFault R names (NoJoin first second)
@@ -70,7 +71,8 @@ pub record HasNoOrderFault (R : ℕ → ℕ → Type 0) (n : ℕ) : Type 0 where
 -- without a name
 pub data IsFileFault (file : File) : LatFault → Type 0 where
   is_unknown : (name : List ℕ) → unknown_name file ≡ Some name → IsFileFault file (Unknown name)
-  is_of_order : (fault : LatFault) → unknown_name file ≡ None → IsOrderFault (IsUnderIn file) file.names fault → IsFileFault file fault
+  is_of_order : (fault : LatFault) → unknown_name file ≡ None → IsOrderFault (IsUnderIn file) file.names fault →
+      IsFileFault file fault
   is_no_role : (role : Role) → unknown_name file ≡ None → HasNoOrderFault (IsUnderIn file) (length file.names) →
       missing_role file ≡ Some role
       → IsFileFault file (NoRole role)

@@ -37,7 +37,8 @@ pairs_in = each_in (λ d. option_and_then pair_in (as_array d))
 -- the keys of a table with what stands there, where all that is strings
 abbrev pub role_names_in : Members → Option (List RoleName)
 role_names_in no_members = Some []
-role_names_in (member k d ms) = option_and_then (λ s. option_map (λ rs. record { key = k; name = s } ∷ rs) (role_names_in ms)) (as_str d)
+role_names_in (member k d ms) = option_and_then
+    (λ s. option_map (λ rs. record { key = k; name = s } ∷ rs) (role_names_in ms)) (as_str d)
 
 -- what stands at the three keys of a lattice file
 abbrev pub names_at : Members → Option (List (List ℕ))

@@ -29,10 +29,13 @@ pub record ReachesReturn (program : Program) (q d r : ℕ) (writer : Site) : Typ
 -- or a procedure gives it in which this one goes on for good. An external function gives what its signature names, and where
 -- it has none, or is not known, a0.
 pub data Gives (program : Program) : Callee → ℕ → Type 0 where
-  by_instruction : {q d r : ℕ} {writer : Site} → ReachesReturn program q d r writer → is_call writer.kind ≡ false → Gives program (Proc q) r
-  by_call : {q d r link : ℕ} {writer : Site} {callee : Callee} → ReachesReturn program q d r writer → writer.kind ≡ kind.Call callee link
+  by_instruction : {q d r : ℕ} {writer : Site} → ReachesReturn program q d r writer → is_call writer.kind ≡ false →
+      Gives program (Proc q) r
+  by_call : {q d r link : ℕ} {writer : Site} {callee : Callee} → ReachesReturn program q d r writer →
+      writer.kind ≡ kind.Call callee link
       → Gives program callee r → Gives program (Proc q) r
-  by_tail : {q s r : ℕ} {reading : Reading} {site : Site} {callee : Callee} → IsSiteOf program q s reading site → Contains site.tails callee
+  by_tail : {q s r : ℕ} {reading : Reading} {site : Site} {callee : Callee} → IsSiteOf program q s reading site →
+      Contains site.tails callee
       → Gives program callee r → Gives program (Proc q) r
   by_signature : {symbol r : ℕ} → r ≤ 1 → IsSigned program symbol (Out r) → Gives program (Extern symbol) r
   by_default : {symbol : ℕ} → signature_at program symbol ≡ None → Gives program (Extern symbol) 0

@@ -35,7 +35,8 @@ AreReturnedRules named sites reaching q s kind rule = (kind ≡ Return) × AreRe
 
 -- those of a procedure that goes on in a callee for good
 abbrev pub AreCalleeRules : List Named → ℕ → Callee → Rule → Type 0
-AreCalleeRules named q callee rule = (r : ℕ) × (r < 2) × (rule ≡ record { when = when_given named callee r; port = port_of q (10 + r) })
+AreCalleeRules named q callee rule = (r : ℕ) × (r < 2) ×
+    (rule ≡ record { when = when_given named callee r; port = port_of q (10 + r) })
 
 abbrev pub AreTailRules : List Named → ℕ → List Callee → Rule → Type 0
 AreTailRules named q tails rule = (callee : Callee) × Contains tails callee × AreCalleeRules named q callee rule
@@ -48,7 +49,8 @@ AreSiteRules named sites reaching q s site rule =
 -- those of a procedure
 abbrev pub AreGivesRules : List Named → List Site → (ℕ → ℕ → List Def) → ℕ → Rule → Type 0
 AreGivesRules named sites reaching q rule =
-    (s : ℕ) × (s < length sites) × ((site : Site) × (slice_get sites s ≡ Some site) × AreSiteRules named sites reaching q s site rule)
+    (s : ℕ) × (s < length sites) ×
+    ((site : Site) × (slice_get sites s ≡ Some site) × AreSiteRules named sites reaching q s site rule)
 
 -- a procedure and what is known of it, by its number
 pub record IsProcedure (procs : List Proc) (bodies : List Body) (q : ℕ) (proc : Proc) (body : Body) : Type 0 where

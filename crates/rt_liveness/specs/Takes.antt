@@ -46,12 +46,15 @@ pub record IsPassed (program : Program) (q s register : ℕ) : Type 0 where
 pub data Takes (program : Program) : Taker → ℕ → Type 0 where
   by_instruction : {q s register : ℕ} {site : Site} → ReachesSite program q s register site → Contains (reads_of site.kind) register
       → Takes program (Procedure q) register
-  by_callee : {q s register : ℕ} {site : Site} {callee : Callee} → ReachesSite program q s register site → Contains (callees_of site) callee
+  by_callee : {q s register : ℕ} {site : Site} {callee : Callee} → ReachesSite program q s register site →
+      Contains (callees_of site) callee
       → Takes program (CalleeAt q s callee) register → Takes program (Procedure q) register
-  by_return : {q s r : ℕ} {site : Site} → (reaches : ReachesSite program q s (result_register r) site) → site.kind ≡ kind.Return → r ≤ 1
+  by_return : {q s r : ℕ} {site : Site} → (reaches : ReachesSite program q s (result_register r) site) →
+      site.kind ≡ kind.Return → r ≤ 1
       → HasReal program reaches.reading q s r → Takes program (Procedure q) (result_register r)
   of_procedure : {q s p register : ℕ} → Takes program (Procedure p) register → Takes program (CalleeAt q s (Proc p)) register
-  by_signature : {q s symbol n : ℕ} → n ≤ 7 → IsSigned program symbol (In (Arg n)) → Takes program (CalleeAt q s (Extern symbol)) (10 + n)
+  by_signature : {q s symbol n : ℕ} → n ≤ 7 → IsSigned program symbol (In (Arg n)) →
+      Takes program (CalleeAt q s (Extern symbol)) (10 + n)
   by_count : {q s symbol n : ℕ} → n ≤ 7 → IsCounted program symbol n → Takes program (CalleeAt q s (Extern symbol)) (10 + n)
   by_pointer : {q s register through : ℕ} → is_argument register ≡ true → IsPassed program q s register
       → Takes program (CalleeAt q s (Unknown through)) register

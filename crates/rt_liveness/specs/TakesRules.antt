@@ -30,13 +30,15 @@ AreTakenRules named sites q callees register defs rule =
     × (rule ≡ record { when = when_taken named sites defs callee register; port = port_of q register })
 
 -- those of both, where Entry reaches the site
-abbrev pub AreRegisterRules : List Port → List Named → List Site → ℕ → Kind → List Callee → ℕ → List Def → Rule → Type 0
+abbrev pub AreRegisterRules : List Port → List Named → List Site → ℕ → Kind → List Callee → ℕ → List Def →
+    Rule → Type 0
 AreRegisterRules given named sites q kind callees register defs rule =
     (begins_with_entry defs ≡ true)
     × (IsReadRule given named sites q kind register defs rule ⊎ AreTakenRules named sites q callees register defs rule)
 
 -- those of a site for all argument registers
-abbrev pub AreRegistersRules : List Port → List Named → List Site → (ℕ → ℕ → List Def) → ℕ → ℕ → Site → Rule → Type 0
+abbrev pub AreRegistersRules : List Port → List Named → List Site → (ℕ → ℕ → List Def) → ℕ → ℕ → Site →
+    Rule → Type 0
 AreRegistersRules given named sites reaching q s site rule =
     (n : ℕ) × (n < 8) × AreRegisterRules given named sites q site.kind (callees_of site) (10 + n) (reaching s (10 + n)) rule
 

@@ -277,7 +277,8 @@ pub(crate) fn takes_rules(
     requires bodies { count ≡ length bodies.now }
     requires each { (q : ℕ) (proc : TheProc) (body : TheBody) → q < count
         → length (get_or procs.now q proc).sites ≡ sites_in (get_or bodies.now q body) }
-    ensures { IfOk result (λ rules. (rule : Rule) → Contains rules rule ↔ AreAllRules given.now.keys named.now procs.now bodies.now rule) }
+    ensures { IfOk result
+        (λ rules. (rule : Rule) → Contains rules rule ↔ AreAllRules given.now.keys named.now procs.now bodies.now rule) }
 {
     let mut rules = Sequence::new(alloc);
     for number in 0..count {

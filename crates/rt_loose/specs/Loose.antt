@@ -41,7 +41,8 @@ pub data Loosely (order : Below) (lines : List Line) : Line → Type 0 where
   sub_line : {x y : Dtv} → Contains lines (Sub x y) → Loosely order lines (Sub x y)
   sub_self : {x : Dtv} → Loosely order lines (Var x) → Loosely order lines (Sub x x)
   sub_chain : {x y z : Dtv} → Loosely order lines (Sub x y) → Loosely order lines (Sub y z) → Loosely order lines (Sub x z)
-  sub_co : {x y : Dtv} (l : Label) → Loosely order lines (Sub x y) → Loosely order lines (Var (longer y l)) → label_variance l ≡ Co →
+  sub_co : {x y : Dtv} (l : Label) → Loosely order lines (Sub x y) → Loosely order lines (Var (longer y l)) →
+      label_variance l ≡ Co →
       Loosely order lines (Sub (longer x l) (longer y l))
   sub_contra : {x y : Dtv} (l : Label) → Loosely order lines (Sub x y) → Loosely order lines (Var (longer y l)) →
       label_variance l ≡ Contra → Loosely order lines (Sub (longer y l) (longer x l))

@@ -72,8 +72,8 @@ string_table symbols = 0 ∷ flat_map (λ symbol. name_string symbol.name) symbo
 -- sh_addralign, sh_entsize
 unfoldable pub section_header : Section → ℕ → ℕ → List ℕ
 section_header section align entry =
-    words (
-    0 ∷ section.kind ∷ section.flags ∷ 0 ∷ section.offset ∷ section.size ∷ section.link ∷ section.info ∷ align ∷ entry ∷ [])
+    words (0 ∷ section.kind ∷ section.flags ∷ 0 ∷ section.offset ∷ section.size ∷
+    section.link ∷ section.info ∷ align ∷ entry ∷ [])
 
 unfoldable pub section_headers : ℕ → ℕ → ℕ → ℕ → List ℕ
 section_headers words relocs symbols strings =

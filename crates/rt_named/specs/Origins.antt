@@ -29,6 +29,7 @@ pub record AreMade (origins : List Origin) (known : List Dtv) : Type 0 where
   pub size : length known ≡ length origins
   pub few : length origins < 4294967296
   pub below : (i : ℕ) → i < length origins → IsBelow (slice_index_or origins i (Bare (Proc 0))) i
-  pub each : (i : ℕ) → i < length origins → slice_index_or known i no_variable ≡ made known (slice_index_or origins i (Bare (Proc 0)))
+  pub each : (i : ℕ) → i < length origins →
+      slice_index_or known i no_variable ≡ made known (slice_index_or origins i (Bare (Proc 0)))
   pub distinct : (i j : ℕ) → i < length origins → j < length origins →
       slice_index_or known i no_variable ≡ slice_index_or known j no_variable → i ≡ j

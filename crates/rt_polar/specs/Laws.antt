@@ -31,7 +31,8 @@ OneAnswerLaw = (lines left other : List Line) → Puts left lines → Puts other
 abbrev pub NoneLeftLaw : Type 0
 NoneLeftLaw =
     (lines left : List Line) → Puts left lines →
-    (sign : Variance) (n : ℕ) (z : Dtv) (before after : List Line) → z.base ≢ Exist n → left ≡ before ++ use_of sign n z ∷ after →
+    (sign : Variance) (n : ℕ) (z : Dtv) (before after : List Line) → z.base ≢ Exist n →
+    left ≡ before ++ use_of sign n z ∷ after →
     All (λ l. HasUse sign n l → ⊥) (before ++ after) → ⊥
 
 -- tidied lines tell the outside the same

@@ -45,7 +45,8 @@ pub record AreUses (sign : Variance) (slots : List (Option Line)) (index : ℕ �
   pub source : (n i : ℕ) → index n i ≡ true → (l : Line) × Holds slots i l × HasUse sign n l
 
 -- what is kept beside the slots fits them, and no line puts a variable beside itself
-pub record AreHeld (slots : List (Option Line)) (at : ℕ → ℕ → Bool) (naming defining consuming : ℕ → ℕ → Bool) : Type 0 where
+pub record AreHeld (slots : List (Option Line)) (at : ℕ → ℕ → Bool) (naming defining consuming : ℕ → ℕ → Bool)
+    : Type 0 where
   pub found : IsFound slots at
   pub named : IsIndexed Naming slots naming
   pub defined : IsIndexed Defining slots defining

@@ -101,7 +101,8 @@ pub fn forget(index: &mut Index, line: &Line, slot: usize)
 /// The least slot of the existential, or of the digest, from one on. It takes no memory.
 pub fn next_at(index: &Index, v: u32, from: usize) -> Option<usize>
     ensures { MatchOption result ((i : ℕ) → from ≤ i → has index.now v i ≡ true → ⊥)
-        (λ slot. (from ≤ slot) × (has index.now v slot ≡ true) × ((i : ℕ) → from ≤ i → has index.now v i ≡ true → slot ≤ i)) }
+        (λ slot. (from ≤ slot) × (has index.now v slot ≡ true) ×
+        ((i : ℕ) → from ≤ i → has index.now v i ≡ true → slot ≤ i)) }
 {
     let Some(least) = index.range((v, from)..).next() else {
         return None;

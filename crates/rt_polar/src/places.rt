@@ -119,7 +119,8 @@ impl Places {
     // The slot of the line, if one holds it.
     fn find(&self, row: &Row) -> Option<usize>
         requires { ArePlaces self.now }
-        ensures { MatchOption result ((i : ℕ) → Holds self.now.slots.items i row.now → ⊥) (λ i. Holds self.now.slots.items i row.now) }
+        ensures { MatchOption result ((i : ℕ) → Holds self.now.slots.items i row.now → ⊥)
+            (λ i. Holds self.now.slots.items i row.now) }
     {
         let digest = row.digest();
         let mut from = 0;

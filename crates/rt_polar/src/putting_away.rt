@@ -222,7 +222,8 @@ fn placed(alloc: Global, lines: Lines) -> Result<Places, Memory>
 
 // The existentials that lines in slots name.
 fn named(alloc: Global, slots: &[Option<Row>]) -> Result<Pending, Memory>
-    ensures { IfOk result (λ pending. (i n : ℕ) (l : TheLine) → Holds slots.now i l → Names n l → contains nat_cmp pending n ≡ true) }
+    ensures { IfOk result
+        (λ pending. (i n : ℕ) (l : TheLine) → Holds slots.now i l → Names n l → contains nat_cmp pending n ≡ true) }
 {
     let mut pending = BTreeSet::new(alloc);
     for slot in slots {

@@ -37,7 +37,8 @@ IsInBodyOf object ends set own place = Walk (λ p. p ≡ own) (StepsOutside obje
 -- a set has the functions, and what is called in the bodies of its places
 pub record IsCallClosed (object : Object) (ends : List ℕ) (set : Place → Bool) : Type 0 where
   pub functions : (place : Place) → IsFunction object place → IsTrue (set place)
-  pub calls : (own from to : Place) → IsTrue (set own) → IsInBodyOf object ends set own from → Calls object ends from to → IsTrue (set to)
+  pub calls : (own from to : Place) → IsTrue (set own) → IsInBodyOf object ends set own from → Calls object ends from to →
+      IsTrue (set to)
 
 -- each such set has all entries
 abbrev pub IsLawOfLeast : Type 0
@@ -103,9 +104,11 @@ IsLawOfFaultPlaces =
 abbrev pub IsLawOfOneFault : Type 0
 IsLawOfOneFault =
     (object : Object) (ends : List ℕ) (number other_number : ℕ) (place other : Place)
-    → IsFirstFault object ends number place → IsFirstFault object ends other_number other → (number ≡ other_number) × (place ≡ other)
+    → IsFirstFault object ends number place → IsFirstFault object ends other_number other →
+    (number ≡ other_number) × (place ≡ other)
 
 -- an object has one list of procedures, where these symbols end paths
 abbrev pub IsLawOfOneList : Type 0
 IsLawOfOneList =
-    (object : Object) (ends : List ℕ) (first second : List Proc) → AreProcs object ends first → AreProcs object ends second → first ≡ second
+    (object : Object) (ends : List ℕ) (first second : List Proc) → AreProcs object ends first → AreProcs object ends second →
+    first ≡ second

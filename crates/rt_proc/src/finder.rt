@@ -115,7 +115,8 @@ fn all_entries(
 ) -> Result<Vec<Place>, AllocError>
     requires looks { AreLooksOf code.now.source.object.now code.now.source.ends.now code.now.looks.now }
     requires functions { (place : Place) → Contains functions.now place ↔ IsFunction code.now.source.object.now place }
-    requires reached { (place : Place) → Contains reached.now place ↔ IsReached code.now.source.object.now code.now.source.ends.now place }
+    requires reached { (place : Place) →
+        Contains reached.now place ↔ IsReached code.now.source.object.now code.now.source.ends.now place }
     ensures { IfOk result (λ entries. AreEntries code.now.source.object.now code.now.source.ends.now entries.items) }
 {
     places();

@@ -24,7 +24,8 @@ use Rattle.rt_reduction.specs.Simplifies.{HasNoTwins, Simplifies}
 
 -- one list at most is kept
 abbrev pub OneDropLaw : Type 0
-OneDropLaw = (order : Below) (lines first second : List Line) → Drops order [] lines first → Drops order [] lines second → first ≡ second
+OneDropLaw = (order : Below) (lines first second : List Line) → Drops order [] lines first → Drops order [] lines second →
+    first ≡ second
 
 -- what is kept stood there
 abbrev pub KeptLaw : Type 0
@@ -37,7 +38,8 @@ KeptDeriveLaw = (order : Below) (lines kept : List Line) → Drops order [] line
 
 -- the outside can derive the same from what is kept
 abbrev pub DropsAlikeLaw : Type 0
-DropsAlikeLaw = (order : Below) (inside : Base → Bool) (lines kept : List Line) → Drops order [] lines kept → Alike order inside lines kept
+DropsAlikeLaw = (order : Below) (inside : Base → Bool) (lines kept : List Line) → Drops order [] lines kept →
+    Alike order inside lines kept
 
 -- no kept line is derivable from the other ones
 abbrev pub NoneToSpareLaw : Type 0
@@ -48,7 +50,8 @@ NoneToSpareLaw =
 -- where every existential is inside, the outside can derive the same from what is left when places were given away and twins became one
 abbrev pub SimplifiesAlikeLaw : Type 0
 SimplifiesAlikeLaw =
-    (order : Below) (inside : Base → Bool) (lines left : List Line) → ((n : ℕ) → inside (Exist n) ≡ true) → Simplifies left lines →
+    (order : Below) (inside : Base → Bool) (lines left : List Line) → ((n : ℕ) → inside (Exist n) ≡ true) →
+    Simplifies left lines →
     Alike order inside lines left
 
 -- one list at most is left
@@ -67,7 +70,8 @@ HasNoSelf lines = (x : Dtv) → (Contains lines (Sub x x) → ⊥) × (Contains 
 -- where every existential is inside, the outside can derive the same from what is left
 abbrev pub MergesAlikeLaw : Type 0
 MergesAlikeLaw =
-    (order : Below) (inside : Base → Bool) (lines left : List Line) → ((n : ℕ) → inside (Exist n) ≡ true) → Merges order left lines →
+    (order : Below) (inside : Base → Bool) (lines left : List Line) → ((n : ℕ) → inside (Exist n) ≡ true) →
+    Merges order left lines →
     Alike order inside lines left
 
 -- one list at most is left
@@ -77,7 +81,8 @@ OneMergeLaw = (order : Below) (lines left other : List Line) → Merges order le
 -- no existential that is left equals a side of another base
 abbrev pub NoEqualLaw : Type 0
 NoEqualLaw =
-    (order : Below) (lines left : List Line) → Merges order left lines → (n : ℕ) (z : Dtv) (l : Line) → Contains left l → HasSide l z →
+    (order : Below) (lines left : List Line) → Merges order left lines → (n : ℕ) (z : Dtv) (l : Line) → Contains left l →
+    HasSide l z →
     z.base ≢ Exist n → Derivable order left (Sub (exist n) z) → Derivable order left (Sub z (exist n)) → ⊥
 
 -- where no line puts a variable beside itself, none of what is left does
@@ -89,16 +94,19 @@ MergesNoSelfLaw = (order : Below) (lines left : List Line) → Merges order left
 -- derive the same from what is emitted.
 abbrev pub EmitsAlikeLaw : Type 0
 EmitsAlikeLaw =
-    (order : Below) (inside : Base → Bool) (lines emitted : List Line) → ((n : ℕ) → inside (Exist n) ≡ true) → AreOfScheme lines →
+    (order : Below) (inside : Base → Bool) (lines emitted : List Line) → ((n : ℕ) → inside (Exist n) ≡ true) →
+    AreOfScheme lines →
     IsEmitted order lines emitted → Alike order inside lines emitted
 
 -- and so is each side of what is emitted
 abbrev pub EmitsOfSchemeLaw : Type 0
-EmitsOfSchemeLaw = (order : Below) (lines emitted : List Line) → AreOfScheme lines → IsEmitted order lines emitted → AreOfScheme emitted
+EmitsOfSchemeLaw = (order : Below) (lines emitted : List Line) → AreOfScheme lines → IsEmitted order lines emitted →
+    AreOfScheme emitted
 
 -- one list at most is emitted
 abbrev pub OneEmitLaw : Type 0
-OneEmitLaw = (order : Below) (lines first second : List Line) → IsEmitted order lines first → IsEmitted order lines second → first ≡ second
+OneEmitLaw = (order : Below) (lines first second : List Line) → IsEmitted order lines first → IsEmitted order lines second →
+    first ≡ second
 
 -- each existential that is named has a use
 abbrev pub EmitsUsedLaw : Type 0
@@ -108,7 +116,8 @@ EmitsUsedLaw =
 
 -- a chain joins each existential that is named to a procedure or a global
 abbrev pub EmitsJoinedLaw : Type 0
-EmitsJoinedLaw = (order : Below) (lines emitted : List Line) → IsEmitted order lines emitted → (n : ℕ) → NamesBase emitted (Exist n) →
+EmitsJoinedLaw = (order : Below) (lines emitted : List Line) → IsEmitted order lines emitted → (n : ℕ) →
+    NamesBase emitted (Exist n) →
     IsAnchored emitted (Exist n)
 
 -- no line puts a variable beside itself
@@ -123,7 +132,8 @@ OneFormLaw = (order : Below) (lines first second : List Line) → IsReducedForm 
 -- where every existential is inside, the outside can derive the same from the reduced form
 abbrev pub FormAlikeLaw : Type 0
 FormAlikeLaw =
-    (order : Below) (inside : Base → Bool) (lines form : List Line) → ((n : ℕ) → inside (Exist n) ≡ true) → AreOfScheme lines →
+    (order : Below) (inside : Base → Bool) (lines form : List Line) → ((n : ℕ) → inside (Exist n) ≡ true) →
+    AreOfScheme lines →
     IsReducedForm order lines form → Alike order inside lines form
 
 -- the sides of the reduced form are such sides again, of procedures that the lines name
@@ -157,7 +167,8 @@ ReorderedReducedLaw =
 
 -- a round names no base anew
 abbrev pub RoundNamesLaw : Type 0
-RoundNamesLaw = (order : Below) (lines after : List Line) → IsRound order lines after → (b : Base) → NamesBase after b → NamesBase lines b
+RoundNamesLaw = (order : Below) (lines after : List Line) → IsRound order lines after → (b : Base) → NamesBase after b →
+    NamesBase lines b
 
 -- where something is left to do, a round loses an existential
 abbrev pub RoundLosesLaw : Type 0

@@ -24,7 +24,8 @@ Refines lines left = (class : ℕ → ℕ) × IsCoarsest lines class × (left �
 -- Existentials that are used alike become one, places are given away, and twins become one. Where an existential is idle then, the lines
 -- of idle ones become their shapes, and so on, until none of them has a `<=` line or bound.
 pub data Prepares (left : List Line) : List Line → Type 0 where
-  prepared : (lines between : List Line) (idle : ℕ → Bool) → Refines lines between → Simplifies left between → AreIdle left idle →
+  prepared : (lines between : List Line) (idle : ℕ → Bool) → Refines lines between → Simplifies left between →
+      AreIdle left idle →
       trimmed idle left ≡ left → Prepares left lines
   trims : (lines between simple : List Line) (idle : ℕ → Bool) → Refines lines between → Simplifies simple between →
       AreIdle simple idle → trimmed idle simple ≢ simple → Prepares left (tidied (trimmed idle simple)) → Prepares left lines
@@ -51,7 +52,8 @@ pub record IsDone (lines : List Line) : Type 0 where
 pub data IsUnfinished (lines : List Line) : Type 0 where
   of_candidate : (n : ℕ) → HasCandidate n lines → IsUnfinished lines
   of_twins : (sign : Variance) (class : ℕ → ℕ) (n : ℕ) → IsTwinning sign lines class → class n ≢ n → IsUnfinished lines
-  of_unused : (n : ℕ) → NamesBase lines (Exist n) → ((l : Line) → Contains lines l → HasUse Co n l ⊎ HasUse Contra n l → ⊥) →
+  of_unused : (n : ℕ) → NamesBase lines (Exist n) →
+      ((l : Line) → Contains lines l → HasUse Co n l ⊎ HasUse Contra n l → ⊥) →
       IsUnfinished lines
   of_unjoined : (n : ℕ) → NamesBase lines (Exist n) → (IsAnchored lines (Exist n) → ⊥) → IsUnfinished lines
 

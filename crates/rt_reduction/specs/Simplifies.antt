@@ -21,5 +21,6 @@ pub data IsTurnOf : Variance → List Line → Type 0 where
 -- on until there are no twins
 pub data Simplifies (left : List Line) : List Line → Type 0 where
   simple : (lines : List Line) → Puts left lines → HasNoTwins Co left → HasNoTwins Contra left → Simplifies left lines
-  twins_go : (lines between : List Line) (sign : Variance) (class : ℕ → ℕ) (w : ℕ) → Puts between lines → IsTurnOf sign between →
+  twins_go : (lines between : List Line) (sign : Variance) (class : ℕ → ℕ) (w : ℕ) → Puts between lines →
+      IsTurnOf sign between →
       IsCoarsestTwinning sign between class → class w ≢ w → Simplifies left (tidied (refined class between)) → Simplifies left lines

@@ -19,7 +19,8 @@ RefinedAlikeLaw =
 
 -- lines have one coarsest refinement at most
 abbrev pub OneCoarsestLaw : Type 0
-OneCoarsestLaw = (lines : List Line) (class other : ℕ → ℕ) → IsCoarsest lines class → IsCoarsest lines other → (n : ℕ) → class n ≡ other n
+OneCoarsestLaw = (lines : List Line) (class other : ℕ → ℕ) → IsCoarsest lines class → IsCoarsest lines other → (n : ℕ) →
+    class n ≡ other n
 
 -- and so one list at most is left by it
 abbrev pub OneRefinedLaw : Type 0
@@ -39,12 +40,14 @@ RefinedSidesLaw =
 
 -- what is left names bases that the lines name
 abbrev pub RefinedNamesLaw : Type 0
-RefinedNamesLaw = (lines : List Line) (class : ℕ → ℕ) (b : Base) → IsRefinement lines class → NamesBase (refined class lines) b →
+RefinedNamesLaw = (lines : List Line) (class : ℕ → ℕ) (b : Base) → IsRefinement lines class →
+    NamesBase (refined class lines) b →
     NamesBase lines b
 
 -- and of each class the least existential alone
 abbrev pub RefinedLeastLaw : Type 0
-RefinedLeastLaw = (lines : List Line) (class : ℕ → ℕ) (n : ℕ) → IsRefinement lines class → NamesBase (refined class lines) (Exist n) →
+RefinedLeastLaw = (lines : List Line) (class : ℕ → ℕ) (n : ℕ) → IsRefinement lines class →
+    NamesBase (refined class lines) (Exist n) →
     class n ≡ n
 
 -- the same constants bound some variable from below, and the same ones from above

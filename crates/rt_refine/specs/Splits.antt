@@ -19,7 +19,8 @@ pub record IsSplit (side : Side) (lines : List Line) (moves old new : ℕ → �
   pub least : (v : ℕ) → new v ≤ v
   pub own : (v : ℕ) → new (new v) ≡ new v
   pub alone : (v : ℕ) → (IsNamed lines v → ⊥) → new v ≡ v
-  pub one : (v w : ℕ) → IsNamed lines v → IsNamed lines w → old v ≡ old w → HaveSameUses side lines moves v w → new v ≡ new w
+  pub one : (v w : ℕ) → IsNamed lines v → IsNamed lines w → old v ≡ old w → HaveSameUses side lines moves v w →
+      new v ≡ new w
   pub parts : (v w : ℕ) → new v ≡ new w → (v ≡ w) ⊎ ((old v ≡ old w) × HaveSameUses side lines moves v w)
   pub stays : changed ≡ false → (v : ℕ) → (new v ≡ old v) ⊎ (IsNamed lines v → ⊥)
   pub differs : changed ≡ true → (v : ℕ) × IsNamed lines v × (new v ≢ old v)

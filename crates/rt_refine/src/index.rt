@@ -79,7 +79,8 @@ pub fn use_index(
 // The least number of the existential from one on.
 fn next_at(index: &Index, existential: u32, from: usize) -> Option<usize>
     ensures { MatchOption result ((i : ℕ) → from ≤ i → has index.now existential i ≡ true → ⊥)
-        (λ k. (from ≤ k) × (has index.now existential k ≡ true) × ((i : ℕ) → from ≤ i → has index.now existential i ≡ true → k ≤ i)) }
+        (λ k. (from ≤ k) × (has index.now existential k ≡ true) ×
+        ((i : ℕ) → from ≤ i → has index.now existential i ≡ true → k ≤ i)) }
 {
     let Some(least) = index.range((existential, from)..).next() else {
         return None;

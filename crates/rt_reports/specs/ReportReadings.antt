@@ -44,5 +44,6 @@ IsFault names text Memory = Unit {0}
 -- a text is that of one report alone
 abbrev pub OneReport : Type 0
 OneReport =
-    (names : List (List ℕ)) (first second : Report) → AreNames names → IsReport (length names) first → IsReport (length names) second →
+    (names : List (List ℕ)) (first second : Report) → AreNames names → IsReport (length names) first →
+    IsReport (length names) second →
     report_text names first ≡ report_text names second → first ≡ second

@@ -24,7 +24,8 @@ pub data InPaper (lines : List Line) : Line → Type 0 where
   paper_sub_chain : {x y z : Dtv} → InPaper lines (Sub x y) → InPaper lines (Sub y z) → InPaper lines (Sub x z)
   paper_sub_co : {x y : Dtv} (l : Label) → InPaper lines (Sub x y) → InPaper lines (Var (longer y l)) → label_variance l ≡ Co →
       InPaper lines (Sub (longer x l) (longer y l))
-  paper_sub_contra : {x y : Dtv} (l : Label) → InPaper lines (Sub x y) → InPaper lines (Var (longer y l)) → label_variance l ≡ Contra →
+  paper_sub_contra : {x y : Dtv} (l : Label) → InPaper lines (Sub x y) → InPaper lines (Var (longer y l)) →
+      label_variance l ≡ Contra →
       InPaper lines (Sub (longer y l) (longer x l))
   paper_sub_pointer : (x : Dtv) → InPaper lines (Var (longer x Load)) → InPaper lines (Var (longer x Store)) →
       InPaper lines (Sub (longer x Store) (longer x Load))
@@ -47,7 +48,8 @@ HasNoSame lines = (x y : Dtv) → Contains lines (Same x y) → ⊥
 
 -- where no line is a `same`, the paper's rules derive the same variables
 abbrev pub WithoutSameVar : Type 0
-WithoutSameVar = (order : Below) (lines : List Line) (x : Dtv) → HasNoSame lines → Derivable order lines (Var x) ↔ InPaper lines (Var x)
+WithoutSameVar = (order : Below) (lines : List Line) (x : Dtv) → HasNoSame lines →
+    Derivable order lines (Var x) ↔ InPaper lines (Var x)
 
 -- where no line is a `same`, the paper's rules derive the same subtypings
 abbrev pub WithoutSameSub : Type 0

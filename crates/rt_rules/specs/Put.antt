@@ -80,4 +80,5 @@ BecomesSelf place n z l = (w : Dtv) × (l ≡ Sub w (exist n)) × (put_each plac
 -- what is in the place of an existential lies below it, and is what each of its definitions becomes
 pub record IsFollowing (place : ℕ → Option Dtv) (lines : List Line) : Type 0 where
   pub below : (n : ℕ) (z : Dtv) → place n ≡ Some z → (order : Below) → Derivable order lines (Sub z (exist n))
-  pub becomes : (n : ℕ) (z : Dtv) (l : Line) → place n ≡ Some z → Contains lines l → BecomesSelf place n z l ⊎ (HasUse Co n l → ⊥)
+  pub becomes : (n : ℕ) (z : Dtv) (l : Line) → place n ≡ Some z → Contains lines l →
+      BecomesSelf place n z l ⊎ (HasUse Co n l → ⊥)

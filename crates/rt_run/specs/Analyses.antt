@@ -44,7 +44,8 @@ pub record AreToldOf (told : Told) (object : Object) (order : NamedOrder) (signa
   pub are_kept : AreKept object (size_of order) lines
 
 -- of each number the lines are such, where there are any
-abbrev pub AreLists : Told → Object → NamedOrder → List Signature → List Proc → List (Option Scheme) → List (Option (List Line)) → Type 0
+abbrev pub AreLists : Told → Object → NamedOrder → List Signature → List Proc → List (Option Scheme) →
+    List (Option (List Line)) → Type 0
 AreLists told object order signatures procs schemes lists =
     (number : ℕ) (lines : List Line) → slice_index_or lists number None ≡ Some lines
     → AreToldOf told object order signatures procs schemes number lines

@@ -43,6 +43,7 @@ IsObjectRefused object ends BadJudgement = ⊥
 -- why the bytes of an object are refused, where these are the signatures of functions outside: the first check of them that fails, else
 -- what refuses the object that they are read as
 pub data IsRefused (signatures : List Signature) (bytes : List ℕ) : Refusal → Type 0 where
-  of_bytes : (number offset : ℕ) → first_fault bytes ≡ Some (Bad number offset) → IsRefused signatures bytes (BadObject number offset)
+  of_bytes : (number offset : ℕ) → first_fault bytes ≡ Some (Bad number offset) →
+      IsRefused signatures bytes (BadObject number offset)
   of_object : (object : Object) (refusal : Refusal) → IsReadAs bytes object → IsObjectRefused object (ends_of object signatures) refusal
       → IsRefused signatures bytes refusal

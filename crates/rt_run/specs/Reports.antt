@@ -49,7 +49,8 @@ pub record IsScheme (schemes : List (Option Scheme)) (number : ℕ) (lines : Lis
   pub lines_are : lines ≡ scheme.lines
 
 -- what a report tells of the procedure of a number
-abbrev pub IsTold : Told → Object → NamedOrder → List Signature → List Proc → List (Option Scheme) → ℕ → List Line → Type 0
+abbrev pub IsTold : Told → Object → NamedOrder → List Signature → List Proc → List (Option Scheme) → ℕ →
+    List Line → Type 0
 IsTold Constraints object order signatures procs schemes = AreConstraints object order signatures procs schemes
 IsTold Schemes object order signatures procs schemes = IsScheme schemes
 

@@ -78,7 +78,8 @@ pub record IsRefusedAt (command : Command) (content : Contents) (number : ℕ) (
 pub data IsRefusedBy (command : Command) (content : Contents) (refusal : Refusal) : Type 0 where
   of_lattice : (name : List ℕ) → lattice_of command ≡ Some name
       → IfSome (content name) (λ (text : List ℕ). IsLatticeRefused text refusal) → IsRefusedBy command content refusal
-  of_signatures : (name : List ℕ) (order : NamedOrder) → IsLatticeFor content (lattice_of command) order → signatures_of command ≡ Some name
+  of_signatures : (name : List ℕ) (order : NamedOrder) → IsLatticeFor content (lattice_of command) order →
+      signatures_of command ≡ Some name
       → IfSome (content name) (λ (text : List ℕ). IsSignaturesRefused order.names text refusal) → IsRefusedBy command content refusal
   of_input : (number : ℕ) (name : List ℕ) → IsRefusedAt command content number name refusal → IsRefusedBy command content refusal
 
@@ -95,13 +96,15 @@ IsStopFor stop NoTextMemory = stop ≡ NoMemory
 
 -- Why a file has no use to a command, where `Refuses` says which contents are refused. `content` tells what names hold, where it is told;
 -- `faults` and `faults'` count the faults of each name before and after.
-abbrev pub StopsAt : (List ℕ → Refusal → Type 0) → Contents → (List ℕ → ℕ) → (List ℕ → ℕ) → List ℕ → Stop → Type 0
+abbrev pub StopsAt : (List ℕ → Refusal → Type 0) → Contents → (List ℕ → ℕ) → (List ℕ → ℕ) → List ℕ →
+    Stop → Type 0
 StopsAt Refuses content faults faults' name (Refused refusal) = IfSome (content name) (λ (bytes : List ℕ). Refuses bytes refusal)
 StopsAt Refuses content faults faults' name (NoRead unread) = (unread.now ≡ name) × Rose (faults name) (faults' name)
 StopsAt Refuses content faults faults' name NoMemory = Unit {0}
 
 -- the same of a file that may be named
-abbrev pub StopsFor : (List ℕ → Refusal → Type 0) → Contents → (List ℕ → ℕ) → (List ℕ → ℕ) → Option (List ℕ) → Stop → Type 0
+abbrev pub StopsFor : (List ℕ → Refusal → Type 0) → Contents → (List ℕ → ℕ) → (List ℕ → ℕ) → Option (List ℕ) →
+    Stop → Type 0
 StopsFor Refuses content faults faults' None stop = stop ≡ NoMemory
 StopsFor Refuses content faults faults' (Some name) stop = StopsAt Refuses content faults faults' name stop
 
@@ -118,7 +121,8 @@ Gives command content text = Writes command content (λ (given : List ℕ). give
 
 -- How the work of a command ends: a text was put, or a put failed and so rose a count of faults, or it stopped and out is as it was.
 -- `Whole` and `Front` say what out has of a text that was put, and of one of which a put failed.
-abbrev pub Ends : Command → Contents → (List ℕ → ℕ) → (List ℕ → ℕ) → (List ℕ → Type 0) → Type 0 → (List ℕ → Type 0) → Type 0 →
+abbrev pub Ends : Command → Contents → (List ℕ → ℕ) → (List ℕ → ℕ) → (List ℕ → Type 0) → Type 0 →
+    (List ℕ → Type 0) → Type 0 →
     Ending → Type 0
 Ends command content faults faults' Whole Failed Front Same Written = Writes command content Whole
 Ends command content faults faults' Whole Failed Front Same NoWrite = Failed × Writes command content Front

@@ -1,5 +1,9 @@
 // Runs over files and streams in memory. What a command writes and refuses is shown by cases of the built program; here a
-// read and a write fail, and a report is read back.
+// read and a write fail, and a report is read back. The modules have what crates below say beyond the program's answers.
+mod counts;
+mod memory;
+mod trees;
+
 use crate::run;
 use rt_base::Bytes;
 use rt_io::{BytesSink, FilesOf};

@@ -208,7 +208,8 @@ pub fn run<F: Files, O: Sink, E: Sink>(
         PutsLine E.written E.faults E.takes E.refuses err.old err.new usage_line }
 
     // At status 3 a read of a file of the command failed, where those before it are accepted, and the line names it.
-    ensures unread { result ≡ 3 → IfSome (command_of (map string_bytes words.now.items)) (λ command. (step : Step) × (name : List ℕ) ×
+    ensures unread { result ≡ 3 →
+        IfSome (command_of (map string_bytes words.now.items)) (λ command. (step : Step) × (name : List ℕ) ×
         ComesTo command (F.content files.old) step name × Rose (F.faults files.old name) (F.faults files.new name) ×
         PutsLine E.written E.faults E.takes E.refuses err.old err.new (read_line name)) }
 

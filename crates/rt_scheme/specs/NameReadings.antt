@@ -14,7 +14,8 @@ abbrev pub unescaped : List ℕ → List ℕ
 unescaped [] = []
 unescaped (a ∷ []) = a ∷ []
 unescaped (a ∷ b ∷ []) = a ∷ b ∷ []
-unescaped (a ∷ b ∷ c ∷ text) = if a == 92 then (16 * digit_value b + digit_value c) ∷ unescaped text else a ∷ unescaped (b ∷ c ∷ text)
+unescaped (a ∷ b ∷ c ∷ text) =
+    if a == 92 then (16 * digit_value b + digit_value c) ∷ unescaped text else a ∷ unescaped (b ∷ c ∷ text)
 
 -- what the text is the text of, if it is that of a name
 abbrev pub meant : List ℕ → List ℕ

@@ -20,7 +20,8 @@ use std::alloc::Global;
 pub fn split(alloc: Global, lines: &[Line], own: u32) -> Result<Lines, Memory>
     requires { AreInterfaceLines lines.now }
     ensures alike { IfOk result (λ made. (order : Below) → Alike order (is_inside_for own) lines.now made) }
-    ensures constants { IfOk result (λ made. (count : ℕ) → All (HasConstantsBelow count) lines.now → All (HasConstantsBelow count) made) }
+    ensures constants { IfOk result
+        (λ made. (count : ℕ) → All (HasConstantsBelow count) lines.now → All (HasConstantsBelow count) made) }
     ensures globals { IfOk result (λ made. (n : ℕ) → NamesBase made (Base.Global n) → NamesBase lines.now (Base.Global n)) }
     ensures scheme { IfOk result (AreSchemeLines own) }
     ensures exact { IfOk result (λ made. made ≡ split_for own lines.now) }

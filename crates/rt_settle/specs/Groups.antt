@@ -30,7 +30,8 @@ pub record IsSchemeFor (order : Below) (own : ℕ) (lines : List Line) (scheme :
 -- one scheme for each member, in their order: the one that is chosen, which tells the outside of it what the lines tell
 pub record AreSchemesOf (order : Below) (members : List ℕ) (lines : List Line) (schemes : List Scheme) : Type 0 where
   pub one_each : length schemes ≡ length members
-  pub each : (i : ℕ) (d : Scheme) → i < length members → IsSchemeFor order (slice_index_or members i 0) lines (slice_index_or schemes i d)
+  pub each : (i : ℕ) (d : Scheme) → i < length members →
+      IsSchemeFor order (slice_index_or members i 0) lines (slice_index_or schemes i d)
 
 -- the scheme of the procedure that is chosen from the settled lines of its group, which tells the outside of it what they tell
 pub record IsSchemeFrom (order : Below) (own : ℕ) (settled : List Line) (scheme : Scheme) : Type 0 where

@@ -70,13 +70,15 @@ pub record IsNumbering (class : List ℕ) (number : List ℕ) (count : ℕ) : Ty
 -- the bases with the numbers of their nodes
 pub record AreBasesOf (graph : Graph) (number : List ℕ) (bases : List (Base × ℕ)) : Type 0 where
   pub on : (b : Base) (n : ℕ) → base_of graph b ≡ Some n → lookup (base_eq b) bases ≡ Some (slice_index number n)
-  pub back : (b : Base) (k : ℕ) → lookup (base_eq b) bases ≡ Some k → (n : ℕ) × (base_of graph b ≡ Some n) × (slice_index number n ≡ k)
+  pub back : (b : Base) (k : ℕ) → lookup (base_eq b) bases ≡ Some k →
+      (n : ℕ) × (base_of graph b ≡ Some n) × (slice_index number n ≡ k)
 
 -- the edges between the numbers of nodes
 pub record AreEdgesOf (graph : Graph) (number : List ℕ) (edges : List ((ℕ × Label) × ℕ)) : Type 0 where
   pub on : (m : ℕ) (l : Label) (n : ℕ) → step_of graph m l ≡ Some n →
       lookup (letter_eq (slice_index number m, l)) edges ≡ Some (slice_index number n)
-  pub back : (i : ℕ) (l : Label) (k : ℕ) → lookup (letter_eq (i, l)) edges ≡ Some k → (m : ℕ) × (n : ℕ) × (slice_index number m ≡ i) ×
+  pub back : (i : ℕ) (l : Label) (k : ℕ) → lookup (letter_eq (i, l)) edges ≡ Some k →
+      (m : ℕ) × (n : ℕ) × (slice_index number m ≡ i) ×
       (step_of graph m l ≡ Some n) × (slice_index number n ≡ k)
 
 -- the graph of the numbers of the nodes

@@ -12,7 +12,8 @@ use Rattle.rt_shape.specs.Shapes.{IsShapeOf}
 
 -- a step from the node of a variable leads to the node of the variable with that letter more
 abbrev pub StepLaw : Type 0
-StepLaw = (graph : Graph) (x : Dtv) (l : Label) (n : ℕ) → node_of graph x ≡ Some n → node_of graph (longer x l) ≡ step_of graph n l
+StepLaw = (graph : Graph) (x : Dtv) (l : Label) (n : ℕ) → node_of graph x ≡ Some n →
+    node_of graph (longer x l) ≡ step_of graph n l
 
 -- a node has a load and a store exactly if each of its variables has both
 abbrev pub ReadWriteLaw : Type 0

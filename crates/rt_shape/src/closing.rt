@@ -70,7 +70,8 @@ fn violation(
 // A pair in two classes, if there is one.
 fn pair_apart(pairs: &[(u32, u32)], class: &[u32]) -> Option<(u32, u32)>
     requires { (i j : ℕ) → Contains pairs.now (i, j) → (i < length class.now) × (j < length class.now) }
-    ensures some { IfSome result (λ pair. Contains pairs.now pair × (slice_index class.now pair.0 ≡ slice_index class.now pair.1 → ⊥)) }
+    ensures some { IfSome result
+        (λ pair. Contains pairs.now pair × (slice_index class.now pair.0 ≡ slice_index class.now pair.1 → ⊥)) }
     ensures none { IfNone result ((i j : ℕ) → Contains pairs.now (i, j) → slice_index class.now i ≡ slice_index class.now j) }
 {
     for (i, j) in pairs {

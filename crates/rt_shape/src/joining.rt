@@ -119,7 +119,8 @@ impl Joining {
     // Makes two nodes one: of their classes the one with fewer members is renamed into the other.
     fn join(&mut self, i: u32, j: u32) -> Result<(), Memory>
         requires { MayJoin self.old i j }
-        ensures sound { OnOk result ((graph : Graph) (pairs : List (ℕ × ℕ)) → IsSound graph pairs self.old → Joined graph pairs i j →
+        ensures sound { OnOk result ((graph : Graph) (pairs : List (ℕ × ℕ)) → IsSound graph pairs self.old →
+            Joined graph pairs i j →
             IsSound graph pairs self.new) }
         ensures work { OnOk result (work self.new ≡ work self.old) }
     {
@@ -150,7 +151,8 @@ impl Joining {
     // Makes one what is left to do, until nothing is.
     fn finish(&mut self) -> Result<(), Memory>
         requires { (graph : Graph) × (pairs : List (ℕ × ℕ)) × IsSound graph pairs self.old }
-        ensures { OnOk result ((graph : Graph) (pairs : List (ℕ × ℕ)) → IsSound graph pairs self.old → IsSound graph pairs self.new) }
+        ensures { OnOk result ((graph : Graph) (pairs : List (ℕ × ℕ)) → IsSound graph pairs self.old →
+            IsSound graph pairs self.new) }
     {
         while let Some((i, j)) = self.todo.pop() {
             self.join(i, j)?;

@@ -73,7 +73,8 @@ impl Tree {
         ensures within { IfOk result (λ n. n < self.new.count) }
         ensures here { IfOk result (λ n. (x : Dtv) → node_of self.old x ≡ Some node → node_of self.new (longer x label) ≡ Some n) }
         ensures kept { OnOk result ((x : Dtv) → Has self.old x → Has self.new x) }
-        ensures only { OnOk result ((x y : Dtv) → node_of self.old x ≡ Some node → Has self.new y → Has self.old y ⊎ (y ≡ longer x label)) }
+        ensures only { OnOk result ((x y : Dtv) → node_of self.old x ≡ Some node → Has self.new y →
+            Has self.old y ⊎ (y ≡ longer x label)) }
     {
         if let Some(next) = self.edges.get(&(node, label)) {
             return Ok(*next);

@@ -69,8 +69,8 @@ pub record IsPastArgs (names : List (List ℕ)) (args : Option ℕ) (text : List
   pub past : is_within args line ≡ false
 
 -- Whole signatures stand before the rest of the text, which begins with the line of this number, from 1.
-pub record IsBetween (version : Version) (names : List (List ℕ)) (text : List ℕ) (signatures : List Signature) (rest : List ℕ) (number : ℕ)
-    : Type 0 where
+pub record IsBetween (version : Version) (names : List (List ℕ)) (text : List ℕ) (signatures : List Signature)
+    (rest : List ℕ) (number : ℕ) : Type 0 where
   pub chosen : IsOfVersion version text
   pub good : AreSignatures (length names) signatures
   pub sayable : AreSayable version signatures

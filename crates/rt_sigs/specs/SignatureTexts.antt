@@ -31,7 +31,8 @@ remarks_text returns args = returns_text returns ++ args_text args
 -- a signature: its name, what is said of the function, its lines, and `end`
 abbrev pub signature_text : List (List ℕ) → Signature → List ℕ
 signature_text names (name, prototype) =
-    heading_text name ++ 10 ∷ (remarks_text prototype.returns prototype.args ++ (lines_text names prototype.scheme.lines ++ codes "end\n"))
+    heading_text name ++ 10 ∷ (remarks_text prototype.returns prototype.args
+    ++ (lines_text names prototype.scheme.lines ++ codes "end\n"))
 
 -- the line that a text of the second version begins with
 abbrev pub version_text : Version → List ℕ

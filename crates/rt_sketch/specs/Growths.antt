@@ -19,7 +19,8 @@ IsStep lines machine states tree n l = (s : State) (x : Dtv) → slice_get state
     (λ m. (t : State) × (slice_get states m ≡ Some t) × Denotes lines machine t (longer x l))
 
 -- a node for each state, with its marks; the nodes below a count have the steps of their states, the others none
-pub record IsGrowing (order : Below) (lines : List Line) (machine : Machine) (states : List State) (tree : Nodes) (count : ℕ) : Type 0 where
+pub record IsGrowing (order : Below) (lines : List Line) (machine : Machine) (states : List State) (tree : Nodes)
+    (count : ℕ) : Type 0 where
   pub each : length tree ≡ length states
   pub marks : (n : ℕ) (s : State) (x : Dtv) → slice_get states n ≡ Some s → Denotes lines machine s x →
       AreMarks order lines x (marks_of (node_at tree n))
@@ -53,7 +54,8 @@ pub record HasTaken (count : ℕ) (gone : List Label) (states : List State) (tre
 
 -- the nodes have the marks of their states
 abbrev pub HasMarks : Below → List Line → Machine → List State → Nodes → Type 0
-HasMarks order lines machine states tree = (n : ℕ) (s : State) (x : Dtv) → slice_get states n ≡ Some s → Denotes lines machine s x →
+HasMarks order lines machine states tree = (n : ℕ) (s : State) (x : Dtv) → slice_get states n ≡ Some s →
+    Denotes lines machine s x →
     AreMarks order lines x (marks_of (node_at tree n))
 
 -- the nodes have marks, and the steps that were taken

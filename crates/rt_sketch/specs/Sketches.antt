@@ -15,13 +15,15 @@ use Rattle.rt_tree.specs.Trees.{Nodes, step_of, walk, marks_from, IsMinimal, IsB
 pub record IsJoinOf (order : Below) (Has : ℕ → Type 0) (join : ℕ) : Type 0 where
   pub within : join < order.count
   pub above : (k : ℕ) → k < order.count → Has k → IsAtOrBelow order k join
-  pub least : (u : ℕ) → u < order.count → ((k : ℕ) → k < order.count → Has k → IsAtOrBelow order k u) → IsAtOrBelow order join u
+  pub least : (u : ℕ) → u < order.count → ((k : ℕ) → k < order.count → Has k → IsAtOrBelow order k u) →
+      IsAtOrBelow order join u
 
 -- the greatest one that is at or below all
 pub record IsMeetOf (order : Below) (Has : ℕ → Type 0) (meet : ℕ) : Type 0 where
   pub within : meet < order.count
   pub below : (k : ℕ) → k < order.count → Has k → IsAtOrBelow order meet k
-  pub greatest : (u : ℕ) → u < order.count → ((k : ℕ) → k < order.count → Has k → IsAtOrBelow order u k) → IsAtOrBelow order u meet
+  pub greatest : (u : ℕ) → u < order.count → ((k : ℕ) → k < order.count → Has k → IsAtOrBelow order u k) →
+      IsAtOrBelow order u meet
 
 -- a procedure with a word
 abbrev pub of_procedure : ℕ → List Label → Dtv

@@ -54,7 +54,8 @@ pub record Denotes (lines : List Line) (machine : Machine) (state : State) (x : 
 -- where the letter leads from each variable of a state: nowhere, or to a state of what is behind it
 abbrev pub LeadsTo : List Line → Machine → State → Label → Option State → Type 0
 LeadsTo lines machine state l next = (x : Dtv) → Denotes lines machine state x →
-    MatchOption next ((order : Below) → Derivable order lines (Var (longer x l)) → ⊥) (λ (t : State). Denotes lines machine t (longer x l))
+    MatchOption next ((order : Below) → Derivable order lines (Var (longer x l)) → ⊥)
+    (λ (t : State). Denotes lines machine t (longer x l))
 
 -- the state of a base alone: none where there is no such variable
 abbrev pub Starts : List Line → Machine → Base → Option State → Type 0

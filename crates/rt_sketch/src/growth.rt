@@ -138,7 +138,8 @@ impl Growth {
         requires from { number < length self.old.tree }
         ensures taken { OnOk result (HasTaken (number + 1) [] self.new.states.keys self.new.tree) }
         ensures long { OnOk result (number < length self.new.tree) }
-        ensures kept { OnOk result ((s : Place) → slice_get self.old.states.keys 0 ≡ Some s → slice_get self.new.states.keys 0 ≡ Some s) }
+        ensures kept { OnOk result ((s : Place) → slice_get self.old.states.keys 0 ≡ Some s →
+            slice_get self.new.states.keys 0 ≡ Some s) }
         ensures way { OnOk result ((lines : List Given) → IsMachineOf lines machine.now →
             All (HasConstantsBelow (size_of lattice.now)) lines →
             HasNextAt lines machine.now self.old.states.keys number letters.now.keys →

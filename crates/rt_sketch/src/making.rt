@@ -43,7 +43,8 @@ impl Machine {
         requires order { IsOrder lattice.now.order }
         requires lows { AreBelow (size_of lattice.now) self.now.lows.items }
         requires ups { AreBelow (size_of lattice.now) self.now.ups.items }
-        ensures { (lines : List Given) (x : Variable) → IsMachineOf lines self.now → All (HasConstantsBelow (size_of lattice.now)) lines →
+        ensures { (lines : List Given) (x : Variable) → IsMachineOf lines self.now →
+            All (HasConstantsBelow (size_of lattice.now)) lines →
             Denotes lines self.now state.now x → AreMarks lattice.now.order lines x result }
     {
         let low = joined(lattice, &self.lows, &state.below);

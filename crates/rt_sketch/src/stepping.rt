@@ -58,7 +58,8 @@ impl Machine {
 
     // The number of a variable, if it is named.
     fn number(&self, x: &Dtv) -> Option<u32>
-        ensures number { MatchOption result (Contains self.now.ways.named x.now → ⊥) (λ n. slice_get self.now.ways.named n ≡ Some x.now) }
+        ensures number { MatchOption result (Contains self.now.ways.named x.now → ⊥)
+            (λ n. slice_get self.now.ways.named n ≡ Some x.now) }
         ensures sized { (n : ℕ) → result ≡ Some n → n < length self.now.ways.classes }
     {
         self.ways.named().index(x)
@@ -71,7 +72,8 @@ impl Machine {
         state: &State,
         label: Label,
     ) -> Result<Option<State>, Memory>
-        ensures { IfOk result (λ next. (lines : List Given) → IsMachineOf lines self.now → LeadsTo lines self.now state.now label next) }
+        ensures { IfOk result
+            (λ next. (lines : List Given) → IsMachineOf lines self.now → LeadsTo lines self.now state.now label next) }
     {
         match self.shape.step(state.node, &label) {
             Some(node) => {

@@ -15,6 +15,7 @@ use Rattle.rt_solve.specs.Solved.{AreSolved}
 abbrev pub OneSolution : Type 0
 OneSolution =
     (object : Object) (ends : List ℕ) (roles : Roles) (order : Below) (signatures : List Signature) (procs others : List Proc)
-    (groups other_groups : List (List ℕ)) (first second : List (Option Scheme)) → AreProcs object ends procs → AreProcs object ends others
+    (groups other_groups : List (List ℕ)) (first second : List (Option Scheme)) → AreProcs object ends procs →
+    AreProcs object ends others
     → AreGroupsOf procs groups → AreGroupsOf others other_groups → AreSolved object roles order procs signatures groups first
     → AreSolved object roles order others signatures other_groups second → first ≡ second

@@ -29,7 +29,8 @@ pub record IsGroupSolved (object : Object) (roles : Roles) (order : Below) (proc
     (schemes : List (Option Scheme)) (group : List ℕ) : Type 0 where
   pub bodies : List (List Line)
   pub are_lines : AreLinesOf object roles procs signatures schemes group bodies
-  pub solved : (i : ℕ) → i < length group → HasSchemeOf order schemes (flat_map (λ (lines : List Line). lines) bodies) (get_or group i 0)
+  pub solved : (i : ℕ) → i < length group →
+      HasSchemeOf order schemes (flat_map (λ (lines : List Line). lines) bodies) (get_or group i 0)
 
 -- so it is for each group
 pub record AreSolved (object : Object) (roles : Roles) (order : Below) (procs : List Proc) (signatures : List Signature)

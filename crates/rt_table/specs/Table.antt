@@ -188,7 +188,8 @@ value_side context written own (value.Const n) = None
 abbrev pub at_side : ℕ → Context → ℕ → ℕ → Option Side
 at_side zero context site register = None
 at_side (suc steps) context site register =
-    written_side context (λ (s r : ℕ). value_side context (at_side steps context) (merge_name context s r) (context.reading.value_at s r))
+    written_side context
+    (λ (s r : ℕ). value_side context (at_side steps context) (merge_name context s r) (context.reading.value_at s r))
     site register
 
 abbrev pub def_written : Context → ℕ → ℕ → Option Side
@@ -571,7 +572,8 @@ pub data Writes (context : Context) : List Name → List Item → List Item → 
       → Writes context open_names (item.Instance site i ∷ items) (item.Instance site i ∷ done)
   writes : {open_names : List Name} {x : Row} {items done : List Item} → first_closed open_names (row_names x) ≡ None
       → Writes context open_names items done → Writes context open_names (item.Told x ∷ items) (item.Told x ∷ done)
-  opens : {open_names : List Name} {x : Row} {items done : List Item} {merge : Name} → first_closed open_names (row_names x) ≡ Some merge
+  opens : {open_names : List Name} {x : Row} {items done : List Item} {merge : Name} →
+      first_closed open_names (row_names x) ≡ Some merge
       → Writes context (merge ∷ open_names) (told (merge_rows context merge) ++ item.Told x ∷ items) done
       → Writes context open_names (item.Told x ∷ items) done
 

@@ -156,7 +156,8 @@ impl Context<'_> {
         requires register { HasCallRegister call.now }
         requires named { named ≡ named_results (linked_call self.now.outside call.now ∷ []) }
         ensures { IfOk result (IsOutcome (context_of self.now) site
-            (λ (written : ℕ → ℕ → Option TheSide). written_by (context_of self.now) (uses_by (context_of self.now) written) site register
+            (λ (written : ℕ → ℕ → Option TheSide).
+            written_by (context_of self.now) (uses_by (context_of self.now) written) site register
             (linked_call self.now.outside call.now ∷ []))) }
     {
         if is_result(register) {

@@ -23,7 +23,8 @@ entry_value r = if r == 2 then value.Frame (pos 0) else value.Entry r (pos 0)
 -- candidates differ, it may be several
 pub data IsCandidate (body : Body) (ops : ℕ → ℕ → Op) : Node → Value → Type 0 where
   of_zero : {s : ℕ} → IsCandidate body ops (Use s 0) (value.Const 0)
-  of_reaching : {s r : ℕ} {d : Def} {v : Value} → (r ≡ 0 → ⊥) → Reaches body (pos r) d s → IsCandidate body ops (Definition d r) v →
+  of_reaching : {s r : ℕ} {d : Def} {v : Value} → (r ≡ 0 → ⊥) → Reaches body (pos r) d s →
+      IsCandidate body ops (Definition d r) v →
       IsCandidate body ops (Use s r) v
   of_entry : {r : ℕ} → IsCandidate body ops (Definition def.Entry r) (entry_value r)
   of_own : {s r : ℕ} → ops s r ≡ op.Own → IsCandidate body ops (Definition (def.At s) r) (value.At s r (pos 0))
@@ -31,7 +32,8 @@ pub data IsCandidate (body : Body) (ops : ℕ → ℕ → Op) : Node → Value �
   of_sym : {s r g : ℕ} {a : ℤ} → ops s r ≡ op.Sym g a → IsCandidate body ops (Definition (def.At s) r) (value.Sym g a)
   of_add_i : {s r q : ℕ} {k : ℤ} {v : Value} → ops s r ≡ op.AddI q k → IsCandidate body ops (Use s q) v →
       IsCandidate body ops (Definition (def.At s) r) (plus v k)
-  of_add : {s r q p : ℕ} {v w : Value} → ops s r ≡ op.Add q p → IsCandidate body ops (Use s q) v → IsCandidate body ops (Use s p) w →
+  of_add : {s r q p : ℕ} {v w : Value} → ops s r ≡ op.Add q p → IsCandidate body ops (Use s q) v →
+      IsCandidate body ops (Use s p) w →
       IsCandidate body ops (Definition (def.At s) r) (sum s r v w)
   of_several : {n : Node} {v w : Value} → IsCandidate body ops n v → IsCandidate body ops n w → (v ≡ w → ⊥) →
       IsCandidate body ops n value.Multi

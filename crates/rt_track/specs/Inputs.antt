@@ -57,7 +57,8 @@ IsUse reach ops joins (suc r) s x = IsOfSource reach ops joins (suc r) (source_i
 
 -- inputs that are known of shared lists
 abbrev pub AreKnown : Reach → Ops → List (Input × Input) → ℕ → List (Option Input) → Type 0
-AreKnown reach ops joins r known = (n : ℕ) (x : Input) → slice_index_or known n None ≡ Some x → Gathers ops joins r x (shared_in reach n)
+AreKnown reach ops joins r known = (n : ℕ) (x : Input) → slice_index_or known n None ≡ Some x →
+    Gathers ops joins r x (shared_in reach n)
 
 -- an input was found, and what was known before still is
 pub record Finds (reach : Reach) (ops : Ops) (r : ℕ) (source : Source) (joins : List (Input × Input)) (joins' : List (Input × Input))

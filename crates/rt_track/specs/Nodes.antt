@@ -13,11 +13,14 @@ use Rattle.rt_track.specs.Values.{plus, sum}
 pub data Made (nodes : List Node) : Input → Value → Type 0 where
   known : {v : Value} → Made nodes (input.Known v) v
   fixed : {i : ℕ} {v : Value} → slice_get nodes i ≡ Some (node.Fixed v) → Made nodes (input.Node i) v
-  left : {i : ℕ} {a b : Input} {v : Value} → slice_get nodes i ≡ Some (node.Join a b) → Made nodes a v → Made nodes (input.Node i) v
-  right : {i : ℕ} {a b : Input} {v : Value} → slice_get nodes i ≡ Some (node.Join a b) → Made nodes b v → Made nodes (input.Node i) v
+  left : {i : ℕ} {a b : Input} {v : Value} → slice_get nodes i ≡ Some (node.Join a b) → Made nodes a v →
+      Made nodes (input.Node i) v
+  right : {i : ℕ} {a b : Input} {v : Value} → slice_get nodes i ≡ Some (node.Join a b) → Made nodes b v →
+      Made nodes (input.Node i) v
   raised : {i : ℕ} {a : Input} {k : ℤ} {v : Value} → slice_get nodes i ≡ Some (node.AddI a k) → Made nodes a v →
       Made nodes (input.Node i) (plus v k)
-  added : {i s r : ℕ} {a b : Input} {v w : Value} → slice_get nodes i ≡ Some (node.Add a b s r) → Made nodes a v → Made nodes b w →
+  added : {i s r : ℕ} {a b : Input} {v w : Value} → slice_get nodes i ≡ Some (node.Add a b s r) → Made nodes a v →
+      Made nodes b w →
       Made nodes (input.Node i) (sum s r v w)
   several : {i : ℕ} {v w : Value} → Made nodes (input.Node i) v → Made nodes (input.Node i) w → (v ≡ w → ⊥) →
       Made nodes (input.Node i) Multi
@@ -42,7 +45,8 @@ Covers o v = (o ≡ Some v) ⊎ (o ≡ Some Multi)
 
 -- a node has each value that it has by its inputs
 abbrev pub IsClosed : List Node → List (Option Value) → ℕ → Type 0
-IsClosed nodes states i = (n : Node) (v : Value) → slice_get nodes i ≡ Some n → Gives states n v → Covers (slice_index_or states i None) v
+IsClosed nodes states i = (n : Node) (v : Value) → slice_get nodes i ≡ Some n → Gives states n v →
+    Covers (slice_index_or states i None) v
 
 -- what each node has: a value that it may have, and each that it has by its inputs
 pub record IsSolved (nodes : List Node) (states : List (Option Value)) : Type 0 where
@@ -76,10 +80,12 @@ pub record Rises (nodes : List Node) (states : List (Option Value)) (i : ℕ) (v
   pub risen : IsRisen (slice_index_or states i None) value v
 
 -- a node was visited: it was closed, or it rose and those that take its value are to be visited too
-abbrev pub Visits : List Node → List (List ℕ) → ℕ → List (Option Value) → List ℕ → List (Option Value) → List ℕ → Type 0
+abbrev pub Visits : List Node → List (List ℕ) → ℕ → List (Option Value) → List ℕ → List (Option Value) →
+    List ℕ → Type 0
 Visits nodes readers i states work states' work' =
     ((states' ≡ states) × (work' ≡ work) × IsClosed nodes states i)
-    ⊎ ((v : Value) × Rises nodes states i v × (states' ≡ slice_set states i (Some v)) × (work' ≡ work ++ slice_index_or readers i []))
+    ⊎ ((v : Value) × Rises nodes states i v × (states' ≡ slice_set states i (Some v)) ×
+    (work' ≡ work ++ slice_index_or readers i []))
 
 -- a node takes an input
 abbrev pub Takes : Node → Input → Type 0

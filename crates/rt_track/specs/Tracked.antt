@@ -26,6 +26,7 @@ pub record AreValuesOf (reach : Reach) (ops : Ops) (values : Values) : Type 0 wh
       IsValue (IsCandidate body (op_in ops) (Use s r)) (value_at values s r)
   pub definitions : (body : Body) → IsReachOf body reach → (s r : ℕ) → s < body.sites → r < 32 →
       IsValue (IsCandidate body (op_in ops) (Definition (def.At s) r)) (value_of values s r)
-  pub uses_named : (body : Body) → IsReachOf body reach → (s r : ℕ) → s < body.sites → r < 32 → IsNamed body (value_at values s r)
+  pub uses_named : (body : Body) → IsReachOf body reach → (s r : ℕ) → s < body.sites → r < 32 →
+      IsNamed body (value_at values s r)
   pub definitions_named : (body : Body) → IsReachOf body reach → (s r : ℕ) → r < 32 → Defines body s (pos r) →
       IsNamed body (value_of values s r)

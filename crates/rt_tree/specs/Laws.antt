@@ -17,7 +17,8 @@ run step mark s [] = Some (mark s)
 run step mark s (l ∷ w) = option_and_then (λ t. run step mark t w) (step s l)
 
 -- the nodes have the marks and the steps of the states that they stand for
-pub record StandFor {S : Type 0} (step : S → Label → Option S) (mark : S → ℕ × ℕ) (state : ℕ → S) (tree : Nodes) : Type 0 where
+pub record StandFor {S : Type 0} (step : S → Label → Option S) (mark : S → ℕ × ℕ) (state : ℕ →
+    S) (tree : Nodes) : Type 0 where
   pub marks : (n : ℕ) → n < length tree → marks_of (node_at tree n) ≡ mark (state n)
   pub steps : (n : ℕ) → n < length tree → (l : Label) → option_map state (step_of tree n l) ≡ step (state n) l
 

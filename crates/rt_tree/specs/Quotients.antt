@@ -33,7 +33,8 @@ pub record IsNumberOf (old new : List ℕ) (class number : ℕ) : Type 0 where
 pub record Extends (class old new : List ℕ) : Type 0 where
   pub longer : length old ≤ length new
   pub front : (k : ℕ) → k < length old → slice_index new k ≡ slice_index old k
-  pub named : (k : ℕ) → length old ≤ k → k < length new → (x : ℕ) × (x < length class) × (slice_index new k ≡ slice_index class x)
+  pub named : (k : ℕ) → length old ≤ k → k < length new →
+      (x : ℕ) × (x < length class) × (slice_index new k ≡ slice_index class x)
 
 -- the nodes from number n on, of which those below the first count have stood before, and those below the last in the end
 abbrev pub Stands : ℕ → ℕ → Nodes → ℕ → Type 0

@@ -110,7 +110,8 @@ pub record IsTwin (count block : ℕ) (old new : List ℕ) (twin : ℕ) : Type 0
 abbrev pub IsMoved : ℕ → ℕ → List ℕ → List ℕ → List ℕ → List ℕ → Type 0
 IsMoved count item class twin new after =
     ((count ≤ slice_index class item) × (new ≡ class) × (after ≡ twin)) ⊎
-    ((slice_index class item < count) × (to : ℕ) × IsTwin count (slice_index class item) twin after to × (new ≡ slice_set class item to))
+    ((slice_index class item < count) × (to : ℕ) × IsTwin count (slice_index class item) twin after to ×
+    (new ≡ slice_set class item to))
 
 -- rows stay, and none or more empty ones come behind
 pub record HasMoreRows (old new : List (List ℕ)) : Type 0 where
@@ -125,5 +126,6 @@ label_row l = rank_of l ∷ slot_of (number_of l) ∷ []
 pub record AreFirstLabels (links : List Link) (first : List ℕ) : Type 0 where
   pub each : length first ≡ length links
   pub low : (j : ℕ) → j < length links → slice_index first j ≤ j
-  pub one : (i j : ℕ) (left right : Link) → slice_get links i ≡ Some left → slice_get links j ≡ Some right → left.label ≡ right.label →
+  pub one : (i j : ℕ) (left right : Link) → slice_get links i ≡ Some left → slice_get links j ≡ Some right →
+      left.label ≡ right.label →
       slice_index first i ≡ slice_index first j

@@ -20,6 +20,3 @@ pub use equality::{Work, equal};
 pub use parting::{Graph, Partition};
 pub use quotient::minimal;
 pub use tree::Tree;
-
-#[cfg(test)]
-mod tests;

@@ -23,7 +23,8 @@ fn split_by(
     requires blocks { AreBlocks (length into.now) blocks.old.class.items blocks.old.members.items blocks.old.twin.items }
     requires within { (u x : ℕ) → IsIn into.now u x → x < length into.now }
     ensures blocks { OnOk result (AreBlocks (length into.now) blocks.new.class.items blocks.new.members.items blocks.new.twin.items) }
-    ensures told { OnOk result ((nodes : Nodes) → All (IsNode (length nodes)) nodes → AreInto (length nodes) (links_of nodes) into.now →
+    ensures told { OnOk result ((nodes : Nodes) → All (IsNode (length nodes)) nodes →
+        AreInto (length nodes) (links_of nodes) into.now →
         AreTold nodes blocks.old.class.items → AreTold nodes blocks.new.class.items) }
 {
     if block >= blocks.count() {

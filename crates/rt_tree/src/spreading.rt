@@ -67,7 +67,8 @@ fn enter(
     requires size { length size.old ≡ length class.old }
     requires classes { (t : Nodes) × (root : ℕ) × AreClasses t root class.old }
     requires top { top ≤ length todo.old }
-    ensures classes { (t : Nodes) → (root : ℕ) → AreClasses t root class.old → Follows t root pair.0 pair.1 → AreClasses t root class.new }
+    ensures classes { (t : Nodes) → (root : ℕ) → AreClasses t root class.old → Follows t root pair.0 pair.1 →
+        AreClasses t root class.new }
     ensures next { All (λ x. x < length class.new) next.new }
     ensures todo { (t : Nodes) → (root : ℕ) → AreClasses t root class.old → Follows t root pair.0 pair.1 →
         AreToFollow t root todo.old → AreToFollow t root todo.new }

@@ -32,7 +32,8 @@ HasFlow n u (Up x k) = x ≡ record { base = Exist n; word = u }
 
 -- two of its `<=` lines and bounds of which the word of the one begins that of the other are one line, in which it stands on one side
 pub record IsIdle (lines : List Line) (n : ℕ) : Type 0 where
-  pub apart : (k l : Line) (u w : List Label) → Contains lines k → Contains lines l → HasFlow n u k → HasFlow n w l → Begins u w → k ≡ l
+  pub apart : (k l : Line) (u w : List Label) → Contains lines k → Contains lines l → HasFlow n u k → HasFlow n w l →
+      Begins u w → k ≡ l
   pub one_side : (x y : Dtv) → Contains lines (Sub x y) → x.base ≡ Exist n → y.base ≡ Exist n → ⊥
 
 -- the flags say which existentials are idle

@@ -13,7 +13,8 @@ use Rattle.rt_twins.specs.Twinnings.{IsTwinning, IsCoarsestTwinning}
 -- where every existential is inside, the least of each class may take the others' places
 abbrev pub TwinnedAlikeLaw : Type 0
 TwinnedAlikeLaw =
-    (order : Below) (inside : Base → Bool) (lines : List Line) (sign : Variance) (class : ℕ → ℕ) → ((n : ℕ) → inside (Exist n) ≡ true) →
+    (order : Below) (inside : Base → Bool) (lines : List Line) (sign : Variance) (class : ℕ → ℕ) →
+    ((n : ℕ) → inside (Exist n) ≡ true) →
     IsTwinning sign lines class → Alike order inside lines (refined class lines)
 
 -- lines have one coarsest twinning of a sign at most
@@ -38,5 +39,6 @@ TwinnedNamesLaw = (sign : Variance) (lines : List Line) (class : ℕ → ℕ) (b
 
 -- and an existential that isn't the least of its class is named no longer
 abbrev pub TwinnedLosesLaw : Type 0
-TwinnedLosesLaw = (sign : Variance) (lines : List Line) (class : ℕ → ℕ) (n : ℕ) → IsTwinning sign lines class → class n ≢ n →
+TwinnedLosesLaw = (sign : Variance) (lines : List Line) (class : ℕ → ℕ) (n : ℕ) → IsTwinning sign lines class →
+    class n ≢ n →
     NamesBase lines (Exist n) × (NamesBase (refined class lines) (Exist n) → ⊥)

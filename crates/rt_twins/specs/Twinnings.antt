@@ -33,7 +33,8 @@ pub record AreMatched (sign : Variance) (lines : List Line) (class : ℕ → ℕ
       (z : Dtv) × Contains lines (Sub (of_exist w u) z) × AreOne class (IsRightUse sign y.word) z y
   pub right : (x : Dtv) (u : List Label) → IsRightUse sign u → Contains lines (Sub x (of_exist v u)) →
       (z : Dtv) × Contains lines (Sub z (of_exist w u)) × AreOne class (IsLeftUse sign x.word) z x
-  pub low : (k : ℕ) (u : List Label) → IsRightUse sign u → Contains lines (Low k (of_exist v u)) → Contains lines (Low k (of_exist w u))
+  pub low : (k : ℕ) (u : List Label) → IsRightUse sign u → Contains lines (Low k (of_exist v u)) →
+      Contains lines (Low k (of_exist w u))
   pub up : (u : List Label) (k : ℕ) → IsLeftUse sign u → Contains lines (Up (of_exist v u) k) → Contains lines (Up (of_exist w u) k)
 
 -- the base is no existential with a use of the sign that has no letter and stands beside a variable
@@ -44,7 +45,8 @@ IsEnd sign lines b = (n : ℕ) (z : Dtv) → b ≡ Exist n → Contains lines (u
 -- base of that, and so on.
 pub data LeadsOut (sign : Variance) (lines : List Line) : ℕ → Type 0 where
   ends : {n : ℕ} (z : Dtv) → Contains lines (use_of sign n z) → IsEnd sign lines z.base → LeadsOut sign lines n
-  goes_on : {n : ℕ} (z : Dtv) (m : ℕ) → Contains lines (use_of sign n z) → z.base ≡ Exist m → LeadsOut sign lines m → LeadsOut sign lines n
+  goes_on : {n : ℕ} (z : Dtv) (m : ℕ) → Contains lines (use_of sign n z) → z.base ≡ Exist m → LeadsOut sign lines m →
+      LeadsOut sign lines n
 
 -- Each class has the name of its least member. The members of a class of more than one lead out, and their uses of the sign are the same
 -- but for classes.

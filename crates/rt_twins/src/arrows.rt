@@ -124,7 +124,8 @@ pub fn arrows(alloc: Global, lines: &[Line], sign: Variance) -> Result<Arrows, M
 
 /// The least existential to which there is an arrow from this one. It takes no memory.
 pub fn first_arrow(arrows: &Arrows, existential: u32) -> Option<u32>
-    ensures { MatchOption result ((n : ℕ) → has arrows.now existential n ≡ true → ⊥) (λ n. has arrows.now existential n ≡ true) }
+    ensures { MatchOption result ((n : ℕ) → has arrows.now existential n ≡ true → ⊥)
+        (λ n. has arrows.now existential n ≡ true) }
 {
     let Some(least) = arrows.range((existential, 0)..).next() else {
         return None;

@@ -33,7 +33,8 @@ fn are_same(left: &[Line], right: &[Line]) -> bool
 /// The lines with the least existential of each class in the place of the others, by the coarsest twinning of the sign, and
 /// whether these are other lines. The error is out of memory.
 pub fn twin(alloc: Global, lines: &[Line], sign: Variance) -> Result<(Lines, bool), Memory>
-    ensures twinned { IfOk result (λ r. (class : ℕ → ℕ) × IsCoarsestTwinning sign lines.now class × (r.0 ≡ refined class lines.now)) }
+    ensures twinned { IfOk result
+        (λ r. (class : ℕ → ℕ) × IsCoarsestTwinning sign lines.now class × (r.0 ≡ refined class lines.now)) }
     ensures changed { IfOk result (λ r. MatchBool r.1 (r.0 ≢ lines.now) (r.0 ≡ lines.now)) }
 {
     let classes = classes(alloc, lines, sign)?;

@@ -39,7 +39,8 @@ pub record IsInstancing (port : Label → ℕ) (lines rest : List Line) (new : �
 -- to them in its place, by the same ports.
 abbrev pub InstanceLaw : Type 0
 InstanceLaw =
-    (order : Below) (inside : Base → Bool) (own : ℕ) (port : Label → ℕ) (first second rest : List Line) (forth onward : ℕ → ℕ) →
+    (order : Below) (inside : Base → Bool) (own : ℕ) (port : Label →
+    ℕ) (first second rest : List Line) (forth onward : ℕ → ℕ) →
     AreSchemeLines own first → AreSchemeLines own second → Alike order (is_inside_for own) first second →
     IsInstancing port first rest forth → IsInstancing port second rest onward →
     inside (Proc own) ≡ true → ((n : ℕ) → inside (Exist n) ≡ true) → (NamesBase rest (Proc own) → ⊥) →

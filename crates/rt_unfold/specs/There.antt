@@ -6,7 +6,8 @@ use Rattle.rt_unfold.specs.Unfolded.{Template, AreTemplates, AreUnfolded}
 -- no procedure stands in two groups
 abbrev pub AreApart : List (List ℕ) → Type 0
 AreApart groups =
-    (j k p : ℕ) → j < length groups → k < length groups → Contains (get_or groups j []) p → Contains (get_or groups k []) p → j ≡ k
+    (j k p : ℕ) → j < length groups → k < length groups → Contains (get_or groups j []) p →
+    Contains (get_or groups k []) p → j ≡ k
 
 -- there are unfolded lists
 abbrev pub ThereLaw : Type 0

@@ -90,7 +90,8 @@ lines_with lines_of templates group =
 -- The templates of the procedures of groups, of which those called come first: a member of a group makes instances of procedures of earlier
 -- groups, or of the lines of a scheme. Its rows name members of the group alone, and none of an instance's inner existentials.
 pub record AreTemplates (groups : List (List ℕ)) (templates : ℕ → Template) : Type 0 where
-  pub earlier : (k p site i q : ℕ) → k < length groups → Contains (get_or groups k []) p → (templates p).called site i ≡ Outside q →
+  pub earlier : (k p site i q : ℕ) → k < length groups → Contains (get_or groups k []) p →
+      (templates p).called site i ≡ Outside q →
       (j : ℕ) × (j < k) × Contains (get_or groups j []) q
   pub outside : (k p site i q : ℕ) → k < length groups → Contains (get_or groups k []) p → (templates p).called site i ≡ Outside q
       → Contains (get_or groups k []) q → ⊥
@@ -105,7 +106,8 @@ pub record AreTemplates (groups : List (List ℕ)) (templates : ℕ → Template
 
 -- each procedure of the groups has a scheme, alike under the order of constants to the lines of its group's members together, where each
 -- procedure outside has its scheme
-pub record AreSolvedBy (order : Below) (groups : List (List ℕ)) (templates : ℕ → Template) (schemes : ℕ → List Line) : Type 0 where
+pub record AreSolvedBy (order : Below) (groups : List (List ℕ)) (templates : ℕ → Template) (schemes : ℕ →
+    List Line) : Type 0 where
   pub are_schemes : (group : List ℕ) (p : ℕ) → Contains groups group → Contains group p → AreSchemeLines p (schemes p)
   pub alike : (group : List ℕ) (p : ℕ) → Contains groups group → Contains group p
       → Alike order (is_inside_for p) (lines_with schemes templates group) (schemes p)

@@ -34,7 +34,8 @@ HaveNodes graph named = (n : ℕ) → n < length named → IsSome (node_of graph
 
 -- for each group and letter a number that is made of one of the group by that letter, of the numbers below a count, if there is one
 pub record AreBehind (named : List Dtv) (groups : List ℕ) (count : ℕ) (behind : List ((ℕ × Label) × ℕ)) : Type 0 where
-  pub found : (g n : ℕ) (l : Label) → step_of behind g l ≡ Some n → (p : ℕ) × IsMade named n p l × (slice_index_or groups p 0 ≡ g)
+  pub found : (g n : ℕ) (l : Label) → step_of behind g l ≡ Some n →
+      (p : ℕ) × IsMade named n p l × (slice_index_or groups p 0 ≡ g)
   pub all : (n p : ℕ) (l : Label) → n < count → IsMade named n p l → IsSome (step_of behind (slice_index_or groups p 0) l)
 
 -- the nodes of the variables in a shape of the flat lines

@@ -34,8 +34,10 @@ AreSteps named steps = (n p : ℕ) (l : Label) → (step_of steps p l ≡ Some n
 
 -- one number is pushed to another: both are made by one letter, and by its variance what they are made of are related
 pub data IsPushed (named : List Dtv) (Edge : ℕ → ℕ → Type 0) (v w : ℕ) : Type 0 where
-  co : {p q : ℕ} {l : Label} → label_variance l ≡ Co → IsMade named v p l → IsMade named w q l → Edge p q → IsPushed named Edge v w
-  contra : {p q : ℕ} {l : Label} → label_variance l ≡ Contra → IsMade named v p l → IsMade named w q l → Edge q p → IsPushed named Edge v w
+  co : {p q : ℕ} {l : Label} → label_variance l ≡ Co → IsMade named v p l → IsMade named w q l → Edge p q →
+      IsPushed named Edge v w
+  contra : {p q : ℕ} {l : Label} → label_variance l ≡ Contra → IsMade named v p l → IsMade named w q l → Edge q p →
+      IsPushed named Edge v w
 
 -- what is pushed is related already
 abbrev pub IsClosed : List Dtv → (ℕ → ℕ → Type 0) → Type 0
@@ -47,7 +49,8 @@ IsPair l n m v w = ((label_variance l ≡ Co) × (n ≡ v) × (m ≡ w)) ⊎ ((l
 
 -- what is pushed from a number, or to it if by a contravariant letter
 abbrev pub IsClosedAt : List Dtv → (ℕ → ℕ → Type 0) → ℕ → Type 0
-IsClosedAt named Edge n = (p q m v w : ℕ) (l : Label) → IsMade named n p l → IsMade named m q l → Edge p q → IsPair l n m v w → Edge v w
+IsClosedAt named Edge n = (p q m v w : ℕ) (l : Label) → IsMade named n p l → IsMade named m q l → Edge p q →
+    IsPair l n m v w → Edge v w
 
 -- what is behind a letter of a number, if there is that, is related to another one
 abbrev pub IsNoted : List ((ℕ × Label) × ℕ) → List (List ℕ) → Label → ℕ → ℕ → Type 0
@@ -60,7 +63,8 @@ pub data Closure (named : List Dtv) (Edge : ℕ → ℕ → Type 0) : ℕ → �
   chain : {u v w : ℕ} → Closure named Edge u v → Closure named Edge v w → Closure named Edge u w
   co : {v w p q : ℕ} {l : Label} → label_variance l ≡ Co → IsMade named v p l → IsMade named w q l → Closure named Edge p q →
       Closure named Edge v w
-  contra : {v w p q : ℕ} {l : Label} → label_variance l ≡ Contra → IsMade named v p l → IsMade named w q l → Closure named Edge q p →
+  contra : {v w p q : ℕ} {l : Label} → label_variance l ≡ Contra → IsMade named v p l → IsMade named w q l →
+      Closure named Edge q p →
       Closure named Edge v w
 
 -- the rows are those of the closure

@@ -122,7 +122,8 @@ impl Frame {
     fn pointed(&self, number: u32) -> Option<u32>
         requires ready { IsReady self.now }
         requires number { number < length self.now.named }
-        ensures { MatchOption result ((class : ℕ) → IsPointee self.now class number → ⊥) (λ class. IsPointee self.now class number) }
+        ensures { MatchOption result ((class : ℕ) → IsPointee self.now class number → ⊥)
+            (λ class. IsPointee self.now class number) }
     {
         match self.named.origin(number) {
             Origin::Bare(_) => None,

@@ -31,7 +31,8 @@ pub record AreKept (old new : List (List ℕ)) : Type 0 where
 
 -- what rows have afterwards, they had, but for a number in one row
 abbrev pub HasMore : List (List ℕ) → ℕ → ℕ → List (List ℕ) → Type 0
-HasMore old row i new = (n j : ℕ) → Contains (slice_index_or new n []) j → Contains (slice_index_or old n []) j ⊎ ((n ≡ row) × (j ≡ i))
+HasMore old row i new = (n j : ℕ) → Contains (slice_index_or new n []) j →
+    Contains (slice_index_or old n []) j ⊎ ((n ≡ row) × (j ≡ i))
 
 -- the rows of what the lines before an index name have their indices
 abbrev pub AreNoted : Graph → List Line → ℕ → List (List ℕ) → Type 0

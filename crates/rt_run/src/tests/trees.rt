@@ -1,7 +1,7 @@
 // Trees of the documents: which of them are least, and which are equal.
-use crate::{Tree, Work, equal, minimal};
 use rt_base::Memory;
 use rt_lines::{Label, Loc};
+use rt_tree::{Tree, Work, equal, minimal};
 use std::alloc::Global;
 use std::test::Fail;
 

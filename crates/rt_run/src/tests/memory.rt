@@ -1,6 +1,6 @@
 // The forms in memory, call by call.
-use crate::{BytesSink, FileFault, Files, FilesOf, Sink, SinkFault};
 use rt_base::Bytes;
+use rt_io::{BytesSink, FileFault, Files, FilesOf, Sink, SinkFault};
 use std::test::Fail;
 
 #[test]
