@@ -72,7 +72,7 @@ module _ (known : List Dtv) (flips : List Bool) where
   grows_more a b c g same = g
   grows_more a b c g (more {edges} h fresh p) = more (grows_more a b edges g h) fresh p
 
-  grows_longer : (a b : List Edge) → Grows known flips a b → (fresh : List Edge) × (b ≡ a ++ fresh)
+  pub grows_longer : (a b : List Edge) → Grows known flips a b → (fresh : List Edge) × (b ≡ a ++ fresh)
   grows_longer a b same = ([], sym (append-nil a))
   grows_longer a b (more {edges} g fresh p) = let r : (f : List Edge) × (edges ≡ a ++ f) = grows_longer a edges g in (r.0 ++ fresh, ap (λ xs. xs ++ fresh) r.1 ∙ append_assoc a r.0 fresh)
 
@@ -109,7 +109,7 @@ module _ (known : List Dtv) (flips : List Bool) where
   all_longer a b p = let f : (fresh : List Edge) × (b.edges.items ≡ a.edges.items ++ fresh) = grows_longer a.edges.items b.edges.items p.grows in omega (arith, ap length f.1, length-append a.edges.items f.0)
 
   -- as many edges are the same
-  all_counted : (a b : Layers) → AreGrown known flips a b → length b.edges.items ≡ length a.edges.items → IsStill a b
+  pub all_counted : (a b : Layers) → AreGrown known flips a b → length b.edges.items ≡ length a.edges.items → IsStill a b
   all_counted a b p e =
       let f : (fresh : List Edge) × (b.edges.items ≡ a.edges.items ++ fresh) = grows_longer a.edges.items b.edges.items p.grows in
       f.1 ∙ ap (λ xs. a.edges.items ++ xs) (empty f.0 (omega (arith, ap length f.1, e, length-append a.edges.items f.0))) ∙ append-nil a.edges.items

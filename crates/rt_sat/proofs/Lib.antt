@@ -8,6 +8,7 @@ pub mod Places
 pub mod Closed
 pub mod Children
 pub mod Growing
+pub mod Apart
 pub mod Closings
 pub mod Entered
 pub mod Frames

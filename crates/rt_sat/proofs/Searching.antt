@@ -1,6 +1,6 @@
 -- Searches: what offers, visits and rounds keep.
 use Rattle.std.proofs.Common.{◌≡◌, ℕ, ◌+◌, ◌<◌, ◌≤◌, ◌⊎◌, inl, inr, Bool, true, false, cond, List, [], ◌∷◌, ◌++◌, Contains, Option, Some, None, length, get_or, refl, sym, ap, subst, ◌∙◌, arith}
-use Rattle.std.specs.Prelude.{not, nat_eq}
+use Rattle.std.specs.Prelude.{◌↔◌, not, nat_eq, IsTrue}
 use Rattle.std.specs.Bool.{beq}
 use Rattle.std.specs.Map.{lookup}
 use Rattle.std.proofs.lemmas.Bool.{eqb-true, cases_eq, and_parts}
@@ -79,6 +79,12 @@ module _ (old new : List (State × ℕ)) (to : State) (count : ℕ) (updates : (
 
 pub offered_same : (most : Option ℕ) (found : List (State × ℕ)) (active : List State) (to : State) (k count : ℕ) → IsKnown found to k → k ≤ count → IsOffered most found found active active to count
 offered_same most found active to k count h less = record { within = λ a. (k, h, less); fallen = fallen-self found; kept = λ s c. c; changed = λ s j g. inl g }
+
+-- where no count of the state is known that is no greater, each is greater
+pub less_unknown : (found : List (State × ℕ)) (s : State) (count : ℕ) (near : Bool) → IsTrue near ↔ IsWithin found s count → near ≡ false → (k : ℕ) → IsKnown found s k → count ≤ k
+less_unknown found s count near is not_near k h =
+    let more : k ≤ count → ⊥ = λ less. (let yes : near ≡ true = is.1 (k, h, less) in absurd (cc)) in
+    omega (arith, more)
 
 pub offered_over : (most : Option ℕ) (found : List (State × ℕ)) (active : List State) (to : State) (count : ℕ) → (Allows most count → ⊥) → IsOffered most found found active active to count
 offered_over most found active to count over = record { within = λ a. absurd (over a); fallen = fallen-self found; kept = λ s c. c; changed = λ s j g. inl g }

@@ -115,6 +115,28 @@ abbrev pub IsClosedIn : List Dtv → List Bool → List Bool → Layers → Stat
 IsClosedIn known flips matters layers child parent l =
     IsClosedFrom known flips matters layers.edges.items (pushed_of layers) child parent l
 
+-- the flag of a number, false past the end
+abbrev pub is_done : List Bool → ℕ → Bool
+is_done done n = slice_index_or done n false
+
+-- whatever is pushed from ways of a flagged number along edges, at counts that are asked for, has a walk along the pushed ones
+abbrev pub AreDone : List Dtv → List Bool → List Bool → List Edge → List Edge → List Bool → Type 0
+AreDone known flips matters edges pushed done = (child parent : State) (l : Label) → is_done done parent.variable ≡ true →
+    IsChildOf known child parent l → IsClosedFrom known flips matters edges pushed child parent l
+
+-- flags are only taken
+abbrev pub AreTaken : List Bool → List Bool → Type 0
+AreTaken old new = (n : ℕ) → is_done new n ≡ true → is_done old n ≡ true
+
+-- if it leaves a flagged number, the edge at an index is one of the first ones, and leads to a flagged number
+abbrev pub IsApartAt : List Edge → ℕ → List Bool → ℕ → Type 0
+IsApartAt edges first done i = (e : Edge) → i < length edges → is_done done (slice_index_or edges i e).from.variable ≡ true →
+    (i < first) × (is_done done (slice_index_or edges i e).to.variable ≡ true)
+
+-- no way leads from flagged numbers to an edge behind the first ones
+abbrev pub AreApart : List Edge → ℕ → List Bool → Type 0
+AreApart edges first done = (i : ℕ) → IsApartAt edges first done i
+
 -- no edge more
 abbrev pub IsStill : Layers → Layers → Type 0
 IsStill old new = new.edges.items ≡ old.edges.items

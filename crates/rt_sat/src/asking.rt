@@ -8,6 +8,7 @@ ghost use Rattle.rt_sat.specs.Tables.{HasNought, IsAnswer, place};
 use crate::closing::pass;
 use crate::layers::Layers;
 use crate::reached::Reached;
+use crate::spreading::spread;
 use crate::state::State;
 use crate::table::Begun;
 use rt_base::Memory;
@@ -27,15 +28,17 @@ pub(crate) fn reaches(
 {
     let Begun { frame, first } = begun;
     let mut layers = Layers::new(alloc, first)?;
+    let mut done = Vec::new(alloc);
     loop {
         let before = layers.edges.len();
-        pass(alloc, &frame, &mut layers)?;
+        done = pass(alloc, &frame, &mut layers, &done)?;
         if meets(alloc, &layers, sources, targets)? {
             return Ok(true);
         }
         if layers.edges.len() == before {
             return Ok(false);
         }
+        spread(&layers.edges, before, &mut done);
     }
 }
 

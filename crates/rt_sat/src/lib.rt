@@ -16,6 +16,7 @@ mod marking;
 mod pushing;
 mod reached;
 mod search;
+mod spreading;
 mod state;
 mod table;
 mod weights;

@@ -432,7 +432,7 @@ fn needed(matters: bool, flip: bool, first: Label) -> Option<u32>
 }
 
 // The flag of a number, false past the end.
-fn flag(flags: &[bool], number: u32) -> bool
+pub(crate) fn flag(flags: &[bool], number: u32) -> bool
     ensures { result ≡ slice_index_or flags.now number false }
 {
     match flags.get(number as usize) {

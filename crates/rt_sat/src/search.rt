@@ -1,5 +1,5 @@
 // Least counts from a state along edges.
-ghost use Rattle.std.specs.Prelude.{◌≡◌, ◌++◌, ◌∷◌, ◌↔◌, [], List, IsTrue, IfOk, OnOk, length};
+ghost use Rattle.std.specs.Prelude.{◌≡◌, ◌+◌, ◌++◌, ◌∷◌, ◌↔◌, [], List, IsTrue, IfOk, OnOk, length};
 ghost use Rattle.rt_sat.specs.Searches.{Allows, AreFallen, AreNoted, AreRelaxed, IsFollowed, IsIndexed, IsOffered, IsSearch, IsWithin, leaving_of, turned};
 ghost use Rattle.rt_sat.specs.declared.state.State.{State as Place};
 
@@ -158,10 +158,40 @@ fn follow(
 {
     for index in leaving(out, state) {
         let edge = &edges[*index];
-        let sum = edge.count.plus(alloc, count)?;
-        offer(alloc, most, found, next, edge.to, sum)?;
+        go_along(alloc, most, found, next, edge, count)?;
     }
     Ok(())
+}
+
+// Goes on along an edge, of whose start a count is known. The sum is no less than that count, so where one that is as small
+// is known of the end already, no sum is made.
+fn go_along(
+    alloc: Global,
+    most: Option<u32>,
+    found: &mut Reached,
+    next: &mut Vec<State>,
+    edge: &Edge,
+    count: &Count,
+) -> Result<(), Memory>
+    ensures { OnOk result (IsOffered most found.old found.new next.old.items next.new.items edge.now.to
+        (edge.now.count + count.now)) }
+{
+    if is_near(found, edge.to, count) {
+        return Ok(());
+    }
+    let sum = edge.count.plus(alloc, count)?;
+    offer(alloc, most, found, next, edge.to, sum)?;
+    Ok(())
+}
+
+// Whether a count of a state is known that is no greater.
+fn is_near(found: &Reached, state: State, count: &Count) -> bool
+    ensures { IsTrue result ↔ IsWithin found.now state count.now }
+{
+    match found.get(state) {
+        Some(known) => !count.is_less(known),
+        None => false,
+    }
 }
 
 // Notes a count of a state, where it is asked for and none that is as small is known.
@@ -178,10 +208,8 @@ fn offer(
     if !allows(alloc, most, &count) {
         return Ok(());
     }
-    if let Some(known) = found.get(to) {
-        if !count.is_less(known) {
-            return Ok(());
-        }
+    if is_near(found, to, &count) {
+        return Ok(());
     }
     found.insert(to, count)?;
     next.push(to)?;

@@ -1,30 +1,44 @@
-use Rattle.std.proofs.Common.{◌≤◌, length, sym, subst, ◌∙◌, arith}
+use Rattle.std.proofs.Common.{List, Bool, ◌≤◌, length, sym, subst, ◌∙◌, arith}
 use Rattle.std.proofs.lemmas.Grind.{common_steps}
-use Rattle.rt_sat.specs.Pushes.{Grows, same}
+use Rattle.rt_sat.specs.declared.state.Edge.{Edge}
+use Rattle.rt_sat.specs.Pushes.{pushed_of, AreApart, AreDone, Grows, same}
+use Rattle.rt_sat.proofs.Apart.{none_done, done_spread}
 use Rattle.rt_sat.proofs.Growing.{all_longer, grows_more, still_closing}
 use Rattle.rt_sat.proofs.closing.closed.Goals as goal
 
-pub loop-layers-init : goal.loop-layers-init
-loop-layers-init c = record {
+pub pass-requires-clause-done : goal.pass-requires-clause-done
+pass-requires-clause-done c =
+    subst (λ (xs : List Bool). AreDone c.args.frame.now.named c.args.frame.now.flips.items c.args.frame.now.matters.items c.loop-done.layers.edges.items (pushed_of c.loop-done.layers) xs) (sym c.deref.ensures.value)
+    c.loop-done.invariant.done
+
+pub loop-done-init : goal.loop-done-init
+loop-done-init c = record {
   lines = c.in_ok-layers.ensures.lines;
   indexed = c.in_ok-layers.ensures.indexed;
   grows = subst (Grows c.args.frame.now.named c.args.frame.now.flips.items c.args.lines.items) (sym c.in_ok-layers.ensures.edges) same;
+  done =
+      none_done c.args.frame.now.named c.args.frame.now.flips.items c.args.frame.now.matters.items c.in_ok-layers.layers.edges.items (pushed_of c.in_ok-layers.layers) c.new-done.result.items
+      c.new-done.ensures.items;
 }
 
 pub returns-then-len-before : goal.returns-then-len-before
 returns-then-len-before c =
-    still_closing c.args.frame.now.named c.args.frame.now.flips.items c.args.frame.now.matters.items c.args.lines.items c.loop-layers.layers c.pass.new.layers c.loop-layers.invariant.lines c.loop-layers.invariant.grows
-    c.in_ok-pass.ensures.grown c.in_ok-pass.ensures.done (grind (arith, common_steps))
+    still_closing c.args.frame.now.named c.args.frame.now.flips.items c.args.frame.now.matters.items c.args.lines.items c.loop-done.layers c.pass.new.layers c.loop-done.invariant.lines c.loop-done.invariant.grows
+    c.in_ok-done.ensures.grown c.in_ok-done.ensures.all (grind (arith, common_steps))
 
-pub loop-layers-smaller : goal.loop-layers-smaller
-loop-layers-smaller c =
-    let longer : length c.loop-layers.layers.edges.items ≤ length c.pass.new.layers.edges.items =
-    all_longer c.args.frame.now.named c.args.frame.now.flips.items c.loop-layers.layers c.pass.new.layers c.in_ok-pass.ensures.grown in
+pub loop-done-smaller : goal.loop-done-smaller
+loop-done-smaller c =
+    let longer : length c.loop-done.layers.edges.items ≤ length c.pass.new.layers.edges.items =
+    all_longer c.args.frame.now.named c.args.frame.now.flips.items c.loop-done.layers c.pass.new.layers c.in_ok-done.ensures.grown in
     grind (arith, common_steps, longer)
 
-pub loop-layers-preserved : goal.loop-layers-preserved
-loop-layers-preserved c = record {
-  lines = c.in_ok-pass.ensures.grown.lines ∙ c.loop-layers.invariant.lines;
-  indexed = c.in_ok-pass.ensures.grown.indexed c.loop-layers.invariant.indexed;
-  grows = grows_more c.args.frame.now.named c.args.frame.now.flips.items c.args.lines.items c.loop-layers.layers.edges.items c.pass.new.layers.edges.items c.loop-layers.invariant.grows c.in_ok-pass.ensures.grown.grows;
+pub loop-done-preserved : goal.loop-done-preserved
+loop-done-preserved c = record {
+  lines = c.in_ok-done.ensures.grown.lines ∙ c.loop-done.invariant.lines;
+  indexed = c.in_ok-done.ensures.grown.indexed c.loop-done.invariant.indexed;
+  grows = grows_more c.args.frame.now.named c.args.frame.now.flips.items c.args.lines.items c.loop-done.layers.edges.items c.pass.new.layers.edges.items c.loop-done.invariant.grows c.in_ok-done.ensures.grown.grows;
+  done =
+      done_spread c.args.frame.now.named c.args.frame.now.flips.items c.args.frame.now.matters.items c.loop-done.layers c.pass.new.layers c.in_ok-done.done.items c.spread.new.done.items c.len-before.result
+      (grind (arith, common_steps)) c.in_ok-done.ensures.grown c.spread.ensures.taken
+      (subst (λ (xs : List Edge). AreApart xs c.len-before.result c.spread.new.done.items) c.deref-in-loop-done.ensures.value c.spread.ensures.apart) c.in_ok-done.ensures.done;
 }

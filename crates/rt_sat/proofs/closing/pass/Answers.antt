@@ -1,30 +1,44 @@
-use Rattle.std.proofs.Common.{◌≡◌, refl, arith, below_more}
-use Rattle.rt_lines.specs.declared.label.Label.{Label}
-use Rattle.rt_sat.specs.declared.state.State.{State}
-use Rattle.rt_sat.specs.Pushes.{IsChildOf, IsClosedIn, IsStill}
-use Rattle.rt_sat.proofs.Growing.{all_none, all_more, all_still, closed_same}
+use Rattle.std.proofs.Common.{◌≡◌, ◌+◌, List, Bool, true, length, ap, sym, subst, ◌∙◌, arith}
+use Rattle.std.proofs.lemmas.List.{length_push}
+use Rattle.rt_sat.specs.Pushes.{is_done, pushed_of, AreDone}
+use Rattle.rt_sat.proofs.Apart.{none_done, done_more, still_more, still_all}
+use Rattle.rt_sat.proofs.Growing.{all_none, all_more}
 use Rattle.rt_sat.proofs.closing.pass.Goals as goal
 
-pub push_number-requires-clause-indexed : goal.push_number-requires-clause-indexed
-push_number-requires-clause-indexed c = c.loop-number.invariant.grown.indexed c.requires.indexed
+pub push_open-requires-clause-indexed : goal.push_open-requires-clause-indexed
+push_open-requires-clause-indexed c = c.loop-number.invariant.grown.indexed c.requires.indexed
 
 pub loop-number-init : goal.loop-number-init
-loop-number-init c = record { grown = all_none _ _ c.args.layers.now; done = λ h i less. absurd (omega (arith, less)) }
+loop-number-init c = record {
+  grown = all_none c.args.frame.now.named c.args.frame.now.flips.items c.args.layers.now;
+  long = ap length c.new-next.ensures.items;
+  still = λ h i less. absurd (omega (arith, less));
+  done = none_done c.args.frame.now.named c.args.frame.now.flips.items c.args.frame.now.matters.items c.args.layers.now.edges.items (pushed_of c.args.layers.now) c.new-next.result.items c.new-next.ensures.items;
+}
 
 pub loop-number-preserved : goal.loop-number-preserved
 loop-number-preserved c =
     let known = c.args.frame.now.named in
     let flips = c.args.frame.now.flips.items in
+    let matters = c.args.frame.now.matters.items in
+    let grown = c.loop-number.invariant.grown in
+    let more = c.in_ok-yes.ensures.grown in
+    let next = c.loop-number.next.items in
+    let yes = c.in_ok-yes.yes in
     record {
-      grown = all_more known flips c.args.layers.now c.loop-number.layers c.push_number.new.layers c.loop-number.invariant.grown c.in_ok-push_number.ensures.grown;
-      done = λ h.
-          (let t : IsStill c.args.layers.now c.loop-number.layers × IsStill c.loop-number.layers c.push_number.new.layers =
-          all_still known flips c.args.layers.now c.loop-number.layers c.push_number.new.layers c.loop-number.invariant.grown c.in_ok-push_number.ensures.grown h in
-          below_more
-          (λ i. (child parent : State) (m : Label) → parent.variable ≡ i → IsChildOf c.args.frame.now.named child parent m → IsClosedIn c.args.frame.now.named c.args.frame.now.flips.items c.args.frame.now.matters.items c.args.layers.now child parent m) c.loop-number.number
-          (c.loop-number.invariant.done t.0)
-          (λ child parent m e k. closed_same known flips c.args.frame.now.matters.items c.args.layers.now c.loop-number.layers child parent m t.0 c.loop-number.invariant.grown.lines (c.in_ok-push_number.ensures.done t.1 child parent m e k)));
+      grown = all_more known flips c.args.layers.now c.loop-number.layers c.push_open.new.layers grown more;
+      long = ap length c.in_ok-push.ensures.items ∙ length_push next yes ∙ ap (λ n. n + 1) c.loop-number.invariant.long;
+      still = λ h i less.
+          subst (λ (xs : List Bool). is_done xs i ≡ true) (sym c.in_ok-push.ensures.items)
+          (still_more known flips matters c.args.layers.now c.loop-number.layers c.push_open.new.layers next c.loop-number.number yes grown more c.loop-number.invariant.long
+          c.in_ok-yes.ensures.still c.loop-number.invariant.still h i less);
+      done = subst (λ (xs : List Bool). AreDone known flips matters c.args.layers.now.edges.items (pushed_of c.push_open.new.layers) xs) (sym c.in_ok-push.ensures.items)
+          (done_more known flips matters c.args.layers.now c.loop-number.layers c.push_open.new.layers next c.loop-number.number yes grown more c.loop-number.invariant.long
+          c.args.done.now c.requires.indexed.few c.requires.done c.in_ok-yes.ensures.done c.loop-number.invariant.done);
     }
 
-pub returns-clause-done : goal.returns-clause-done
-returns-clause-done c = λ h child (parent : State) l k. c.loop-number.invariant.done h parent.variable (omega (arith, k.above)) child parent l refl k
+pub returns-clause-all : goal.returns-clause-all
+returns-clause-all c = λ still.
+    still_all c.args.frame.now.named c.args.frame.now.flips.items c.args.frame.now.matters.items c.args.layers.now c.loop-number.layers c.loop-number.next.items c.loop-number.invariant.grown
+    (λ i less. c.loop-number.invariant.still still i (omega (arith, less, c.loop-number-test.false, c.len-number-end.ensures.count)))
+    c.loop-number.invariant.done still

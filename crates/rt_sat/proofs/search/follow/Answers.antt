@@ -1,7 +1,7 @@
 use Rattle.std.proofs.Common.{◌≡◌, ◌<◌, ◌∙◌, ℕ, List, Contains, ap, length, get_or, subst, arith}
 use Rattle.std.proofs.lemmas.List.Elements.{Contains-get_or}
 use Rattle.rt_sat.specs.declared.state.Edge.{Edge}
-use Rattle.rt_sat.specs.Searches.{IsFollowed, IsOffered}
+use Rattle.rt_sat.specs.Searches.{IsFollowed}
 use Rattle.rt_sat.proofs.Searching.{follows_edge}
 use Rattle.rt_sat.proofs.search.follow.Goals as goal
 
@@ -18,10 +18,9 @@ loop-index-preserved c =
     let edge = c.index-edges-index.result in
     let leaves : (get_or c.leaving-index-items.result.now c.loop-index.index-index 0 < length c.args.edges.now) × ((e : Edge) → (get_or c.args.edges.now (get_or c.leaving-index-items.result.now c.loop-index.index-index 0) e).from ≡ c.args.state) =
     c.requires.within c.args.state (get_or items i 0) (subst (λ (xs : List ℕ). Contains xs (get_or items i 0)) c.leaving-index-items.ensures (Contains-get_or items i 0 c.loop-index-test.true)) in
-    follows_edge c.args.most c.args.edges.now items c.args.found.now c.loop-index.found c.offer.new.found c.args.next.now.items c.loop-index.next.items c.offer.new.next.items c.args.state c.args.count.now i edge leaves.0 c.index-edges-index.is
+    follows_edge c.args.most c.args.edges.now items c.args.found.now c.loop-index.found c.go_along.new.found c.args.next.now.items c.loop-index.next.items c.go_along.new.next.items c.args.state c.args.count.now i edge leaves.0 c.index-edges-index.is
     (ap (λ (z : Edge). z.from) c.index-edges-index.is ∙ leaves.1 edge)
-    (subst (IsOffered c.args.most c.loop-index.found c.offer.new.found c.loop-index.next.items c.offer.new.next.items edge.to) c.in_ok-sum.ensures c.in_ok-offer.ensures)
-    c.loop-index.invariant
+    c.in_ok-go_along.ensures c.loop-index.invariant
 
 pub offset_bounds-edges-index : goal.offset_bounds-edges-index
 offset_bounds-edges-index c =
