@@ -28,12 +28,13 @@ use Rattle.rt_outline.specs.Together.{AreTogetherBy, HasPair}
 use Rattle.rt_equals.specs.Plain.{ArePlainPairs, HasPlain, IsPlain}
 use Rattle.rt_components.proofs.Reaching.{reaches_by}
 
-parity_co : (k : ℕ) (a b : Bool) → IsEven (k + differ (sign_of a) (sign_of b)) → k ≡ 0 → a ≡ false → b ≡ false
+-- an edge of count nought keeps the sign
+pub parity_co : (k : ℕ) (a b : Bool) → IsEven (k + differ (sign_of a) (sign_of b)) → k ≡ 0 → a ≡ false → b ≡ false
 parity_co k false false e z f = refl
 parity_co k false true e z f = absurd (omega (arith, e, z))
 parity_co k true b e z f = absurd (cc)
 
-placed : (s : State) → s.contra ≡ false → s ≡ place s.variable
+pub placed : (s : State) → s.contra ≡ false → s ≡ place s.variable
 placed s e = λ i. record { variable = s.variable; contra = e i }
 
 module _ (order : Below) (lines : List Line) (known : List Dtv) (edges : List Edge) (table : IsTableOf lines [] known edges) where

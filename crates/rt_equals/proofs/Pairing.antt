@@ -12,7 +12,8 @@ pairs_none pairs e = record {
   only = λ v w c. absurd (Contains-none (v, w) (subst (λ ps. Contains ps (v, w)) e c));
 }
 
-had : (seen : List Edge) (e : Edge) (v w : ℕ) → HasPlain seen v w → HasPlain (seen ++ e ∷ []) v w
+-- such an edge is one of more edges
+pub had : (seen : List Edge) (e : Edge) (v w : ℕ) → HasPlain seen v w → HasPlain (seen ++ e ∷ []) v w
 had seen e v w h = record {
   edge = h.edge;
   listed = Contains-append_left seen (e ∷ []) h.edge h.listed;

@@ -26,4 +26,5 @@ pub use arc::Arc;
 pub use grouping::{Classes, together};
 pub use led::Led;
 pub use lower::Lower;
+pub use spreading::may_lead;
 pub use upper::Upper;

@@ -51,8 +51,9 @@ fn are_led(
     Ok(meets(&found, targets))
 }
 
-// Whether one of the targets is one of the sources, or arcs of lines that stand and pushed arcs lead to it from one.
-pub(crate) fn may_lead(
+/// Whether one of the targets is one of the sources, or arcs of lines that stand and pushed arcs lead to it from one. The
+/// error is want of memory.
+pub fn may_lead(
     alloc: Global,
     arcs: &[Sequence<Arc>],
     stands: &[bool],

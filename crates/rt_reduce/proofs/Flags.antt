@@ -25,7 +25,7 @@ remove_none zero = refl
 remove_none (suc i) = refl
 
 -- all flags before a place are set
-abbrev AreSetTo : List Bool → ℕ → Type 0
+abbrev pub AreSetTo : List Bool → ℕ → Type 0
 AreSetTo flags place = (i : ℕ) → i < place → get_or flags i false ≡ true
 
 -- where all flags up to a place are set, the line of the place is left out as its flag is cleared
@@ -98,7 +98,7 @@ module _ (left : List Line) (stands : List Bool) (place : ℕ) (outer : Lined) (
         before = λ i h. ap (λ fs. get_or fs i false) same ∙ are.before i (omega (arith, h));
       }
 
-standing_has : (lines : List Line) (flags : List Bool) (i : ℕ) (l : Line) → slice_get lines i ≡ Some l → get_or flags i false ≡ true →
+pub standing_has : (lines : List Line) (flags : List Bool) (i : ℕ) (l : Line) → slice_get lines i ≡ Some l → get_or flags i false ≡ true →
     Contains (standing lines flags) l
 standing_has [] flags i l at is = absurd (let h : i < 0 = slice_get_within [] i l at in omega arith)
 standing_has (k ∷ lines) [] i l at is = absurd (let e : get_or [] i false ≡ true = is in cc)

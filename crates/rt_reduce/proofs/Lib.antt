@@ -20,3 +20,4 @@ pub mod Anew
 pub mod Unbounded
 pub mod Made
 pub mod Told
+pub mod Fated

@@ -1,11 +1,14 @@
 -- One line that goes or stays.
-use Rattle.std.specs.Prelude.{◌≡◌, ℕ, ◌⊎◌, List, Bool, true, false, Some, slice_get, slice_index_or, slice_set, take}
+use Rattle.std.specs.Prelude.{◌≡◌, ℕ, ◌<◌, ◌≤◌, ◌⊎◌, List, Bool, true, false, Some, slice_get, slice_index_or, slice_set, take}
 use Rattle.std.specs.List.{remove}
 use Rattle.rt_lines.specs.declared.line.Line.{Line}
 use Rattle.rt_lines.specs.Orders.{Below}
 use Rattle.rt_rules.specs.Rules.{Derivable}
 use Rattle.rt_witness.specs.declared.witnesses.Witnesses.{Witnesses as Witnessed}
 use Rattle.rt_witness.specs.Witnesses.{IsLeft, IsWitnesses}
+use Rattle.rt_sure.specs.declared.fate.Fate.{Fate}
+use Rattle.rt_sure.specs.declared.fate.Fate.TheVariants.{Stays, Goes}
+use Rattle.rt_sure.specs.Fates.{AreGoing, AreStaying, IsSure}
 
 -- the lines are the same, or the one at the place is gone
 abbrev pub IsKeptOrGone : List Line → ℕ → List Line → Type 0
@@ -41,3 +44,21 @@ abbrev pub IsMoved : List Line → List Bool → ℕ → List Line → List Bool
 IsMoved lines stands place left flags =
     ((left ≡ remove lines place) × (flags ≡ slice_set stands place false)) ⊎
     ((left ≡ lines) × (flags ≡ slice_set (slice_set stands place false) place true))
+
+-- the flags from a place on, and none before it
+pub record AreKeptFrom (stands : List Bool) (place : ℕ) (kept : List Bool) : Type 0 where
+  pub before : (i : ℕ) → i < place → slice_index_or kept i false ≡ false
+  pub behind : (i : ℕ) → place ≤ i → slice_index_or kept i false ≡ slice_index_or stands i false
+
+-- what is known to become of lines: those of which it is known that they are kept or stay stand, and none is kept before a place
+pub record AreFated (order : Below) (lines : List Line) (stands : List Bool) (place : ℕ) (fates : List Fate) : Type 0 where
+  pub kept : List Bool
+  pub staying : AreStaying order lines fates
+  pub going : AreGoing order lines kept fates
+  pub sure : (j : ℕ) → IsSure kept fates j → slice_index_or stands j false ≡ true
+  pub none : (j : ℕ) → j < place → slice_index_or kept j false ≡ false
+
+-- what is known to become of the line at a place: it stays, and the others don't derive it, or it goes, and they do
+pub record IsFatedAt (order : Below) (fate : Fate) (lines : List Line) (place : ℕ) : Type 0 where
+  pub stays : (l : Line) → slice_get lines place ≡ Some l → fate ≡ Stays → Derivable order (remove lines place) l → ⊥
+  pub goes : (l : Line) → slice_get lines place ≡ Some l → fate ≡ Goes → Derivable order (remove lines place) l

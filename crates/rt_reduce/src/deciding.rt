@@ -12,6 +12,7 @@ ghost use Rattle.rt_reduce.specs.Deciding.{IsInnerFor, IsOuterFor, IsUpperWith, 
 use crate::bounds::{lows, ups};
 use crate::derivable::derives_line;
 use crate::early::is_told;
+use crate::effort::Effort;
 use crate::merging::push_sides;
 use crate::opened::seen;
 use rt_base::Memory;
@@ -32,6 +33,7 @@ pub fn is_derivable(
     left: &[Line],
     order: &Order,
     line: &Line,
+    effort: &mut Effort,
 ) -> Result<bool, Memory>
     requires outer { IfSome outer (λ t. IsOuterFor left.now stands.now line.now t.now) }
     requires inner { IfSome inner (λ t. IsInnerFor order.now (line.now ∷ left.now) t.now) }
@@ -48,11 +50,17 @@ pub fn is_derivable(
     if is_told(alloc, inner, witnesses, stands, left, order, line)? {
         return Ok(true);
     }
-    derives_open(alloc, left, order, line)
+    derives_open(alloc, left, order, line, effort)
 }
 
 // Whether the line is derivable from the lines left, where arcs from outside of more lines leave it open.
-fn derives_open(alloc: Global, left: &[Line], order: &Order, line: &Line) -> Result<bool, Memory>
+fn derives_open(
+    alloc: Global,
+    left: &[Line],
+    order: &Order,
+    line: &Line,
+    effort: &mut Effort,
+) -> Result<bool, Memory>
     requires constants { All (HasConstantsBelow order.now.count) left.now }
     requires constant { HasConstantsBelow order.now.count line.now }
     ensures { IfOk result (λ yes. IsTrue yes ↔ Derivable order.now left.now line.now) }
@@ -60,12 +68,18 @@ fn derives_open(alloc: Global, left: &[Line], order: &Order, line: &Line) -> Res
     if let Some(yes) = seen(alloc, left, order, line)? {
         return Ok(yes);
     }
-    derives_unseen(alloc, left, order, line)
+    derives_unseen(alloc, left, order, line, effort)
 }
 
 // Whether the line is derivable from the lines left: by arcs from outside of these alone, where they tell, else by a
 // saturation.
-fn derives_unseen(alloc: Global, left: &[Line], order: &Order, line: &Line) -> Result<bool, Memory>
+fn derives_unseen(
+    alloc: Global,
+    left: &[Line],
+    order: &Order,
+    line: &Line,
+    effort: &mut Effort,
+) -> Result<bool, Memory>
     requires constants { All (HasConstantsBelow order.now.count) left.now }
     requires constant { HasConstantsBelow order.now.count line.now }
     ensures { IfOk result (λ yes. IsTrue yes ↔ Derivable order.now left.now line.now) }
@@ -73,8 +87,25 @@ fn derives_unseen(alloc: Global, left: &[Line], order: &Order, line: &Line) -> R
     match told_anew(alloc, left, order, line)? {
         Led::No => Ok(false),
         Led::Yes => Ok(true),
-        Led::Open => derives_line(alloc, left, order, line),
+        Led::Open => saturates(alloc, left, order, line, effort),
     }
+}
+
+// Whether the line is derivable from the lines left, by a saturation.
+fn saturates(
+    alloc: Global,
+    left: &[Line],
+    order: &Order,
+    line: &Line,
+    effort: &mut Effort,
+) -> Result<bool, Memory>
+    requires constants { All (HasConstantsBelow order.now.count) left.now }
+    requires constant { HasConstantsBelow order.now.count line.now }
+    ensures { IfOk result (λ yes. IsTrue yes ↔ Derivable order.now left.now line.now) }
+{
+    let yes = derives_line(alloc, left, order, line)?;
+    effort.add_saturation(yes);
+    Ok(yes)
 }
 
 // What arcs from outside of the lines left alone tell of a `<=` line or a bound.

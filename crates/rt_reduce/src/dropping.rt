@@ -1,5 +1,5 @@
 // Lines that others derive, dropped from the end.
-ghost use Rattle.std.specs.Prelude.{◌≡◌, ◌+◌, ◌<◌, ◌≤◌, ◌↔◌, [], List, All, Contains, IsTrue, true, false, OnOk, IfOk, IfSome};
+ghost use Rattle.std.specs.Prelude.{◌≡◌, ◌+◌, ◌<◌, ◌≤◌, ◌↔◌, ℕ, [], List, All, Contains, IsTrue, true, false, OnOk, IfOk, IfSome};
 ghost use Rattle.std.specs.Prelude.{MatchBool, length, slice_index_or};
 ghost use Rattle.std.specs.List.{remove_range};
 ghost use Rattle.rt_lines.specs.declared.line.Line.{Line as Given};
@@ -8,13 +8,17 @@ ghost use Rattle.rt_reduction.specs.Drops.{Drops};
 ghost use Rattle.rt_reduction.specs.Emits.{is_flow as is_flow_line};
 ghost use Rattle.rt_witness.specs.Witnesses.{IsWitnesses};
 ghost use Rattle.rt_reduce.specs.Deciding.{AreStanding, AreWitnessed, IsInnerFor, IsLowerWith, IsOwnOuter};
-ghost use Rattle.rt_reduce.specs.Dropping.{AreTold, Decides, IsKeptOrGone, IsMoved, IsSpared, IsToldAt};
+ghost use Rattle.rt_sure.specs.Fates.{fate_at};
+ghost use Rattle.rt_sure.specs.declared.fate.Fate.TheVariants.{Stays as Staying};
+ghost use Rattle.rt_reduce.specs.Dropping.{AreFated, AreKeptFrom, AreTold, Decides, IsFatedAt, IsKeptOrGone, IsMoved, IsSpared, IsToldAt};
 
 use crate::copying::copies;
 use crate::deciding::{is_derivable, is_missing, is_spare};
+use crate::effort::Effort;
 use rt_base::{Memory, Sequence};
 use rt_lines::{Line, Lines, Order};
 use rt_outline::{Lower, Upper};
+use rt_sure::Fate;
 use rt_witness::Witnesses;
 use std::alloc::Global;
 
@@ -85,23 +89,75 @@ fn drop_each(
     let mut place = left.len();
     // The lines from the place to this one went, and weren't taken out yet.
     let mut next = place;
+    let mut fates = Vec::new(alloc);
+    let mut effort = Effort::none();
     while place > 0 {
+        fates = fates_at(alloc, lines, &stands, order, place, fates, &effort)?;
         place -= 1;
         next = drop_before(
             alloc,
             outer,
             inner,
             told[place],
+            fate_of(&fates, place),
             witnesses,
             &mut stands,
             &mut left,
             order,
             place,
             next,
+            &mut effort,
         )?;
     }
     take_out(&mut left, place, next);
     Ok(Sequence::from_vec(left))
+}
+
+// What becomes of the lines before the place in any case, which is found out where questions have cost much, unless it is known
+// already.
+fn fates_at(
+    alloc: Global,
+    lines: &[Line],
+    stands: &[bool],
+    order: &Order,
+    place: usize,
+    fates: Vec<Fate>,
+    effort: &Effort,
+) -> Result<Vec<Fate>, Memory>
+    requires within { 0 < place × (place ≤ length lines.now) }
+    requires flags { length stands.now ≡ length lines.now }
+    requires constants { All (HasConstantsBelow order.now.count) lines.now }
+    requires stood { (i : ℕ) → i < place → slice_index_or stands.now i false ≡ true }
+    requires fated { AreFated order.now lines.now stands.now place fates.items }
+    ensures { IfOk result (λ now. AreFated order.now lines.now stands.now place now.items) }
+{
+    if !fates.is_empty() || !effort.is_large() {
+        return Ok(fates);
+    }
+    let kept = kept_from(alloc, stands, place)?;
+    let fates = rt_sure::fates(alloc, lines, &kept, place, order)?;
+    Ok(fates)
+}
+
+// The flags, those before the place cleared.
+fn kept_from(alloc: Global, stands: &[bool], place: usize) -> Result<Vec<bool>, Memory>
+    requires { place ≤ length stands.now }
+    ensures each { IfOk result (λ kept. length kept.items ≡ length stands.now) }
+    ensures kept { IfOk result (λ kept. AreKeptFrom stands.now place kept.items) }
+{
+    let mut kept = vec![in alloc; false; place]?;
+    kept.extend_from_slice(&stands[place..])?;
+    Ok(kept)
+}
+
+// What becomes of the line at the place, as far as it is known.
+fn fate_of(fates: &[Fate], place: usize) -> Fate
+    ensures { result ≡ fate_at fates.now place }
+{
+    match fates.get(place) {
+        Some(fate) => *fate,
+        None => Fate::Open,
+    }
 }
 
 // Arcs from outside of the lines, if there is a `<=` line or a bound among them.
@@ -167,19 +223,21 @@ fn is_flow(line: &Line) -> bool
 }
 
 // Lets the line at the place go, if the others but for those behind it and before the next one derive it. One that is told to
-// follow from those before it, or of which the lines that name which variables tell that it goes, isn't taken out yet. The
-// place from which on lines that went weren't taken out ends at the result.
+// follow from those before it, of which it is known that it goes, or of which the lines that name which variables tell that it
+// goes, isn't taken out yet. The place from which on lines that went weren't taken out ends at the result.
 fn drop_before(
     alloc: Global,
     outer: Option<&Upper>,
     inner: Option<&Lower>,
     told: bool,
+    fate: Fate,
     witnesses: &Witnesses,
     stands: &mut Vec<bool>,
     left: &mut Vec<Line>,
     order: &Order,
     place: usize,
     next: usize,
+    effort: &mut Effort,
 ) -> Result<usize, Memory>
     requires within { place < next × (next ≤ length left.old.items) }
     requires flags { place < length stands.old.items }
@@ -187,6 +245,8 @@ fn drop_before(
     requires standing { IfSome outer (λ t. AreStanding (remove_range left.old.items (place + 1) next) stands.old.items (place + 1) t.now) }
     requires inner { IfSome inner (λ t. IsInnerFor order.now (remove_range left.old.items (place + 1) next) t.now) }
     requires told { IsToldAt told (remove_range left.old.items (place + 1) next) place }
+    requires fated { IsFatedAt order.now fate (remove_range left.old.items (place + 1) next) place }
+    requires stood { slice_index_or stands.old.items place false ≡ true }
     requires witnesses { (lines : List Given) × IsWitnesses lines witnesses.now
         × AreWitnessed lines (remove_range left.old.items (place + 1) next) stands.old.items (place + 1) }
     ensures within { IfOk result (λ end. place ≤ end × (end ≤ length left.new.items)) }
@@ -196,8 +256,13 @@ fn drop_before(
         (remove_range left.new.items place end)) }
     ensures moved { IfOk result (λ end. IsMoved (remove_range left.old.items (place + 1) next) stands.old.items place
         (remove_range left.new.items place end) stands.new.items) }
+    ensures stays { OnOk result (fate ≡ Staying → stands.new.items ≡ stands.old.items) }
 {
-    if told {
+    if fate == Fate::Stays {
+        take_out(left, place + 1, next);
+        return Ok(place);
+    }
+    if told || fate == Fate::Goes {
         stands[place] = false;
         return Ok(next);
     }
@@ -205,7 +270,9 @@ fn drop_before(
         return Ok(next);
     }
     take_out(left, place + 1, next);
-    drop_at(alloc, outer, inner, witnesses, stands, left, order, place)?;
+    drop_at(
+        alloc, outer, inner, witnesses, stands, left, order, place, effort,
+    )?;
     Ok(place)
 }
 
@@ -243,6 +310,7 @@ fn drop_at(
     left: &mut Vec<Line>,
     order: &Order,
     place: usize,
+    effort: &mut Effort,
 ) -> Result<(), Memory>
     requires within { place < length left.old.items }
     requires flags { place < length stands.old.items }
@@ -261,7 +329,9 @@ fn drop_at(
         return Ok(());
     }
     let line = left.remove(place);
-    let derived = is_derivable(alloc, outer, inner, witnesses, stands, left, order, &line)?;
+    let derived = is_derivable(
+        alloc, outer, inner, witnesses, stands, left, order, &line, effort,
+    )?;
     if derived {
         return Ok(());
     }

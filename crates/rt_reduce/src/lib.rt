@@ -12,6 +12,7 @@ mod deciding;
 mod derivable;
 mod dropping;
 mod early;
+mod effort;
 mod merging;
 mod opened;
 mod reducing;

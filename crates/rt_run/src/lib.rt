@@ -15,8 +15,6 @@ mod refusal;
 mod reports;
 mod sketches;
 mod stop;
-#[cfg(test)]
-mod tests;
 mod texts;
 mod top;
 mod words;

@@ -4,11 +4,11 @@ mod counts;
 mod memory;
 mod trees;
 
-use crate::run;
 use rt_base::Bytes;
 use rt_io::{BytesSink, FilesOf};
 use rt_lattice::standard;
 use rt_reports::read_report;
+use rt_run::run;
 use std::alloc::{AllocError, Global};
 use std::process::Abort;
 use std::test::Fail;

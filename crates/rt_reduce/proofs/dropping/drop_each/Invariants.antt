@@ -1,9 +1,10 @@
-use Rattle.std.proofs.Common.{◌≤◌, All, Contains, length}
+use Rattle.std.proofs.Common.{◌≡◌, ◌≤◌, All, Contains, length}
 use Rattle.std.specs.List.{remove_range}
 use Rattle.std.specs.Option.{IfSome}
 use Rattle.rt_lines.specs.declared.line.Line.{Line}
 use Rattle.rt_lines.specs.Lines.{HasConstantsBelow}
 use Rattle.rt_reduce.specs.Deciding.{AreStanding, AreWitnessed, IsInnerFor}
+use Rattle.rt_reduce.specs.Dropping.{AreFated}
 use Rattle.rt_reduce.proofs.Leaving.{AreLeft}
 use Rattle.rt_reduce.proofs.dropping.drop_each.Given as goal
 
@@ -17,6 +18,8 @@ invariant-loop-place l = record {
   stood : (m : Line) → Contains (remove_range l.left.items l.place l.next) m → Contains l.lines m;
   are_left : AreLeft l.order l.lines l.place (remove_range l.left.items l.place l.next);
   flags : l.place ≤ length l.stands.items;
+  each : length l.stands.items ≡ length l.lines;
+  fated : AreFated l.order l.lines l.stands.items l.place l.fates.items;
   standing : IfSome l.outer (λ t. AreStanding (remove_range l.left.items l.place l.next) l.stands.items l.place t.now);
   witnessed : AreWitnessed l.lines (remove_range l.left.items l.place l.next) l.stands.items l.place;
   inner : IfSome l.inner (λ t. IsInnerFor l.order (remove_range l.left.items l.place l.next) t.now);

@@ -1,0 +1,3 @@
+pub mod Arcs
+pub mod Bounds
+pub mod Fates

@@ -1,0 +1,10 @@
+//! What becomes of lines when those go that the others derive, as far as it is sure beforehand (PLDI 2016, section 5): a line
+//! that the others don't derive, however many of them stand, stays; one that those derive which stay goes. Ways between
+//! variables tell, which are saturated once.
+#![tactic(auto)]
+
+mod bounds;
+mod fate;
+mod ways;
+
+pub use fate::{Fate, fates};
