@@ -1,9 +1,9 @@
 -- What is known to become of lines, as they go one after another.
-use Rattle.std.proofs.Common.{◌≡◌, ℕ, zero, suc, ◌+◌, ◌<◌, ◌≤◌, ◌⊎◌, inl, inr, List, [], ◌∷◌, Bool, true, false, Contains, Some}
-use Rattle.std.proofs.Common.{length, get_or, set, refl, sym, ap, subst, ◌∙◌, arith}
+use Rattle.std.proofs.Common.{◌≡◌, ℕ, zero, suc, ◌+◌, ◌-◌, ◌<◌, ◌≤◌, ◌⊎◌, inl, inr, List, [], ◌∷◌, ◌++◌, Bool, true, false, Contains, Some}
+use Rattle.std.proofs.Common.{length, length-append, get_or, replicate, set, refl, sym, ap, subst, ◌∙◌, arith}
 use Rattle.std.specs.List.{remove}
 use Rattle.std.specs.Prelude.{slice_get}
-use Rattle.std.proofs.lemmas.List.{get_or-set_other, get_or_past}
+use Rattle.std.proofs.lemmas.List.{get_or-replicate, get_or-set_other, get_or_append_left, get_or_past, length-replicate}
 use Rattle.rt_lines.specs.declared.line.Line.{Line}
 use Rattle.rt_lines.specs.Orders.{Below}
 use Rattle.rt_rules.specs.Rules.{Derivable}
@@ -13,17 +13,8 @@ use Rattle.rt_sure.specs.declared.fate.Fate.{Fate}
 use Rattle.rt_sure.specs.declared.fate.Fate.TheVariants.{Stays, Goes, Open}
 use Rattle.rt_sure.specs.Fates.{AreGoing, AreStaying, HasSure, IsSure, fate_at}
 use Rattle.rt_reduce.specs.Deciding.{AreWitnessed}
-use Rattle.rt_reduce.specs.Dropping.{AreFated, AreKeptFrom, IsFatedAt, IsMoved}
-use Rattle.rt_reduce.proofs.Flags.{AreSetTo, set_again, standing_gone, standing_has}
-
--- where all flags up to a place are set, the line of the place stands there
-standing_at : (lines : List Line) (flags : List Bool) (i : ℕ) → AreSetTo flags (i + 1) →
-    slice_get (standing lines flags) i ≡ slice_get lines i
-standing_at [] flags i h = refl
-standing_at (l ∷ lines) [] i h = let e : get_or [] 0 false ≡ true = h 0 (omega arith) in absurd (cc)
-standing_at (l ∷ lines) (false ∷ flags) i h = let e : get_or (false ∷ flags) 0 false ≡ true = h 0 (omega arith) in absurd (cc)
-standing_at (l ∷ lines) (true ∷ flags) zero h = refl
-standing_at (l ∷ lines) (true ∷ flags) (suc i) h = standing_at lines flags i (λ j k. h (suc j) (omega (arith, k)))
+use Rattle.rt_reduce.specs.Dropping.{AreFated, IsFatedAt, IsMoved}
+use Rattle.rt_reduce.proofs.Flags.{set_again, standing_at, standing_gone, standing_has}
 
 -- a flag that was cleared
 cleared : (flags : List Bool) (i : ℕ) → get_or (set flags i false) i false ≡ false
@@ -109,40 +100,45 @@ module _ (order : Below) (lines left now : List Line) (stands flags : List Bool)
     none = λ j h. fated.none j (omega (arith, h));
   }
 
--- nothing is known
-pub fated_none : (order : Below) (lines : List Line) (stands : List Bool) (place : ℕ) → AreFated order lines stands place []
-fated_none order lines stands place = record {
-  kept = [];
-  staying = λ i l at e. absurd (cc);
-  going = λ i l at e. absurd (cc);
-  sure = λ j sure. nothing j sure;
-  none = λ j h. refl;
-}
-  where
-    nothing : (j : ℕ) → IsSure [] [] j → get_or stands j false ≡ true
-    nothing j (inl e) = absurd (cc)
-    nothing j (inr e) = absurd (cc)
+-- what was found out of the lines before a place, where all others are kept
+module _ (order : Below) (lines : List Line) (kept : List Bool) (place : ℕ) (fates : List Fate)
+    (are : kept ≡ replicate place false ++ replicate (length lines - place) true) (within : place ≤ length lines)
+    (long : length fates ≡ place) where
+  flags_long : length kept ≡ length lines
+  flags_long = omega (
+    arith,
+    ap length are,
+    length-append (replicate place false) (replicate (length lines - place) true),
+    length-replicate place false,
+    length-replicate (length lines - place) true,
+    within,
+  )
 
--- what was found out of the lines before a place
-module _ (order : Below) (lines : List Line) (stands kept : List Bool) (place : ℕ) (fates : List Fate)
-    (from : AreKeptFrom stands place kept) (set_to : AreSetTo stands place) (long : length fates ≡ place) where
-  kept_stands : (j : ℕ) → get_or kept j false ≡ true → (j < place) ⊎ (place ≤ j) → get_or stands j false ≡ true
-  kept_stands j k (inl h) = set_to j h
-  kept_stands j k (inr h) = sym (from.behind j h) ∙ k
+  none_before : (j : ℕ) → j < place → get_or kept j false ≡ false
+  none_before j h =
+      ap (λ fs. get_or fs j false) are
+      ∙ get_or_append_left (replicate place false) (replicate (length lines - place) true) false j
+      (omega (arith, length-replicate place false, h))
+      ∙ get_or-replicate place j false false h
 
-  staying_stands : (j : ℕ) → fate_at fates j ≡ Stays → (j < place) ⊎ (place ≤ j) → get_or stands j false ≡ true
-  staying_stands j s (inl h) = set_to j h
-  staying_stands j s (inr h) = let e : fate_at fates j ≡ Open = get_or_past fates j Open (omega (arith, h, long)) in absurd (cc)
+  kept_within : (j : ℕ) → get_or kept j false ≡ true → (j < length lines) ⊎ (length lines ≤ j) → j < length lines
+  kept_within j k (inl h) = h
+  kept_within j k (inr h) = let e : get_or kept j false ≡ false = get_or_past kept j false (omega (arith, h, flags_long)) in absurd (cc)
 
-  sure_stands : (j : ℕ) → IsSure kept fates j → get_or stands j false ≡ true
-  sure_stands j (inl k) = kept_stands j k (before_or_behind j place)
-  sure_stands j (inr s) = staying_stands j s (before_or_behind j place)
+  staying_within : (j : ℕ) → fate_at fates j ≡ Stays → (j < length lines) ⊎ (length lines ≤ j) → j < length lines
+  staying_within j s (inl h) = h
+  staying_within j s (inr h) = let e : fate_at fates j ≡ Open = get_or_past fates j Open (omega (arith, h, within, long)) in absurd (cc)
 
-  pub fated_found : AreStaying order lines fates → AreGoing order lines kept fates → AreFated order lines stands place fates
+  sure_within : (j : ℕ) → IsSure kept fates j → j < length lines
+  sure_within j (inl k) = kept_within j k (before_or_behind j (length lines))
+  sure_within j (inr s) = staying_within j s (before_or_behind j (length lines))
+
+  pub fated_found : AreStaying order lines fates → AreGoing order lines kept fates →
+      AreFated order lines (replicate (length lines) true) place fates
   fated_found staying going = record {
     kept = kept;
     staying = staying;
     going = going;
-    sure = sure_stands;
-    none = from.before;
+    sure = λ j sure. get_or-replicate (length lines) j true false (sure_within j sure);
+    none = none_before;
   }

@@ -1,6 +1,6 @@
 -- Lines that stand, of which one is left out or put back.
-use Rattle.std.proofs.Common.{◌≡◌, ℕ, zero, suc, ◌+◌, ◌<◌, inl, inr, List, [], ◌∷◌, Bool, true, false, Contains, Option, Some, None, Bor}
-use Rattle.std.proofs.Common.{length, get_or, set, replicate, refl, sym, ap, subst, ◌∙◌, arith}
+use Rattle.std.proofs.Common.{◌≡◌, ℕ, zero, suc, ◌+◌, ◌<◌, ◌≤◌, inl, inr, List, [], ◌∷◌, Bool, true, false, Contains, Option, Some, None}
+use Rattle.std.proofs.Common.{Bor, length, get_or, set, replicate, take, refl, sym, ap, subst, ◌∙◌, arith}
 use Rattle.std.specs.List.{remove}
 use Rattle.std.specs.Option.{IfSome, option_copied}
 use Rattle.std.specs.Prelude.{slice_get}
@@ -37,6 +37,24 @@ standing_out (l ∷ lines) (false ∷ flags) i h = let e : get_or (false ∷ fla
 standing_out (l ∷ lines) (true ∷ flags) zero h = refl
 standing_out (l ∷ lines) (true ∷ flags) (suc i) h = ap (λ ls. l ∷ ls) (standing_out lines flags i (λ j k. h (suc j) (omega (arith, k))))
 
+-- where all flags up to a place are set, the line of the place stands there
+pub standing_at : (lines : List Line) (flags : List Bool) (i : ℕ) → AreSetTo flags (i + 1) →
+    slice_get (standing lines flags) i ≡ slice_get lines i
+standing_at [] flags i h = refl
+standing_at (l ∷ lines) [] i h = let e : get_or [] 0 false ≡ true = h 0 (omega arith) in absurd (cc)
+standing_at (l ∷ lines) (false ∷ flags) i h = let e : get_or (false ∷ flags) 0 false ≡ true = h 0 (omega arith) in absurd (cc)
+standing_at (l ∷ lines) (true ∷ flags) zero h = refl
+standing_at (l ∷ lines) (true ∷ flags) (suc i) h = standing_at lines flags i (λ j k. h (suc j) (omega (arith, k)))
+
+-- where all flags before a place are set, the lines before it stand there
+pub standing_before : (lines : List Line) (flags : List Bool) (i : ℕ) → AreSetTo flags i → take i (standing lines flags) ≡ take i lines
+standing_before lines flags zero h = refl
+standing_before [] flags (suc i) h = refl
+standing_before (l ∷ lines) [] (suc i) h = let e : get_or [] 0 false ≡ true = h 0 (omega arith) in absurd (cc)
+standing_before (l ∷ lines) (false ∷ flags) (suc i) h = let e : get_or (false ∷ flags) 0 false ≡ true = h 0 (omega arith) in absurd (cc)
+standing_before (l ∷ lines) (true ∷ flags) (suc i) h =
+    ap (λ ls. l ∷ ls) (standing_before lines flags i (λ j k. h (suc j) (omega (arith, k))))
+
 -- a flag that was set, cleared and set again
 pub set_again : (flags : List Bool) (i : ℕ) → get_or flags i false ≡ true → set (set flags i false) i true ≡ flags
 set_again flags i e = set-set flags i false true ∙ ap (set flags i) (sym e) ∙ set-get_or flags i false
@@ -57,7 +75,7 @@ removed_of lines i l c =
 
 -- before the first step
 pub first_standing : (lines left : List Line) (stands : List Bool) (place : ℕ) (outer : Lined) → IsOwnOuter lines outer → left ≡ lines →
-    stands ≡ replicate (length lines) true → place ≡ length lines → AreStanding left stands place outer
+    stands ≡ replicate (length lines) true → place ≤ length lines → AreStanding left stands place outer
 first_standing lines left stands place outer own e f g = record {
   own = own.1 ∙ ap (λ ls. named_by ls []) (sym own.0);
   left_are = e ∙ sym (all_stand lines) ∙ ap (λ ls. standing ls (replicate (length lines) true)) (sym own.0)
@@ -126,7 +144,7 @@ left_gone lines left stands place are =
 
 -- before the first step
 pub first_witnessed : (lines left : List Line) (stands : List Bool) (place : ℕ) → left ≡ lines → stands ≡ replicate (length lines) true →
-    place ≡ length lines → AreWitnessed lines left stands place
+    place ≤ length lines → AreWitnessed lines left stands place
 first_witnessed lines left stands place = first_standing lines left stands place (record { lines = lines; named = named_by lines [] }) (refl, refl)
 
 -- what is said of arcs is said of a reference to it

@@ -1,6 +1,6 @@
 -- Lines dropped one after another, from the end.
 use Rattle.std.proofs.Common.{◌≡◌, ℕ, suc, ◌+◌, ◌<◌, ◌≤◌, ◌⊎◌, inl, inr, List, [], ◌∷◌, ◌++◌, take, drop, get_or, length, All, Contains}
-use Rattle.std.proofs.Common.{sym, ap, subst, ◌∙◌, append_assoc, drop-cons, arith}
+use Rattle.std.proofs.Common.{sym, ap, subst, ◌∙◌, append_assoc, drop-cons, length-append, arith}
 use Rattle.std.specs.List.{remove}
 use Rattle.std.proofs.lemmas.List.Elements.{All-contains}
 use Rattle.rt_base.proofs.Lists.{All-from_contains}
@@ -13,22 +13,17 @@ use Rattle.rt_rules.specs.Rules.{Derivable}
 use Rattle.rt_rules.specs.Put.{exist}
 use Rattle.rt_reduction.specs.Drops.{Drops}
 use Rattle.rt_reduction.specs.Drops.Drops.{ends, goes, stays}
-use Rattle.rt_reduce.specs.Dropping.{Decides, IsKeptOrGone}
+use Rattle.rt_reduce.specs.Dropping.{AreLeft, Decides, IsKeptOrGone}
 use Rattle.rt_reduce.proofs.Places.{remove_middle, get_or_middle, All-removed}
 
--- what is left of the lines from a place on stands behind the lines before it
-pub record AreLeft (order : Below) (lines : List Line) (place : ℕ) (left : List Line) : Type 0 where
-  pub kept : List Line
-  pub stand : left ≡ take place lines ++ kept
-  pub drops : Drops order (take place lines) (drop place lines) kept
-
 -- before the first step
-pub AreLeft-all : (order : Below) (lines left : List Line) (place : ℕ) → left ≡ lines → place ≡ length left → AreLeft order lines place left
-AreLeft-all order lines left place e f =
-    let h : length lines ≤ place = omega (arith, f, ap length e) in
+pub AreLeft-all : (order : Below) (lines : List Line) (place : ℕ) → place ≡ length lines → AreLeft order lines place lines
+AreLeft-all order lines place e =
+    let h : length lines ≤ place = omega (arith, e) in
     record {
       kept = [];
-      stand = e ∙ sym (take_all place lines h) ∙ sym (append-nil (take place lines));
+      within = omega (arith, e);
+      stand = sym (take_all place lines h) ∙ sym (append-nil (take place lines));
       drops = subst (λ ls. Drops order (take place lines) ls []) (sym (drop_all place lines h)) (ends (take place lines));
     }
 
@@ -75,27 +70,35 @@ module _ (order : Below) (lines : List Line) (place : ℕ) (within : place < len
             ⊎ ((Derivable order (remove left place) line → ⊥) × (now ≡ left)) → AreLeft order lines place now
         by (inl (d, e)) = record {
           kept = kept;
+          within = omega (arith, within);
           stand = e ∙ removed;
           drops = subst (λ ls. Drops order before ls kept) (sym rest)
               (goes before after kept line dropped (subst (λ ls. Derivable order ls line) removed d));
         }
         by (inr (none, e)) = record {
           kept = line ∷ kept;
+          within = omega (arith, within);
           stand = e ∙ cut;
           drops = subst (λ ls. Drops order before ls (line ∷ kept)) (sym rest)
               (stays before after kept line dropped (λ d. none (subst (λ ls. Derivable order ls line) (sym removed) d)));
         }
 
 -- a step
-pub AreLeft-step : (order : Below) (lines left now : List Line) (place : ℕ) → place < length lines → AreLeft order lines (suc place) left →
+pub AreLeft-step : (order : Below) (lines left now : List Line) (place : ℕ) → AreLeft order lines (suc place) left →
     Decides order left place now → AreLeft order lines place now
-AreLeft-step order lines left now place within are decides = step order lines place within left are.kept are.stand are.drops now decides
+AreLeft-step order lines left now place are decides =
+    step order lines place (omega (arith, are.within)) left are.kept are.stand are.drops now decides
 
 -- and in numbers as code has them
-pub AreLeft-next : (order : Below) (lines left now : List Line) (place next : ℕ) → place ≡ suc next → place ≤ length lines →
-    AreLeft order lines place left → Decides order left next now → AreLeft order lines next now
-AreLeft-next order lines left now place next e within are decides =
-    AreLeft-step order lines left now next (omega (arith, e, within)) (subst (λ k. AreLeft order lines k left) e are) decides
+pub AreLeft-next : (order : Below) (lines left now : List Line) (place next : ℕ) → place ≡ suc next → AreLeft order lines place left →
+    Decides order left next now → AreLeft order lines next now
+AreLeft-next order lines left now place next e are decides =
+    AreLeft-step order lines left now next (subst (λ k. AreLeft order lines k left) e are) decides
+
+-- the lines before the place are left
+pub AreLeft-long : (order : Below) (lines left : List Line) (place : ℕ) → AreLeft order lines place left → place ≤ length left
+AreLeft-long order lines left place are =
+    omega (arith, are.within, ap length are.stand, length-append (take place lines) are.kept, length-take-le place lines are.within)
 
 pub left_long : (left now : List Line) (place : ℕ) → place < length left → IsKeptOrGone left place now → place ≤ length now
 left_long left now place h (inl e) = let f : length now ≡ length left = ap length e in omega (arith, f, h)
@@ -106,6 +109,11 @@ left_long left now place h (inr e) =
 pub left_below : (P : Line → Type 0) (left now : List Line) (place : ℕ) → All P left → IsKeptOrGone left place now → All P now
 left_below P left now place h (inl e) = subst (All P) (sym e) h
 left_below P left now place h (inr e) = subst (All P) (sym e) (All-removed P left place h)
+
+-- what is said of each line is said of those that are left
+pub stood_below : (P : Line → Type 0) (lines left : List Line) → ((l : Line) → Contains left l → Contains lines l) → All P lines →
+    All P left
+stood_below P lines left stood h = All-from_contains P left (λ l c. All-contains P lines l h (stood l c))
 
 pub left_stood : (left now : List Line) (place : ℕ) → IsKeptOrGone left place now → (l : Line) → Contains now l → Contains left l
 left_stood left now place h l c =

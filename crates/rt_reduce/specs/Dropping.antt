@@ -1,9 +1,11 @@
 -- One line that goes or stays.
-use Rattle.std.specs.Prelude.{◌≡◌, ℕ, ◌<◌, ◌≤◌, ◌⊎◌, List, Bool, true, false, Some, slice_get, slice_index_or, slice_set, take}
+use Rattle.std.specs.Prelude.{◌≡◌, ℕ, ◌<◌, ◌≤◌, ◌⊎◌, ◌++◌, List, Bool, true, false, Some, drop, length, slice_get, slice_index_or}
+use Rattle.std.specs.Prelude.{slice_set, take}
 use Rattle.std.specs.List.{remove}
 use Rattle.rt_lines.specs.declared.line.Line.{Line}
 use Rattle.rt_lines.specs.Orders.{Below}
 use Rattle.rt_rules.specs.Rules.{Derivable}
+use Rattle.rt_reduction.specs.Drops.{Drops}
 use Rattle.rt_witness.specs.declared.witnesses.Witnesses.{Witnesses as Witnessed}
 use Rattle.rt_witness.specs.Witnesses.{IsLeft, IsWitnesses}
 use Rattle.rt_sure.specs.declared.fate.Fate.{Fate}
@@ -45,10 +47,12 @@ IsMoved lines stands place left flags =
     ((left ≡ remove lines place) × (flags ≡ slice_set stands place false)) ⊎
     ((left ≡ lines) × (flags ≡ slice_set (slice_set stands place false) place true))
 
--- the flags from a place on, and none before it
-pub record AreKeptFrom (stands : List Bool) (place : ℕ) (kept : List Bool) : Type 0 where
-  pub before : (i : ℕ) → i < place → slice_index_or kept i false ≡ false
-  pub behind : (i : ℕ) → place ≤ i → slice_index_or kept i false ≡ slice_index_or stands i false
+-- what is left of the lines from a place on stands behind the lines before it
+pub record AreLeft (order : Below) (lines : List Line) (place : ℕ) (left : List Line) : Type 0 where
+  pub kept : List Line
+  pub within : place ≤ length lines
+  pub stand : left ≡ take place lines ++ kept
+  pub drops : Drops order (take place lines) (drop place lines) kept
 
 -- what is known to become of lines: those of which it is known that they are kept or stay stand, and none is kept before a place
 pub record AreFated (order : Below) (lines : List Line) (stands : List Bool) (place : ℕ) (fates : List Fate) : Type 0 where

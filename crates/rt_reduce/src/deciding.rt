@@ -11,6 +11,7 @@ ghost use Rattle.rt_reduce.specs.Deciding.{IsInnerFor, IsOuterFor, IsUpperWith, 
 
 use crate::bounds::{lows, ups};
 use crate::derivable::derives_line;
+use crate::dropping::is_flow;
 use crate::early::is_told;
 use crate::effort::Effort;
 use crate::merging::push_sides;
@@ -103,9 +104,10 @@ fn saturates(
     requires constant { HasConstantsBelow order.now.count line.now }
     ensures { IfOk result (λ yes. IsTrue yes ↔ Derivable order.now left.now line.now) }
 {
-    let yes = derives_line(alloc, left, order, line)?;
-    effort.add_saturation(yes);
-    Ok(yes)
+    if is_flow(line) {
+        effort.add_saturation();
+    }
+    derives_line(alloc, left, order, line)
 }
 
 // What arcs from outside of the lines left alone tell of a `<=` line or a bound.

@@ -1,6 +1,6 @@
 // Lines that others derive, dropped from the end.
-ghost use Rattle.std.specs.Prelude.{◌≡◌, ◌+◌, ◌<◌, ◌≤◌, ◌↔◌, ℕ, [], List, All, Contains, IsTrue, true, false, OnOk, IfOk, IfSome};
-ghost use Rattle.std.specs.Prelude.{MatchBool, length, slice_index_or};
+ghost use Rattle.std.specs.Prelude.{◌≡◌, ◌+◌, ◌-◌, ◌<◌, ◌≤◌, ◌↔◌, ◌++◌, [], List, All, Contains, IsTrue, true, false, OnOk, IfOk, IfSome};
+ghost use Rattle.std.specs.Prelude.{MatchBool, length, replicate, slice_index_or, take};
 ghost use Rattle.std.specs.List.{remove_range};
 ghost use Rattle.rt_lines.specs.declared.line.Line.{Line as Given};
 ghost use Rattle.rt_lines.specs.Lines.{HasConstantsBelow};
@@ -10,7 +10,7 @@ ghost use Rattle.rt_witness.specs.Witnesses.{IsWitnesses};
 ghost use Rattle.rt_reduce.specs.Deciding.{AreStanding, AreWitnessed, IsInnerFor, IsLowerWith, IsOwnOuter};
 ghost use Rattle.rt_sure.specs.Fates.{fate_at};
 ghost use Rattle.rt_sure.specs.declared.fate.Fate.TheVariants.{Stays as Staying};
-ghost use Rattle.rt_reduce.specs.Dropping.{AreFated, AreKeptFrom, AreTold, Decides, IsFatedAt, IsKeptOrGone, IsMoved, IsSpared, IsToldAt};
+ghost use Rattle.rt_reduce.specs.Dropping.{AreFated, AreLeft, AreTold, Decides, IsFatedAt, IsKeptOrGone, IsMoved, IsSpared, IsToldAt};
 
 use crate::copying::copies;
 use crate::deciding::{is_derivable, is_missing, is_spare};
@@ -25,81 +25,152 @@ use std::alloc::Global;
 /// What stays of the lines when, from the last to the first, each line goes that the lines before it and those that stayed
 /// behind it derive with the order of constants. One of which `rt_earlier` tells that the lines before it derive it goes at
 /// once. Another one that arcs from outside don't give isn't derivable; else arcs from inside of all lines tell, which are made
-/// once, or arcs from inside and from outside of what is left, or it is saturated. The error is want of memory.
+/// once, or arcs from inside and from outside of what is left, or it is saturated. Once questions have cost much, the lines that
+/// are left take the place of all: arcs are made of them, and `rt_sure` tells beforehand what becomes of them. The error is want
+/// of memory.
 pub fn drop_derivable(alloc: Global, lines: &[Line], order: &Order) -> Result<Lines, Memory>
     requires { All (HasConstantsBelow order.now.count) lines.now }
     ensures drops { IfOk result (λ left. Drops order.now [] lines.now left) }
     ensures stood { IfOk result (λ left. (l : Given) → Contains left l → Contains lines.now l) }
 {
     let told = rt_earlier::told(alloc, lines)?;
-    let witnesses = Witnesses::of(alloc, lines)?;
-    drop_by(alloc, lines, &told, &witnesses, order)
+    let rest = drop_by(alloc, lines, lines.len(), &told, &[], order)?;
+    let left = drop_rest(alloc, rest, &told, order)?;
+    Ok(Sequence::from_vec(left))
 }
 
-// What stays of the lines, where which of them follow from those before, and which of them name which variables are given.
+// Lines of which some went, from the end.
+#[derive(Drop)]
+struct Rest {
+    // Those that are left.
+    left: Vec<Line>,
+    // How many of them weren't asked about yet: the first ones, from which none went.
+    place: usize,
+}
+
+// What stays when the lines that weren't asked about yet are asked about, too. Which of them follow from those before them is
+// given, and what becomes of them in any case is found out first.
+fn drop_rest(alloc: Global, rest: Rest, told: &[bool], order: &Order) -> Result<Vec<Line>, Memory>
+    requires within { rest.place ≤ length rest.left.items }
+    requires each { rest.place ≤ length told.now }
+    requires told { AreTold rest.left.items (take rest.place told.now) }
+    requires constants { All (HasConstantsBelow order.now.count) rest.left.items }
+    ensures drops { IfOk result (λ left. (all : List Given) → AreLeft order.now all rest.place rest.left.items →
+        Drops order.now [] all left.items) }
+    ensures stood { IfOk result (λ left. (l : Given) → Contains left.items l → Contains rest.left.items l) }
+{
+    let Rest { left, place } = rest;
+    if place == 0 {
+        return Ok(left);
+    }
+    let fates = fates_before(alloc, &left, place, order)?;
+    let rest = drop_by(alloc, &left, place, &told[..place], &fates, order)?;
+    Ok(rest.left)
+}
+
+// What becomes of the lines before the place in any case, where all from it on are kept.
+fn fates_before(
+    alloc: Global,
+    lines: &[Line],
+    place: usize,
+    order: &Order,
+) -> Result<Vec<Fate>, Memory>
+    requires within { place ≤ length lines.now }
+    requires constants { All (HasConstantsBelow order.now.count) lines.now }
+    ensures each { IfOk result (λ fates. length fates.items ≡ place) }
+    ensures fated { IfOk result (λ fates. AreFated order.now lines.now (replicate (length lines.now) true) place fates.items) }
+{
+    let kept = kept_from(alloc, place, lines.len())?;
+    let fates = rt_sure::fates(alloc, lines, &kept, place, order)?;
+    Ok(fates)
+}
+
+// So many flags, those from the place on set.
+fn kept_from(alloc: Global, place: usize, count: usize) -> Result<Vec<bool>, Memory>
+    requires { place ≤ count }
+    ensures { IfOk result (λ kept. kept.items ≡ replicate place false ++ replicate (count - place) true) }
+{
+    let mut kept = vec![in alloc; false; place]?;
+    kept.resize(count, true)?;
+    Ok(kept)
+}
+
+// What is left when lines go from the first ones, so many as the number says, the last of these first. Which of them follow from
+// those before them is given, and what becomes of them, as far as it is known. Where nothing of that is known, lines go only
+// until questions have cost much.
 fn drop_by(
     alloc: Global,
     lines: &[Line],
+    from: usize,
     told: &[bool],
-    witnesses: &Witnesses,
+    fates: &[Fate],
     order: &Order,
-) -> Result<Lines, Memory>
-    requires each { length told.now ≡ length lines.now }
+) -> Result<Rest, Memory>
+    requires within { from ≤ length lines.now }
+    requires each { from ≤ length told.now }
     requires told { AreTold lines.now told.now }
-    requires witnesses { IsWitnesses lines.now witnesses.now }
+    requires fated { AreFated order.now lines.now (replicate (length lines.now) true) from fates.now }
     requires constants { All (HasConstantsBelow order.now.count) lines.now }
-    ensures drops { IfOk result (λ left. Drops order.now [] lines.now left) }
-    ensures stood { IfOk result (λ left. (l : Given) → Contains left l → Contains lines.now l) }
+    ensures left { IfOk result (λ rest. (all : List Given) → AreLeft order.now all from lines.now →
+        AreLeft order.now all rest.place rest.left.items) }
+    ensures whole { IfOk result (λ rest. 0 < length fates.now → rest.place ≡ 0) }
+    ensures stood { IfOk result (λ rest. (l : Given) → Contains rest.left.items l → Contains lines.now l) }
 {
     let outer = outer_of(alloc, lines)?;
     let inner = inner_of(alloc, lines)?;
-    drop_each(
+    let witnesses = Witnesses::of(alloc, lines)?;
+    drop_from(
         alloc,
         lines,
+        from,
         outer.as_ref(),
         inner.as_ref(),
         told,
-        witnesses,
+        fates,
+        &witnesses,
         order,
     )
 }
 
-// What stays of the lines, where arcs of them, which of them follow from those before, and which of them name which variables
-// are given.
-fn drop_each(
+// The same, where arcs of the lines, and which of them name which variables, are given, too.
+fn drop_from(
     alloc: Global,
     lines: &[Line],
+    from: usize,
     outer: Option<&Upper>,
     inner: Option<&Lower>,
     told: &[bool],
+    fates: &[Fate],
     witnesses: &Witnesses,
     order: &Order,
-) -> Result<Lines, Memory>
+) -> Result<Rest, Memory>
+    requires within { from ≤ length lines.now }
     requires outer { IfSome outer (λ t. IsOwnOuter lines.now t.now) }
     requires inner { IfSome inner (λ t. IsLowerWith lines.now [] t.now) }
-    requires each { length told.now ≡ length lines.now }
+    requires each { from ≤ length told.now }
     requires told { AreTold lines.now told.now }
+    requires fated { AreFated order.now lines.now (replicate (length lines.now) true) from fates.now }
     requires witnesses { IsWitnesses lines.now witnesses.now }
     requires constants { All (HasConstantsBelow order.now.count) lines.now }
-    ensures drops { IfOk result (λ left. Drops order.now [] lines.now left) }
-    ensures stood { IfOk result (λ left. (l : Given) → Contains left l → Contains lines.now l) }
+    ensures left { IfOk result (λ rest. (all : List Given) → AreLeft order.now all from lines.now →
+        AreLeft order.now all rest.place rest.left.items) }
+    ensures whole { IfOk result (λ rest. 0 < length fates.now → rest.place ≡ 0) }
+    ensures stood { IfOk result (λ rest. (l : Given) → Contains rest.left.items l → Contains lines.now l) }
 {
     let mut stands = vec![in alloc; true; lines.len()]?;
     let mut left = copies(alloc, lines)?;
-    let mut place = left.len();
+    let mut place = from;
     // The lines from the place to this one went, and weren't taken out yet.
     let mut next = place;
-    let mut fates = Vec::new(alloc);
     let mut effort = Effort::none();
-    while place > 0 {
-        fates = fates_at(alloc, lines, &stands, order, place, fates, &effort)?;
+    while goes_on(place, fates, &effort) {
         place -= 1;
         next = drop_before(
             alloc,
             outer,
             inner,
             told[place],
-            fate_of(&fates, place),
+            fate_of(fates, place),
             witnesses,
             &mut stands,
             &mut left,
@@ -110,44 +181,15 @@ fn drop_each(
         )?;
     }
     take_out(&mut left, place, next);
-    Ok(Sequence::from_vec(left))
+    Ok(Rest { left, place })
 }
 
-// What becomes of the lines before the place in any case, which is found out where questions have cost much, unless it is known
-// already.
-fn fates_at(
-    alloc: Global,
-    lines: &[Line],
-    stands: &[bool],
-    order: &Order,
-    place: usize,
-    fates: Vec<Fate>,
-    effort: &Effort,
-) -> Result<Vec<Fate>, Memory>
-    requires within { 0 < place × (place ≤ length lines.now) }
-    requires flags { length stands.now ≡ length lines.now }
-    requires constants { All (HasConstantsBelow order.now.count) lines.now }
-    requires stood { (i : ℕ) → i < place → slice_index_or stands.now i false ≡ true }
-    requires fated { AreFated order.now lines.now stands.now place fates.items }
-    ensures { IfOk result (λ now. AreFated order.now lines.now stands.now place now.items) }
+// Whether there is a line before the place, and it is next: where nothing is known of what becomes of lines, it isn't any more
+// when questions have cost much.
+fn goes_on(place: usize, fates: &[Fate], effort: &Effort) -> bool
+    ensures { MatchBool result (0 < place) (0 < length fates.now → place ≡ 0) }
 {
-    if !fates.is_empty() || !effort.is_large() {
-        return Ok(fates);
-    }
-    let kept = kept_from(alloc, stands, place)?;
-    let fates = rt_sure::fates(alloc, lines, &kept, place, order)?;
-    Ok(fates)
-}
-
-// The flags, those before the place cleared.
-fn kept_from(alloc: Global, stands: &[bool], place: usize) -> Result<Vec<bool>, Memory>
-    requires { place ≤ length stands.now }
-    ensures each { IfOk result (λ kept. length kept.items ≡ length stands.now) }
-    ensures kept { IfOk result (λ kept. AreKeptFrom stands.now place kept.items) }
-{
-    let mut kept = vec![in alloc; false; place]?;
-    kept.extend_from_slice(&stands[place..])?;
-    Ok(kept)
+    place > 0 && (!fates.is_empty() || !effort.is_large())
 }
 
 // What becomes of the line at the place, as far as it is known.
@@ -213,7 +255,7 @@ fn has_flow(lines: &[Line]) -> bool
 }
 
 // Whether the line is a `<=` line or a bound.
-fn is_flow(line: &Line) -> bool
+pub(crate) fn is_flow(line: &Line) -> bool
     ensures { result ≡ is_flow_line line.now }
 {
     match line {

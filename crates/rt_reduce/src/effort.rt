@@ -1,9 +1,9 @@
 // What questions cost.
 
 // From so many on it pays to find out beforehand what becomes of lines.
-const LARGE: usize = 200;
+const LARGE: usize = 3;
 
-// What the questions have cost for which what is left of a list was saturated, counted in those that were answered yes.
+// For how many questions about `<=` lines and bounds what is left of a list was saturated.
 #[derive(Drop)]
 pub(crate) struct Effort {
     questions: usize,
@@ -15,10 +15,9 @@ impl Effort {
         Effort { questions: 0 }
     }
 
-    // What is left is saturated for a question: wholly, where the answer is no.
-    pub(crate) fn add_saturation(&mut self, yes: bool) {
-        let questions = if yes { 1 } else { 8 };
-        self.questions = self.questions.saturating_add(questions);
+    // What is left is saturated for another one.
+    pub(crate) fn add_saturation(&mut self) {
+        self.questions = self.questions.saturating_add(1);
     }
 
     // Whether the questions have cost much.

@@ -35,7 +35,6 @@ use Rattle.rt_shape.specs.Shapes.{IsShapeOf}
 use Rattle.rt_sat.specs.Tables.{AreThere, IsTableOf, IsBegun, IsAnswer, BelowLaw, place, HasNought, HasBelow, AreFlagged, AreLows, AreUps}
 use Rattle.rt_sat.proofs.Closed.{edge_sound, name_at}
 use Rattle.rt_sat.proofs.Closings.{closing_law, lines_sound}
-use Rattle.rt_sat.proofs.Growing.{grows_sound, grows_within}
 use Rattle.rt_sat.proofs.Deciding.{are_named, are_flips}
 use Rattle.rt_sat.proofs.Frames.{begun_table, frame_law, named_distinct}
 use Rattle.rt_sat.proofs.Mattering.{fewer_where}
@@ -124,10 +123,10 @@ module _ (lines : List Line) (extra : List Dtv) (marks : List Bool) (begun : Beg
   is_frame = frame_by given extra names is.graph is.is_named is.shape flips is.extra_there is.flagged
 
   inside : AreWithin names answer.edges
-  inside = grows_within names flips begun.first.items answer.edges answer.grows is.entered.within
+  inside = answer.built.within is.entered.within
 
   are_sound : AreSound given names answer.edges
-  are_sound = grows_sound names flips given is_frame are_names.sides begun.first.items answer.edges answer.grows (lines_sound given names begun.first.items is.entered)
+  are_sound = answer.built.sound given is_frame are_names.sides (lines_sound given names begun.first.items is.entered)
 
   answered : ((s : ℕ) → Contains sources s → s < length names) → ((t : ℕ) → Contains targets t → t < length names) → IsTrue yes ↔ HasBelow order lines names sources targets
   answered small few = (

@@ -38,14 +38,14 @@ module _ (known : List Dtv) where
       let c : Contains known (dv x) = among-to known (dv x) h in
       (c.0, c.1, ap vd (get_or_default known c.0 no_variable (dv x) c.1 ∙ c.2) ∙ vd-dv x)
 
-  child_state : (child parent : Place) (l : Label) → IsChildOf known child parent l → state_of known child ≡ st (dot (vd (at_number known parent.variable)) l) (sign_of child.contra)
+  pub child_state : (child parent : Place) (l : Label) → IsChildOf known child parent l → state_of known child ≡ st (dot (vd (at_number known parent.variable)) l) (sign_of child.contra)
   child_state child parent l c = ap (λ x. st x (sign_of child.contra)) (ap vd c.is ∙ vd-longer (at_number known parent.variable) l)
 
-  parent_state : (child parent : Place) (l : Label) → IsChildOf known child parent l → state_of known parent ≡ st (vd (at_number known parent.variable)) (times (label_variance l) (sign_of child.contra))
+  pub parent_state : (child parent : Place) (l : Label) → IsChildOf known child parent l → state_of known parent ≡ st (vd (at_number known parent.variable)) (times (label_variance l) (sign_of child.contra))
   parent_state child parent l c = ap (st (vd (at_number known parent.variable))) (sym c.sign)
 
   module _ (L : Given) (flips : List Bool) (frame : IsFrame L known flips) where
-    push_of : (n : ℕ) (l m : Label) (d : ℕ) (a b : Variance) (k : ℕ) → n < length known → PushBy (flip_at flips n) l m d a b k → Push L (vd (at_number known n)) l m d a b k
+    pub push_of : (n : ℕ) (l m : Label) (d : ℕ) (a b : Variance) (k : ℕ) → n < length known → PushBy (flip_at flips n) l m d a b k → Push L (vd (at_number known n)) l m d a b k
     push_of n l m d a b k h (inl p) = let f : Flip L (vd (at_number known n)) = (frame.flip n h).0 p.flips in half p.left p.right f.0 f.1 p.enough p.parity
     push_of n l m d a b k h (inr p) = subst (λ g. Push L (vd (at_number known n)) l g d a b k) p.0 (subst (λ j. Push L (vd (at_number known n)) l l d a b j) p.1 kept)
 
@@ -53,10 +53,10 @@ module _ (known : List Dtv) where
     push_from n x l m d a b k h e (half p q f g i j) = inl (record { flips = (frame.flip n h).1 (subst (Flip L) (sym e) (f, g)); left = p; right = q; enough = i; parity = j })
     push_from n x l m d a b k h e kept = inr (refl, refl)
 
-    there_child : (child parent : Place) (l : Label) → IsChildOf known child parent l → Der L (V (dot (vd (at_number known parent.variable)) l))
+    pub there_child : (child parent : Place) (l : Label) → IsChildOf known child parent l → Der L (V (dot (vd (at_number known parent.variable)) l))
     there_child child parent l c = subst (λ x. Der L (V x)) (ap vd c.is ∙ vd-longer (at_number known parent.variable) l) (frame.there child.variable c.within)
 
-    named_child : (child parent : Place) (l : Label) → IsChildOf known child parent l → M (dot (vd (at_number known parent.variable)) l)
+    pub named_child : (child parent : Place) (l : Label) → IsChildOf known child parent l → M (dot (vd (at_number known parent.variable)) l)
     named_child child parent l c = subst M (ap vd c.is ∙ vd-longer (at_number known parent.variable) l) (name_at child.variable c.within)
 
     module _ (sides : (x y : Var) → HasSub L x y → M x × M y) where

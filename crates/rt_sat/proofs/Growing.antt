@@ -1,5 +1,5 @@
 -- Edges that grow by what is pushed from them.
-use Rattle.std.proofs.Common.{◌≡◌, ℕ, ◌+◌, ◌≤◌, inl, inr, List, [], ◌∷◌, ◌++◌, Bool, Contains, length, take, drop, refl, sym, ap, subst, ◌∙◌, arith}
+use Rattle.std.proofs.Common.{◌≡◌, ℕ, ◌+◌, ◌≤◌, ◌⊎◌, inl, inr, List, [], ◌∷◌, ◌++◌, Bool, Contains, length, take, drop, refl, sym, ap, subst, ◌∙◌, arith}
 use Rattle.std.proofs.lemmas.List.Elements.{Contains-append_left, Contains-append_right, Contains-append_cases}
 use Rattle.std.proofs.lemmas.List.{take-append-drop, append_assoc, append-nil}
 use Rattle.std.proofs.Math.ListN.{length-append}
@@ -12,8 +12,9 @@ use Rattle.rt_sat.specs.declared.layers.Layers.{Layers}
 use Rattle.rt_sat.specs.declared.state.Edge.{Edge}
 use Rattle.rt_sat.specs.declared.state.State.{State}
 use Rattle.rt_sat.specs.Deciding.{is_among}
+use Rattle.rt_sat.specs.Hints.{AreTold}
 use Rattle.rt_sat.specs.Numbered.{AreWithin}
-use Rattle.rt_sat.specs.Pushes.{AreGrown, AreSound, Grows, same, more, IsClosedBy, IsClosedFrom, IsClosedIn, IsClosing, IsFrame, IsGrown, IsNoted, IsPushed, IsStill, pushed_of}
+use Rattle.rt_sat.specs.Pushes.{AreGrown, AreSound, Grows, same, more, IsBuilt, IsClosedBy, IsClosedFrom, IsClosedIn, IsClosing, IsFrame, IsGrown, IsNoted, IsPushed, IsStill, pushed_of}
 use Rattle.rt_sat.proofs.Closed.{pushed_sound}
 
 pub grown_more : (P Q R : Edge → Type 0) (a b c : Layers) → ((e : Edge) → P e → R e) → ((e : Edge) → Q e → R e) → IsGrown P a b → IsGrown Q b c → IsGrown R a c
@@ -117,19 +118,40 @@ module _ (known : List Dtv) (flips : List Bool) where
   Contains-drop : (n : ℕ) (xs : List Edge) (e : Edge) → Contains (drop n xs) e → Contains xs e
   Contains-drop n xs e c = subst (λ (ys : List Edge). Contains ys e) (take-append-drop n xs) (Contains-append_right (take n xs) (drop n xs) e c)
 
-  grows_closed : (matters : List Bool) (lines edges : List Edge) (count : ℕ) → count ≡ length lines → Grows known flips lines edges → IsClosedBy known flips matters edges (drop count edges) → IsClosing known flips matters lines edges
-  grows_closed matters lines edges count is g closed = record {
-    lines_stay = λ e c. (let f : (fresh : List Edge) × (edges ≡ lines ++ fresh) = grows_longer lines edges g in subst (λ (xs : List Edge). Contains xs e) (sym f.1) (Contains-append_left lines f.0 e c));
+  -- edges of lines, and hinted ones behind them
+  pub built_hinted : (lines hints edges : List Edge) → edges ≡ lines ++ hints → AreWithin known hints → AreTold known flips lines hints → IsBuilt known flips lines edges
+  built_hinted lines hints edges is within told = record {
+    fresh = hints;
+    is = is;
+    within = λ w e c. (elim (either e c) [ inl d ↦ w e d | inr d ↦ within e d ]);
+    sound = λ L frame sides s e c. (elim (either e c) [ inl d ↦ s e d | inr d ↦ told e d L frame sides s ]);
+  }
+    where
+      either : (e : Edge) → Contains edges e → Contains lines e ⊎ Contains hints e
+      either e c = Contains-append_cases lines hints e (subst (λ (xs : List Edge). Contains xs e) is c)
+
+  -- and pushed ones behind these
+  pub built_more : (lines a b : List Edge) → IsBuilt known flips lines a → Grows known flips a b → IsBuilt known flips lines b
+  built_more lines a b built g = let f : (fresh : List Edge) × (b ≡ a ++ fresh) = grows_longer a b g in record {
+    fresh = built.fresh ++ f.0;
+    is = f.1 ∙ ap (λ xs. xs ++ f.0) built.is ∙ append_assoc lines built.fresh f.0;
+    within = λ w. grows_within a b g (built.within w);
+    sound = λ L frame sides s. grows_sound L frame sides a b g (built.sound L frame sides s);
+  }
+
+  built_closed : (matters : List Bool) (lines edges : List Edge) (count : ℕ) → count ≡ length lines → IsBuilt known flips lines edges → IsClosedBy known flips matters edges (drop count edges) → IsClosing known flips matters lines edges
+  built_closed matters lines edges count is built closed = record {
+    lines_stay = λ e c. subst (λ (xs : List Edge). Contains xs e) (sym built.is) (Contains-append_left lines built.fresh e c);
     pushed_in = Contains-drop (length lines) edges;
     closed = subst (λ n. IsClosedBy known flips matters edges (drop n edges)) is closed;
-    within = grows_within lines edges g;
-    sound = λ L frame sides s. grows_sound L frame sides lines edges g s;
+    within = built.within;
+    sound = built.sound;
   }
 
   -- where a pass puts in nothing, all that is pushed is there
-  pub still_closing : (matters : List Bool) (lines : List Edge) (old new : Layers) → old.lines ≡ length lines → Grows known flips lines old.edges.items → AreGrown known flips old new →
+  pub still_closing : (matters : List Bool) (lines : List Edge) (old new : Layers) → old.lines ≡ length lines → IsBuilt known flips lines old.edges.items → AreGrown known flips old new →
       (IsStill old new → IsClosedBy known flips matters old.edges.items (pushed_of old)) → length new.edges.items ≡ length old.edges.items → IsClosing known flips matters lines new.edges.items
-  still_closing matters lines old new is grows grown done long =
+  still_closing matters lines old new is built grown done long =
       let still : IsStill old new = all_counted old new grown long in
-      grows_closed matters lines new.edges.items old.lines is (grows_more lines old.edges.items new.edges.items grows grown.grows)
+      built_closed matters lines new.edges.items old.lines is (built_more lines old.edges.items new.edges.items built grown.grows)
       (subst (λ (xs : List Edge). IsClosedBy known flips matters xs (drop old.lines xs)) (sym still) (done still))

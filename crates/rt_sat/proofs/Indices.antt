@@ -1,6 +1,7 @@
 -- Indices of edges, entered one by one.
 use Rattle.std.proofs.Common.{◌≡◌, ℕ, ◌+◌, ◌-◌, ◌<◌, ◌⊎◌, inl, inr, List, [], ◌∷◌, ◌++◌, Contains, length, get_or, set, take, drop, add-one, refl, sym, ap, subst, ◌∙◌, arith, get_or-set_same, get_or-set_other}
-use Rattle.std.proofs.Math.Seq.{take-suc}
+use Rattle.std.proofs.Math.ListN.{length-append}
+use Rattle.std.proofs.Math.Seq.{drop-append_seam, take-suc}
 use Rattle.std.proofs.lemmas.Bool.{cases_eq}
 use Rattle.std.proofs.lemmas.List.{get_or_push, get_or_append_left, get_or_past, length_push, length-drop, length-take-le, drop-append-le}
 use Rattle.std.proofs.lemmas.List.Elements.{Contains-append_left, Contains-push, Contains-push_cases}
@@ -80,6 +81,14 @@ indexed_step edges i out new edge h is enters are = subst (λ xs. IsIndexed xs n
 
     long : length (take i edges) ≡ i
     long = length-take-le i edges (omega (arith, h))
+
+-- edges of lines, and pushed ones behind them
+pub layers_new : (new : Layers) (lines pushed : List Edge) → new.edges.items ≡ lines ++ pushed → new.lines ≡ length lines → IsIndexed new.edges.items new.out.items → IsIndexed pushed new.out_pushed.items → AreIndexed new
+layers_new new lines pushed is count all behind = record {
+  few = omega (arith, count, ap length is, length-append lines pushed);
+  all = all;
+  pushed = subst (λ xs. IsIndexed xs new.out_pushed.items) (sym (ap (λ n. drop n new.edges.items) count ∙ ap (drop (length lines)) is ∙ drop-append_seam lines pushed)) behind;
+}
 
 -- a pushed edge more
 pub layers_push : (old new : Layers) (edge : Edge) → AreIndexed old → new.edges.items ≡ old.edges.items ++ edge ∷ [] → new.lines ≡ old.lines → IsEntered (key_of edge.from) (length old.edges.items) old.out.items new.out.items →

@@ -6,6 +6,10 @@ pub mod Numbered
 pub mod Pushed
 pub mod Places
 pub mod Closed
+pub mod Telling
+pub mod Families
+pub mod Emitting
+pub mod ToldPushes
 pub mod Children
 pub mod Growing
 pub mod Apart

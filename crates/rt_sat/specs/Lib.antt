@@ -7,6 +7,7 @@ pub mod Numbered
 pub mod Pushes
 pub mod Mattering
 pub mod Closings
+pub mod Hints
 pub mod Tables
 pub mod Weighing
 pub mod Weights

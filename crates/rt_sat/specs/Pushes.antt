@@ -176,6 +176,17 @@ abbrev pub AreSound : Given → List Dtv → List Edge → Type 0
 AreSound L known edges = (e : Edge) → Contains edges e →
     Bridge L (Named (is_among known)) (state_of known e.from) (state_of known e.to) e.count
 
+-- the sides of subtype lines are named
+abbrev pub AreSidesNamed : Given → List Dtv → Type 0
+AreSidesNamed L known = (x y : Var) → HasSub L x y → Named (is_among known) x × Named (is_among known) y
+
+-- edges that begin with those of lines, and are counted judgements wherever these are
+pub record IsBuilt (known : List Dtv) (flips : List Bool) (lines edges : List Edge) : Type 0 where
+  pub fresh : List Edge
+  pub is : edges ≡ lines ++ fresh
+  pub within : AreWithin known lines → AreWithin known edges
+  pub sound : (L : Given) → IsFrame L known flips → AreSidesNamed L known → AreSound L known lines → AreSound L known edges
+
 -- an end and its count are pushed from a count to its parent
 abbrev pub IsPushedTo : List Dtv → Bool → Label → State → ℕ → Variance → State → ℕ → Type 0
 IsPushedTo known flip first other count a end k = (m : Label) × IsChildOf known end other m ×
@@ -208,6 +219,4 @@ pub record IsClosing (known : List Dtv) (flips matters : List Bool) (lines edges
   pub pushed_in : (e : Edge) → Contains (drop (length lines) edges) e → Contains edges e
   pub closed : IsClosedBy known flips matters edges (drop (length lines) edges)
   pub within : AreWithin known lines → AreWithin known edges
-  pub sound : (L : Given) → IsFrame L known flips →
-      ((x y : Var) → HasSub L x y → Named (is_among known) x × Named (is_among known) y) → AreSound L known lines →
-      AreSound L known edges
+  pub sound : (L : Given) → IsFrame L known flips → AreSidesNamed L known → AreSound L known lines → AreSound L known edges

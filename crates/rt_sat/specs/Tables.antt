@@ -14,7 +14,7 @@ use Rattle.rt_sat.specs.declared.state.State.{State}
 use Rattle.rt_sat.specs.declared.state.Edge.{Edge}
 use Rattle.rt_sat.specs.declared.table.Begun.{Begun}
 use Rattle.rt_sat.specs.Numbered.{at_number, AreDistinct}
-use Rattle.rt_sat.specs.Pushes.{flip_at, AreChildren, Grows, IsFrame, IsClosing}
+use Rattle.rt_sat.specs.Pushes.{flip_at, AreChildren, IsBuilt, IsFrame, IsClosing}
 use Rattle.rt_sat.specs.Mattering.{AreMarked, AreMattering}
 use Rattle.rt_sat.specs.Closings.{AreLineEdges}
 use Rattle.rt_sat.specs.Searches.{Walk}
@@ -55,6 +55,7 @@ pub record IsBegun (lines : List Line) (extra : List Dtv) (marks : List Bool) (b
   pub is_named : begun.frame.named ≡ named lines extra
   pub distinct : AreDistinct begun.frame.named
   pub children : AreChildren begun.frame.named begun.frame.children.items
+  pub nodes : length begun.frame.nodes.items ≡ length begun.frame.named
   pub shape : IsShapeOf lines graph
   pub flagged : AreFlagged graph begun.frame.named begun.frame.flips.items
   pub marked : AreMarked graph marks
@@ -97,7 +98,7 @@ HasNought edges sources targets = (s : ℕ) × (t : ℕ) × Contains sources s �
 -- what is pushed from the edges of lines has a way of count nought, as it is answered: yes is said of edges pushed so far, no of all
 pub record IsAnswer (begun : Begun) (sources targets : List ℕ) (yes : Bool) : Type 0 where
   pub edges : List Edge
-  pub grows : Grows begun.frame.named begun.frame.flips.items begun.first.items edges
+  pub built : IsBuilt begun.frame.named begun.frame.flips.items begun.first.items edges
   pub says : IsTrue yes ↔ HasNought edges sources targets
   pub whole : IsTrue yes ⊎ IsClosing begun.frame.named begun.frame.flips.items begun.frame.matters.items begun.first.items edges
 

@@ -1,11 +1,12 @@
 // Whether a way of count nought leads from one of some numbers to one of others, asked while edges are pushed.
-ghost use Rattle.std.specs.Prelude.{ℕ, ◌↔◌, Contains, IsTrue, IfOk};
+ghost use Rattle.std.specs.Prelude.{◌≡◌, ℕ, ◌↔◌, Contains, IsTrue, IfOk, length};
 ghost use Rattle.rt_sat.specs.Numbered.{AreDistinct};
 ghost use Rattle.rt_sat.specs.Pushes.{AreChildren, AreIndexed};
 ghost use Rattle.rt_sat.specs.Searches.{IsKnown};
 ghost use Rattle.rt_sat.specs.Tables.{HasNought, IsAnswer, place};
 
 use crate::closing::pass;
+use crate::hints::hints;
 use crate::layers::Layers;
 use crate::reached::Reached;
 use crate::spreading::spread;
@@ -24,17 +25,19 @@ pub(crate) fn reaches(
 ) -> Result<bool, Memory>
     requires children { AreChildren begun.frame.named begun.frame.children.items }
     requires distinct { AreDistinct begun.frame.named }
+    requires nodes { length begun.frame.nodes.items ≡ length begun.frame.named }
     ensures { IfOk result (λ yes. IsAnswer begun sources.now targets.now yes) }
 {
     let Begun { frame, first } = begun;
-    let mut layers = Layers::new(alloc, first)?;
+    let hints = hints(alloc, &frame, &first)?;
+    let mut layers = Layers::new(alloc, first, hints)?;
     let mut done = Vec::new(alloc);
     loop {
-        let before = layers.edges.len();
-        done = pass(alloc, &frame, &mut layers, &done)?;
         if meets(alloc, &layers, sources, targets)? {
             return Ok(true);
         }
+        let before = layers.edges.len();
+        done = pass(alloc, &frame, &mut layers, &done)?;
         if layers.edges.len() == before {
             return Ok(false);
         }

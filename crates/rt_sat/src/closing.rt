@@ -6,6 +6,7 @@ ghost use Rattle.rt_sat.specs.Numbered.{AreDistinct};
 ghost use Rattle.rt_sat.specs.Pushes.{is_done, pushed_of, AreChildren, AreDone, AreGrown, AreIndexed, IsChildOf};
 ghost use Rattle.rt_sat.specs.Pushes.{IsClosedBy, IsClosedIn, IsClosing, IsStill};
 
+use crate::hints::hints;
 use crate::layers::Layers;
 use crate::pushing::{Frame, flag, push_below};
 use crate::reached::Reached;
@@ -48,9 +49,11 @@ pub(crate) fn no_numbers(alloc: Global, count: usize) -> Result<Vec<Sequence<u32
 pub(crate) fn closed(alloc: Global, frame: &Frame, lines: Vec<Edge>) -> Result<Vec<Edge>, Memory>
     requires children { AreChildren frame.now.named frame.now.children.items }
     requires distinct { AreDistinct frame.now.named }
+    requires nodes { length frame.now.nodes.items ≡ length frame.now.named }
     ensures { IfOk result (λ edges. IsClosing frame.now.named frame.now.flips.items frame.now.matters.items lines.items edges.items) }
 {
-    let mut layers = Layers::new(alloc, lines)?;
+    let hints = hints(alloc, frame, &lines)?;
+    let mut layers = Layers::new(alloc, lines, hints)?;
     let mut done = Vec::new(alloc);
     loop {
         let before = layers.edges.len();

@@ -24,18 +24,21 @@ pub(crate) struct Layers {
 }
 
 impl Layers {
-    // The edges of lines, and none that is pushed.
-    pub(crate) fn new(alloc: Global, lines: Vec<Edge>) -> Result<Layers, Memory>
-        ensures edges { IfOk result (λ layers. layers.edges.items ≡ lines.items) }
+    // The edges of lines, and behind them pushed ones.
+    pub(crate) fn new(alloc: Global, lines: Vec<Edge>, pushed: Vec<Edge>) -> Result<Layers, Memory>
+        ensures edges { IfOk result (λ layers. layers.edges.items ≡ lines.items ++ pushed.items) }
         ensures lines { IfOk result (λ layers. layers.lines ≡ length lines.items) }
         ensures indexed { IfOk result (λ layers. AreIndexed layers) }
     {
-        let out = indexed(alloc, &lines)?;
+        let out_pushed = indexed(alloc, &pushed)?;
+        let count = lines.len();
+        let edges = joined(lines, pushed)?;
+        let out = indexed(alloc, &edges)?;
         Ok(Layers {
-            lines: lines.len(),
-            edges: lines,
+            edges,
+            lines: count,
             out,
-            out_pushed: Vec::new(alloc),
+            out_pushed,
         })
     }
 
@@ -101,4 +104,13 @@ impl Layers {
         go_on(alloc, pushed, &self.out_pushed, to, count, most, found)?;
         Ok(())
     }
+}
+
+// The edges, and behind them others.
+fn joined(edges: Vec<Edge>, more: Vec<Edge>) -> Result<Vec<Edge>, Memory>
+    ensures { IfOk result (λ joined. joined.items ≡ edges.items ++ more.items) }
+{
+    let mut joined = edges;
+    joined.extend(more)?;
+    Ok(joined)
 }

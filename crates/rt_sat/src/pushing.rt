@@ -30,6 +30,8 @@ pub(crate) struct Frame {
     pub(crate) flips: Vec<bool>,
     pub(crate) matters: Vec<bool>,
     pub(crate) children: Vec<Sequence<u32>>,
+    // The nodes of the variables in the shape.
+    pub(crate) nodes: Vec<Option<u32>>,
 }
 
 // The sign of a state.
@@ -54,7 +56,7 @@ pub(crate) fn turns(variance: Variance) -> bool
 }
 
 // Whether a letter is that of a pointer.
-fn is_pointer(label: Label) -> bool
+pub(crate) fn is_pointer(label: Label) -> bool
     ensures { IsTrue result ↔ IsPointer label }
 {
     match label {

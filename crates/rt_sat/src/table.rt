@@ -134,6 +134,7 @@ fn begin_by(
             flips,
             matters,
             children,
+            nodes,
         },
         first,
     })

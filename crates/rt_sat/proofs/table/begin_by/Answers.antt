@@ -15,6 +15,7 @@ returns c = record {
   is_named = c.in_ok-named.ensures;
   distinct = named_distinct c.args.lines.now c.args.extra.now c.in_ok-named.named c.in_ok-named.ensures;
   children = c.in_ok-children.ensures;
+  nodes = c.in_ok-nodes.ensures.each;
   shape = c.requires.shape;
   flagged =
       flagged_by c.args.shape.now c.in_ok-named.named c.in_ok-nodes.nodes.items c.in_ok-flips.flips.items c.in_ok-nodes.ensures

@@ -1,29 +1,29 @@
-use Rattle.std.proofs.Common.{◌≡◌, ◌≤◌, All, Contains, length}
+use Rattle.std.proofs.Common.{◌≡◌, ◌≤◌, List, All, Contains, length}
 use Rattle.std.specs.List.{remove_range}
 use Rattle.std.specs.Option.{IfSome}
 use Rattle.rt_lines.specs.declared.line.Line.{Line}
 use Rattle.rt_lines.specs.Lines.{HasConstantsBelow}
 use Rattle.rt_reduce.specs.Deciding.{AreStanding, AreWitnessed, IsInnerFor}
-use Rattle.rt_reduce.specs.Dropping.{AreFated}
-use Rattle.rt_reduce.proofs.Leaving.{AreLeft}
-use Rattle.rt_reduce.proofs.dropping.drop_each.Given as goal
+use Rattle.rt_reduce.specs.Dropping.{AreFated, AreLeft}
+use Rattle.rt_reduce.proofs.dropping.drop_from.Given as goal
 
-abbrev pub invariant-loop-place : goal.invariant-loop-place
-invariant-loop-place l = record {
+abbrev pub invariant-loop-alloc : goal.invariant-loop-alloc
+invariant-loop-alloc l = record {
   from : l.place ≤ l.next;
   to : l.next ≤ length l.left.items;
   within : l.place ≤ length (remove_range l.left.items l.place l.next);
-  inside : l.place ≤ length l.lines;
+  inside : l.place ≤ l.from;
   constants : All (HasConstantsBelow l.order.count) (remove_range l.left.items l.place l.next);
   stood : (m : Line) → Contains (remove_range l.left.items l.place l.next) m → Contains l.lines m;
-  are_left : AreLeft l.order l.lines l.place (remove_range l.left.items l.place l.next);
+  are_left : (all : List Line) → AreLeft l.order all l.from l.lines →
+      AreLeft l.order all l.place (remove_range l.left.items l.place l.next);
   flags : l.place ≤ length l.stands.items;
   each : length l.stands.items ≡ length l.lines;
-  fated : AreFated l.order l.lines l.stands.items l.place l.fates.items;
+  fated : AreFated l.order l.lines l.stands.items l.place l.fates;
   standing : IfSome l.outer (λ t. AreStanding (remove_range l.left.items l.place l.next) l.stands.items l.place t.now);
   witnessed : AreWitnessed l.lines (remove_range l.left.items l.place l.next) l.stands.items l.place;
   inner : IfSome l.inner (λ t. IsInnerFor l.order (remove_range l.left.items l.place l.next) t.now);
 }
 
-abbrev pub decreases-loop-place : goal.decreases-loop-place
-decreases-loop-place l = l.place
+abbrev pub decreases-loop-alloc : goal.decreases-loop-alloc
+decreases-loop-alloc l = l.place

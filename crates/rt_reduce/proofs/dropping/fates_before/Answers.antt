@@ -1,14 +1,14 @@
 use Rattle.std.proofs.Common.{List, Bool, subst}
 use Rattle.rt_sure.specs.Fates.{AreGoing}
 use Rattle.rt_reduce.proofs.Fated.{fated_found}
-use Rattle.rt_reduce.proofs.dropping.fates_at.Goals as goal
+use Rattle.rt_reduce.proofs.dropping.fates_before.Goals as goal
 
-pub returns : goal.returns
-returns c =
+pub returns-clause-fated : goal.returns-clause-fated
+returns-clause-fated c =
     let order = c.args.order.now in
     let lines = c.args.lines.now in
     let kept = c.in_ok-kept.kept.items in
     let fates = c.in_ok-fates.fates.items in
-    fated_found order lines c.args.stands.now kept c.args.place fates c.in_ok-kept.ensures.kept c.requires.stood
-    c.in_ok-fates.ensures.each c.in_ok-fates.ensures.staying
+    fated_found order lines kept c.args.place fates c.in_ok-kept.ensures c.requires.within c.in_ok-fates.ensures.each
+    c.in_ok-fates.ensures.staying
     (subst (λ (fs : List Bool). AreGoing order lines fs fates) c.deref.ensures.value c.in_ok-fates.ensures.going)

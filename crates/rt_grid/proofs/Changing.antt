@@ -1,0 +1,54 @@
+-- What a table holds after a change.
+use Rattle.std.proofs.Common.{◌≡◌, ℕ, ◌+◌, ◌<◌, ◌⊎◌, inl, inr, List, [], ◌∷◌, ◌++◌, Contains, length, set, refl, sym, subst, ap, ◌∙◌}
+use Rattle.std.proofs.lemmas.List.Elements.{Contains-push_cases}
+use Rattle.rt_grid.specs.declared.grid.Step.{Step}
+use Rattle.rt_grid.specs.Tables.{count_at, row_of, size_of, steps_of, AreSteps, AreWays, Holds, IsBeyond, IsRelaxed, IsRelaxedBy, Made, Says, SaysWith, Table}
+use Rattle.rt_grid.specs.Tables.Made.{told, behind}
+use Rattle.rt_grid.proofs.Holding.{says_holds}
+use Rattle.rt_grid.proofs.Writing.{steps_set, ways_set}
+
+-- fewer steps from a place
+pub pruned_table : (old : Table) (place : ℕ) (kept : List Step) → place < length old.steps → ((s : Step) → Contains kept s → Contains (steps_of old.steps place) s) → Holds (Says old) (record { rows = old.rows; steps = set old.steps place kept })
+pruned_table old place kept less keeps =
+    let says = says_holds old in
+    record {
+      rows = says.rows;
+      steps = steps_set (Says old) old.steps place kept less says.steps (λ s c. inr (keeps s c));
+    }
+
+-- a row in which counts were taken in, and then those along one more step
+pub relaxed_more : (first was row : List ℕ) (rows : List (List ℕ)) (steps : List Step) (s : Step) (by : List ℕ) → Contains steps s → by ≡ row_of rows s.to → IsRelaxedBy first rows steps was → IsRelaxed was by s.count row → IsRelaxedBy first rows steps row
+relaxed_more first was row rows steps s by c e before step j known = at (step j known)
+  where
+    at : (count_at row j ≡ count_at was j) ⊎ ((count_at by j < 255) × (count_at row j ≡ s.count + count_at by j)) → (count_at row j ≡ count_at first j) ⊎ IsBeyond rows steps j (count_at row j)
+    at (inr (less, is)) = inr (s, c, subst (λ xs. count_at xs j < 255) e less, is ∙ ap (λ xs. s.count + count_at xs j) e)
+    at (inl same) = subst (λ n. (n ≡ count_at first j) ⊎ IsBeyond rows steps j n) (sym same) (before j (subst (λ n. n < 255) same known))
+
+-- a row in which counts along the steps from its place were taken in
+pub relaxed_table : (old new : Table) (place : ℕ) (row : List ℕ) → place < size_of old → IsRelaxedBy (row_of old.rows place) old.rows (steps_of old.steps place) row → new.rows ≡ set old.rows place row → new.steps ≡ old.steps → Holds (Made (Says old)) new
+relaxed_table old new place row less counts e f = record {
+  rows = subst (AreWays (Made (Says old))) (sym e) (ways_set (Made (Says old)) old.rows place row less (λ i j known. told (inl (known, refl))) (λ j known. by j known (counts j known)));
+  steps = subst (AreSteps (Made (Says old))) (sym f) (λ i s c. told (inr c));
+}
+  where
+    by : (j : ℕ) → count_at row j < 255 → (count_at row j ≡ count_at (row_of old.rows place) j) ⊎ IsBeyond old.rows (steps_of old.steps place) j (count_at row j) → Made (Says old) place j (count_at row j)
+    by j known (inl same) = told (inl (subst (λ n. n < 255) same known, same))
+    by j known (inr (s, c, beyond, is)) = subst (Made (Says old) place j) (sym is) (behind (told (inr c)) (told (inl (beyond, refl))))
+
+-- a new step from a place, with a row in which counts along it were taken in
+pub added_table : (old new : Table) (from to count : ℕ) (row : List ℕ) → from < size_of old → length old.steps ≡ size_of old → IsRelaxed (row_of old.rows from) (row_of old.rows to) count row → new.rows ≡ set old.rows from row → new.steps ≡ set old.steps from (steps_of old.steps from ++ record { to = to; count = count } ∷ []) → Holds (Made (SaysWith old from to count)) new
+added_table old new from to count row less long counts e f = record {
+  rows = subst (AreWays (Made (SaysWith old from to count))) (sym e) (ways_set (Made (SaysWith old from to count)) old.rows from row less (λ i j known. told (inl (inl (known, refl)))) (λ j known. by j known (counts j known)));
+  steps = subst (AreSteps (Made (SaysWith old from to count))) (sym f) (steps_set (Made (SaysWith old from to count)) old.steps from (steps_of old.steps from ++ step ∷ []) (subst (λ n. from < n) (sym long) less) (λ i s c. told (inl (inr c))) (λ s c. pushed s (Contains-push_cases (steps_of old.steps from) step s c)));
+}
+  where
+    step : Step
+    step = record { to = to; count = count }
+
+    by : (j : ℕ) → count_at row j < 255 → (count_at row j ≡ count_at (row_of old.rows from) j) ⊎ ((count_at (row_of old.rows to) j < 255) × (count_at row j ≡ count + count_at (row_of old.rows to) j)) → Made (SaysWith old from to count) from j (count_at row j)
+    by j known (inl same) = told (inl (inl (subst (λ n. n < 255) same known, same)))
+    by j known (inr (beyond, is)) = subst (Made (SaysWith old from to count) from j) (sym is) (behind (told (inr (refl, refl, refl))) (told (inl (inl (beyond, refl)))))
+
+    pushed : (s : Step) → Contains (steps_of old.steps from) s ⊎ (record { to = to; count = count } ≡ s) → Made (SaysWith old from to count) from s.to s.count
+    pushed s (inl c) = told (inl (inr c))
+    pushed s (inr g) = told (inr (refl, sym (ap (λ (u : Step). u.to) g), sym (ap (λ (u : Step). u.count) g)))

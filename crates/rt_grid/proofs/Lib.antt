@@ -1,0 +1,3 @@
+mod Changing
+pub mod Holding
+mod Writing

@@ -1,0 +1,162 @@
+-- What is pushed from ways that tables tell.
+use Rattle.std.proofs.Common.{◌≡◌, ℕ, ◌+◌, ◌*◌, ◌/◌, ◌%◌, ◌<◌, ◌≤◌, ◌⊎◌, inl, inr, Bool, not, true, false, List, [], ◌∷◌, ◌++◌, Contains, length, get_or, set, refl, sym, ap, subst, ◌∙◌, arith}
+use Rattle.std.specs.Prelude.{nat_eq}
+use Rattle.std.specs.Bool.{beq}
+use Rattle.std.proofs.lemmas.List.{get_or_read}
+use Rattle.std.proofs.lemmas.List.Elements.{Contains-get_or, Contains-push_cases}
+use Rattle.rt_lines.specs.declared.label.Label.{Label}
+use Rattle.rt_lines.specs.declared.label.Variance.{Variance}
+use Rattle.rt_lines.specs.declared.label.Variance.TheVariants.{Co, Contra}
+use Rattle.rt_lines.specs.declared.variable.Dtv.{Dtv}
+use Rattle.rt_lines.specs.Words.{label_variance, times}
+use Rattle.rt_bridge.specs.Growing.{Var, dot, vd}
+use Rattle.rt_bridge.specs.Counted.{bit, differ, st, Bridge, IsPointer}
+use Rattle.rt_bridge.specs.Counted.Bridge.{push}
+use Rattle.rt_bridge.specs.Laws.{Named}
+use Rattle.rt_grid.specs.declared.grid.Step.{Step}
+use Rattle.rt_grid.specs.Tables.{count_at, row_of, Holds, Made, Says, SaysWith, Table}
+use Rattle.rt_grid.specs.Tables.Made.{told}
+use Rattle.rt_grid.proofs.Holding.{add_holds, holds_by, made_chain, made_ways, says_holds, says_ways}
+use Rattle.rt_sat.specs.declared.family.Family.{Family}
+use Rattle.rt_sat.specs.declared.family.Home.{Home}
+use Rattle.rt_sat.specs.declared.gathering.Kid.{Kid}
+use Rattle.rt_sat.specs.declared.state.State.{State}
+use Rattle.rt_sat.specs.declared.state.Edge.{Edge}
+use Rattle.rt_sat.specs.Counts.{digit_of}
+use Rattle.rt_sat.specs.Deciding.{is_among}
+use Rattle.rt_sat.specs.Hints.{bit_of, grid_of, members_of, no_table, state_at, AreKids, AreToldSteps, IsHome, IsTold, IsToldAt, IsToldFamily, IsToldRow, SaysOr}
+use Rattle.rt_sat.specs.Numbered.{at_number, is_contra, sign_of, state_of}
+use Rattle.rt_sat.specs.Pushes.{flip_at, IsChildOf, PushBy}
+use Rattle.rt_sat.proofs.Closed.{child_state, named_child, parent_state, push_of, there_child}
+use Rattle.rt_sat.proofs.Families.{told_changed}
+use Rattle.rt_sat.proofs.Telling.{told_chain}
+
+half_of : (p : ℕ) (b : Bool) → (2 * p + digit_of b) / 2 ≡ p
+half_of p true = omega arith
+half_of p false = omega arith
+
+odd_of : (p : ℕ) (b : Bool) → nat_eq ((2 * p + digit_of b) % 2) 1 ≡ b
+odd_of p true = let e : (2 * p + 1) % 2 ≡ 1 = omega arith in ap (λ n. nat_eq n 1) e
+odd_of p false = let e : (2 * p + 0) % 2 ≡ 0 = omega arith in ap (λ n. nat_eq n 1) e
+
+-- the state at the place of a member's state
+pub state_placed : (members : List ℕ) (p : ℕ) (b : Bool) → state_at members (2 * p + digit_of b) ≡ record { variable = get_or members p 0; contra = b }
+state_placed members p b = λ k. record { variable = get_or members (half_of p b k) 0; contra = odd_of p b k }
+
+-- the list that stands in a place
+pub list_read : {X : Type 0} (xs : List (List X)) (i : ℕ) (items x : List X) → i < length xs → items ≡ x → x ≡ get_or xs i x → items ≡ get_or xs i []
+list_read xs i items x less is read = is ∙ get_or_read xs i x less read []
+
+pub kid_read : (members : List ℕ) (kids : List Kid) (i : ℕ) → AreKids members kids → i < length kids → (get_or kids i (record { parent = 0; variable = 0 })).parent < length members
+kid_read members kids i are less = are (get_or kids i (record { parent = 0; variable = 0 })) (Contains-get_or kids i (record { parent = 0; variable = 0 }) less)
+
+pub digit_small : (b : Bool) → digit_of b < 2
+digit_small true = omega arith
+digit_small false = omega arith
+
+-- a table to which no step was added
+pub with_none : (table : Table) (from to count : ℕ) → Holds (Made (SaysWith table from to count)) table
+with_none table from to count = holds_by (Says table) (Made (SaysWith table from to count)) (λ i j n w. told (inl w)) table (says_holds table)
+
+bit_turned : (v : Variance) → bit_of (is_contra v) ≡ bit v
+bit_turned Co = refl
+bit_turned Contra = refl
+
+digit_differs : (a b : Bool) → digit_of (not (beq a b)) ≡ differ (sign_of a) (sign_of b)
+digit_differs true true = refl
+digit_differs true false = refl
+digit_differs false true = refl
+digit_differs false false = refl
+
+-- a half push, by bits
+pub half_pushed : (flip : Bool) (l m : Label) (d k : ℕ) (a b left right : Bool) → flip ≡ true → IsPointer l → IsPointer m → left ≡ is_contra (times (label_variance l) (sign_of a)) → right ≡ is_contra (times (label_variance m) (sign_of b)) →
+    d + bit_of left ≤ (k + k) + bit_of right → (k + digit_of (not (beq a b))) % 2 ≡ 0 → PushBy flip l m d (sign_of a) (sign_of b) k
+half_pushed flip l m d k a b left right flips p q e f enough parity = inl (record {
+  flips = flips;
+  left = p;
+  right = q;
+  enough = subst (λ n. d + n ≤ (k + k) + bit (times (label_variance m) (sign_of b))) (ap bit_of e ∙ bit_turned (times (label_variance l) (sign_of a)))
+      (subst (λ n. d + bit_of left ≤ (k + k) + n) (ap bit_of f ∙ bit_turned (times (label_variance m) (sign_of b))) enough);
+  parity = subst (λ n. (k + n) % 2 ≡ 0) (digit_differs a b) parity;
+})
+
+-- what is added to a table, the least counts first
+module _ (from : ℕ) (found : List Step) where
+  pub entered_none : (table : Table) → Holds (Made (SaysOr table from found)) table
+  entered_none table = holds_by (Says table) (Made (SaysOr table from found)) (λ i j n w. told (inl w)) table (says_holds table)
+
+  pub entered_more : (old mid new : Table) (step : Step) → Contains found step → Holds (Made (SaysOr old from found)) mid → Holds (Made (SaysWith mid from step.to step.count)) new → Holds (Made (SaysOr old from found)) new
+  entered_more old mid new step c = add_holds (Made (SaysOr old from found)) mid new from step.to step.count (made_chain (SaysOr old from found)) (told (inr (refl, c)))
+
+  pub entered_after : (old mid new : Table) → Holds (Made (SaysOr old from found)) mid → Holds (Made (SaysOr mid from found)) new → Holds (Made (SaysOr old from found)) new
+  entered_after old mid new before = holds_by (Made (SaysOr mid from found)) (Made (SaysOr old from found)) (λ i j n w. made_ways (SaysOr mid from found) (Made (SaysOr old from found)) (made_chain (SaysOr old from found)) by w) new
+    where
+      by : (i j n : ℕ) → SaysOr mid from found i j n → Made (SaysOr old from found) i j n
+      by i j n (inl w) = says_ways (Made (SaysOr old from found)) mid before i j n w
+      by i j n (inr w) = told (inr w)
+
+module _ (known : List Dtv) (flips : List Bool) (lines : List Edge) where
+  -- what is pushed from a told count
+  pub told_push : (child parent end other : State) (l m : Label) (d k : ℕ) → IsTold known flips lines parent other d → IsChildOf known child parent l → IsChildOf known end other m →
+      PushBy (flip_at flips parent.variable) l m d (sign_of child.contra) (sign_of end.contra) k → IsTold known flips lines child end k
+  told_push child parent end other l m d k way left right by L frame sides sound =
+      let M : Var → Type 0 = Named (is_among known) in
+      let x : Var = vd (at_number known parent.variable) in
+      let y : Var = vd (at_number known other.variable) in
+      let placed : Bridge L M (st x (times (label_variance l) (sign_of child.contra))) (st y (times (label_variance m) (sign_of end.contra))) d =
+      subst (λ z. Bridge L M z (st y (times (label_variance m) (sign_of end.contra))) d) (parent_state known child parent l left)
+      (subst (λ z. Bridge L M (state_of known parent) z d) (parent_state known end other m right) (way L frame sides sound)) in
+      subst (λ z. Bridge L M z (state_of known end) k) (sym (child_state known child parent l left))
+      (subst (λ z. Bridge L M (st (dot x l) (sign_of child.contra)) z k) (sym (child_state known end other m right))
+      (push (named_child known L flips frame child parent l left) (named_child known L flips frame end other m right) (there_child known L flips frame child parent l left) (there_child known L flips frame end other m right) placed
+      (push_of known L flips frame parent.variable l m d (sign_of child.contra) (sign_of end.contra) k left.above by)))
+
+  -- a count of a row is told of the state at a member's place
+  pub row_told : (s : State) (members row : List ℕ) (p way : ℕ) (b : Bool) → IsToldRow known flips lines s members row → 2 * p + digit_of b < length row → way ≡ count_at row (2 * p + digit_of b) → way < 255 →
+      IsTold known flips lines s (record { variable = get_or members p 0; contra = b }) way
+  row_told s members row p way b are less e few =
+      subst (λ t. IsTold known flips lines s t way) (state_placed members p b)
+      (subst (IsTold known flips lines s (state_at members (2 * p + digit_of b))) (sym e) (are (2 * p + digit_of b) less (subst (λ n. n < 255) e few)))
+
+  -- the row of a member's place is told of its state
+  pub told_row : (family : Family) (class p : ℕ) (b : Bool) (row : List ℕ) → class < length family.members.items → IsToldFamily known flips lines family → row ≡ row_of (grid_of family class).rows (2 * p + digit_of b) →
+      IsToldRow known flips lines (record { variable = get_or (members_of family class) p 0; contra = b }) (members_of family class) row
+  told_row family class p b row less are e =
+      subst (λ s. IsToldRow known flips lines s (members_of family class) row) (state_placed (members_of family class) p b)
+      (subst (IsToldRow known flips lines (state_at (members_of family class) (2 * p + digit_of b)) (members_of family class)) (sym e) (λ j long few. (are class less).rows (2 * p + digit_of b) j few))
+
+  -- a step more that is told
+  pub steps_more : (child : State) (family : Family) (class : ℕ) (steps more : List Step) (step : Step) → AreToldSteps known flips lines child family class steps → IsTold known flips lines child (state_at (members_of family class) step.to) step.count → more ≡ steps ++ step ∷ [] →
+      AreToldSteps known flips lines child family class more
+  steps_more child family class steps more step are here e s c = by (Contains-push_cases steps step s (subst (λ xs. Contains xs s) e c))
+    where
+      by : Contains steps s ⊎ (step ≡ s) → IsTold known flips lines child (state_at (members_of family class) s.to) s.count
+      by (inl h) = are s h
+      by (inr f) = subst (λ (t : Step). IsTold known flips lines child (state_at (members_of family class) t.to) t.count) f here
+
+  -- what steps are added to from the place of a state is told, if they are
+  pub entered_told : (members : List ℕ) (old new : Table) (from : ℕ) (child : State) (found : List Step) → state_at members from ≡ child → Holds (IsToldAt known flips lines members) old →
+      ((s : Step) → Contains found s → IsTold known flips lines child (state_at members s.to) s.count) → Holds (Made (SaysOr old from found)) new → Holds (IsToldAt known flips lines members) new
+  entered_told members old new from child found is before steps = holds_by (Made (SaysOr old from found)) (IsToldAt known flips lines members) (λ i j n w. made_ways (SaysOr old from found) (IsToldAt known flips lines members) (told_chain known flips lines members) by w) new
+    where
+      by : (i j n : ℕ) → SaysOr old from found i j n → IsToldAt known flips lines members i j n
+      by i j n (inl w) = says_ways (IsToldAt known flips lines members) old before i j n w
+      by i j n (inr (e, c)) = subst (λ h. IsToldAt known flips lines members h j n) (sym e) (subst (λ s. IsTold known flips lines s (state_at members j) n) (sym is) (steps (record { to = j; count = n }) c))
+
+  -- what grids say is told, where steps that are told were added from the place of a state
+  pub told_put : (old new : Family) (home : Home) (child : State) (was grid : Table) (found steps : List Step) → new.members.items ≡ old.members.items → new.grids.items ≡ set old.grids.items home.class grid → length old.grids.items ≡ length old.members.items →
+      IsHome old child home → was ≡ get_or old.grids.items home.class was → steps ≡ found → Holds (Made (SaysOr was home.index steps)) grid → AreToldSteps known flips lines child old home.class found → IsToldFamily known flips lines old → IsToldFamily known flips lines new
+  told_put old new home child was grid found steps same is each at read these holds are before =
+      let less : home.class < length old.grids.items = subst (λ n. home.class < n) (sym each) at.class in
+      told_changed old new home.class grid at.class same is known flips lines each
+      (entered_told (members_of old home.class) was grid home.index child steps at.is
+      (subst (Holds (IsToldAt known flips lines (members_of old home.class))) (sym (get_or_read old.grids.items home.class was less read no_table)) (before home.class at.class))
+      (λ s h. are s (subst (λ xs. Contains xs s) these h)) holds) before
+
+  -- what was read of the row of a member's place is told of its state
+  pub told_read : (family : Family) (class p place : ℕ) (b : Bool) (members row : List ℕ) (grid : Table) → class < length family.members.items → length family.grids.items ≡ length family.members.items → members ≡ members_of family class → grid ≡ get_or family.grids.items class grid →
+      place ≡ 2 * p + digit_of b → row ≡ row_of grid.rows place → IsToldFamily known flips lines family → IsToldRow known flips lines (record { variable = get_or members p 0; contra = b }) members row
+  told_read family class p place b members row grid less each same read at is are =
+      let long : class < length family.grids.items = subst (λ n. class < n) (sym each) less in
+      let rows : row ≡ row_of (grid_of family class).rows (2 * p + digit_of b) = is ∙ ap (λ (g : Table). row_of g.rows place) (get_or_read family.grids.items class grid long read no_table) ∙ ap (row_of (grid_of family class).rows) at in
+      subst (λ xs. IsToldRow known flips lines (record { variable = get_or xs p 0; contra = b }) xs row) (sym same) (told_row family class p b row less are rows)

@@ -1,0 +1,17 @@
+use Rattle.std.proofs.Common.{◌∙◌}
+use Rattle.rt_sat.specs.Hints.{members_of}
+use Rattle.rt_sat.proofs.ToldPushes.{kid_read}
+use Rattle.rt_sat.proofs.gathering.push_apart.Goals as goal
+
+pub push_beyond-requires-clause-kid : goal.push_beyond-requires-clause-kid
+push_beyond-requires-clause-kid c = kid_read (members_of c.args.family.now c.args.class) c.args.kids.now c.loop-kid.kid-index c.requires.kids c.loop-kid-test.true
+
+pub push_beyond-requires-in-loop-kid-clause-kid : goal.push_beyond-requires-in-loop-kid-clause-kid
+push_beyond-requires-in-loop-kid-clause-kid c = kid_read (members_of c.args.family.now c.args.class) c.args.kids.now c.loop-kid.kid-index c.requires.kids c.loop-kid-test.true
+
+pub loop-kid-preserved : goal.loop-kid-preserved
+loop-kid-preserved c = record {
+  same = c.in_ok-push_beyond-2.ensures.same ∙ c.in_ok-push_beyond.ensures.same ∙ c.loop-kid.invariant.same;
+  family = c.in_ok-push_beyond-2.ensures.family;
+  told = λ lines own before. c.in_ok-push_beyond-2.ensures.told lines own (c.in_ok-push_beyond.ensures.told lines own (c.loop-kid.invariant.told lines own before));
+}

@@ -1,0 +1,15 @@
+use Rattle.std.proofs.Common.{ℕ, Bool, List, length}
+use Rattle.rt_lines.specs.declared.variable.Dtv.{Dtv}
+use Rattle.rt_sat.specs.declared.state.Edge.{Edge}
+use Rattle.rt_sat.specs.Hints.{AreSameMembers, AreTold, IsFamily, IsToldFamily}
+use Rattle.rt_sat.specs.Numbered.{AreWithin}
+use Rattle.rt_sat.proofs.hints.edges_of.Given as goal
+
+abbrev pub invariant-loop-class : goal.invariant-loop-class
+invariant-loop-class l = record {
+  same : AreSameMembers l.fn.family l.family;
+  family : (count : ℕ) → IsFamily count l.fn.family → IsFamily count l.family;
+  told : (known : List Dtv) (flips : List Bool) (lines : List Edge) → IsToldFamily known flips lines l.fn.family → IsToldFamily known flips lines l.family;
+  edges : (known : List Dtv) (flips : List Bool) (lines : List Edge) → IsToldFamily known flips lines l.fn.family → AreTold known flips lines l.edges.items;
+  within : (known : List Dtv) → IsFamily (length known) l.fn.family → AreWithin known l.edges.items;
+}

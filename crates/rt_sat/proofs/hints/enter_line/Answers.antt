@@ -1,0 +1,8 @@
+use Rattle.std.proofs.Common.{◌≡◌, arith, subst}
+use Rattle.rt_sat.specs.Hints.{IsTold}
+use Rattle.rt_sat.proofs.hints.enter_line.Goals as goal
+
+pub returns-in_ok-add-clause-told : goal.returns-in_ok-add-clause-told
+returns-in_ok-add-clause-told c known flips lines told =
+    let same : c.args.edge.now.count ≡ c.capped-count.result = omega (arith, c.capped-count.ensures, c.if-count-lt255.true) in
+    c.in_ok-add.ensures.told known flips lines (subst (IsTold known flips lines c.args.edge.now.from c.args.edge.now.to) same told)

@@ -1,0 +1,11 @@
+use Rattle.std.proofs.Common.{ℕ, Bool, List}
+use Rattle.rt_lines.specs.declared.variable.Dtv.{Dtv}
+use Rattle.rt_sat.specs.Hints.{AreSameMembers, IsFamily, IsToldFamily}
+use Rattle.rt_sat.proofs.hints.enter_lines.Given as goal
+
+abbrev pub invariant-loop-edge : goal.invariant-loop-edge
+invariant-loop-edge l = record {
+  same : AreSameMembers l.fn.family l.family;
+  family : (count : ℕ) → IsFamily count l.fn.family → IsFamily count l.family;
+  told : (known : List Dtv) (flips : List Bool) → IsToldFamily known flips l.lines l.fn.family → IsToldFamily known flips l.lines l.family;
+}

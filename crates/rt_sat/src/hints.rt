@@ -1,0 +1,310 @@
+// Edges that are pushed from ways along others, found by tables of bytes. Nothing says that these are all, so searches go on
+// from them; but where counts are small they are.
+ghost use Rattle.std.specs.Prelude.{◌≡◌, ◌*◌, ◌<◌, ◌≤◌, ℕ, [], List, Bool, IfOk, OnOk};
+ghost use Rattle.std.specs.Prelude.{length, slice_index_or};
+ghost use Rattle.rt_lines.specs.declared.variable.Dtv.{Dtv as Variable};
+ghost use Rattle.rt_sat.specs.declared.state.Edge.{Edge as Arrow};
+ghost use Rattle.rt_grid.specs.Tables.{size_of};
+ghost use Rattle.rt_sat.specs.Hints.{state_at, AreKidsOf, AreMore, AreSameMembers, AreTold, IsFamily, IsOfStep};
+ghost use Rattle.rt_sat.specs.Hints.{IsStepFrom, IsStepOf, IsTold, IsToldFamily};
+ghost use Rattle.rt_sat.specs.Numbered.{AreDistinct, AreWithin};
+
+use crate::count::Count;
+use crate::family::{Family, class_count};
+use crate::gathering::{Kid, push_apart, spread};
+use crate::pushing::{Frame, flag};
+use crate::state::{Edge, State};
+use rt_base::{Memory, Sequence};
+use rt_grid::{Grid, Step};
+use rt_named::Origin;
+use std::alloc::Global;
+
+// From so many edges of lines on it pays to look for hints.
+const MANY: usize = 200;
+
+// Pushed edges. The error is want of memory.
+pub(crate) fn hints(alloc: Global, frame: &Frame, lines: &[Edge]) -> Result<Vec<Edge>, Memory>
+    requires distinct { AreDistinct frame.now.named }
+    requires nodes { length frame.now.nodes.items ≡ length frame.now.named }
+    ensures told { IfOk result (λ hints. AreTold frame.now.named frame.now.flips.items lines.now hints.items) }
+    ensures within { IfOk result (λ hints. AreWithin frame.now.named hints.items) }
+{
+    if lines.len() < MANY {
+        return Ok(Vec::new(alloc));
+    }
+    let above = above(alloc, frame)?;
+    let mut family = Family::of(alloc, &frame.nodes, &above)?;
+    enter_lines(alloc, &mut family, lines)?;
+    let kids = kids(alloc, frame, &family)?;
+    spread(alloc, frame, &kids, &mut family)?;
+    let edges = pushed(alloc, frame, &kids, &family)?;
+    Ok(edges)
+}
+
+// Adds steps of edges, as far as their counts are small.
+fn enter_lines(alloc: Global, family: &mut Family, lines: &[Edge]) -> Result<(), Memory>
+    requires { (count : ℕ) × IsFamily count family.old }
+    ensures same { OnOk result (AreSameMembers family.old family.new) }
+    ensures family { OnOk result ((count : ℕ) → IsFamily count family.old → IsFamily count family.new) }
+    ensures told { OnOk result ((known : List Variable) (flips : List Bool) → IsToldFamily known flips lines.now family.old →
+        IsToldFamily known flips lines.now family.new) }
+{
+    for edge in lines {
+        enter_line(alloc, family, edge)?;
+    }
+    Ok(())
+}
+
+// Adds the step of an edge, if its count is small.
+fn enter_line(alloc: Global, family: &mut Family, edge: &Edge) -> Result<(), Memory>
+    requires { (count : ℕ) × IsFamily count family.old }
+    ensures same { OnOk result (AreSameMembers family.old family.new) }
+    ensures family { OnOk result ((count : ℕ) → IsFamily count family.old → IsFamily count family.new) }
+    ensures told { OnOk result ((known : List Variable) (flips : List Bool) (lines : List Arrow) →
+        IsTold known flips lines edge.now.from edge.now.to edge.now.count → IsToldFamily known flips lines family.old →
+        IsToldFamily known flips lines family.new) }
+{
+    let count = edge.count.capped();
+    if count < 255 {
+        family.add(alloc, edge.from, edge.to, count as u8)?;
+    }
+    Ok(())
+}
+
+// For each variable whether its class has a member with a letter more.
+fn above(alloc: Global, frame: &Frame) -> Result<Vec<bool>, Memory>
+    requires nodes { length frame.now.nodes.items ≡ length frame.now.named }
+    ensures each { IfOk result (λ above. length above.items ≡ length frame.now.named) }
+    ensures few { IfOk result (λ above. length above.items ≤ 4294967296) }
+{
+    let parents = parents(alloc, frame)?;
+    let mut above = Vec::with_capacity(alloc, frame.named.len())?;
+    for node in &frame.nodes {
+        above.push(match node {
+            Some(node) => flag(&parents, *node),
+            None => false,
+        })?;
+    }
+    Ok(above)
+}
+
+// For each class whether it has a member with a letter more.
+fn parents(alloc: Global, frame: &Frame) -> Result<Vec<bool>, Memory>
+    requires nodes { length frame.now.nodes.items ≡ length frame.now.named }
+{
+    let mut parents = vec![in alloc; false; class_count(&frame.nodes)]?;
+    for number in 0..frame.named.len() {
+        if let Origin::Longer(parent, _) = frame.named.origin(number as u32)
+            && let Some(node) = frame.nodes[parent as usize]
+        {
+            parents[node as usize] = true;
+        }
+    }
+    Ok(parents)
+}
+
+// For each variable whether it has a letter, and its class a member with a letter more. Of others no way is asked but by the
+// searches that come behind.
+fn below(alloc: Global, frame: &Frame) -> Result<Vec<bool>, Memory>
+    requires nodes { length frame.now.nodes.items ≡ length frame.now.named }
+    ensures each { IfOk result (λ below. length below.items ≡ length frame.now.named) }
+    ensures few { IfOk result (λ below. length below.items ≤ 4294967296) }
+{
+    let above = above(alloc, frame)?;
+    let mut below = Vec::with_capacity(alloc, frame.named.len())?;
+    for number in 0..frame.named.len() {
+        below.push(match frame.named.origin(number as u32) {
+            Origin::Longer(_, _) => above[number],
+            Origin::Bare(_) => false,
+        })?;
+    }
+    Ok(below)
+}
+
+// By class the variables with a letter more than its members.
+fn kids(alloc: Global, frame: &Frame, family: &Family) -> Result<Vec<Sequence<Kid>>, Memory>
+    requires { (count : ℕ) × IsFamily count family.now }
+    ensures { IfOk result (λ kids. AreKidsOf family.now kids.items) }
+{
+    let mut kids = no_kids(alloc, family.members.len())?;
+    for number in 0..frame.named.len() {
+        enter_kid(frame, family, &mut kids, number as u32)?;
+    }
+    Ok(kids)
+}
+
+// So many lists of none.
+fn no_kids(alloc: Global, count: usize) -> Result<Vec<Sequence<Kid>>, Memory>
+    ensures each { IfOk result (λ none. length none.items ≡ count) }
+    ensures none { IfOk result (λ none. (class : ℕ) → slice_index_or none.items class [] ≡ []) }
+{
+    let mut none = Vec::new(alloc);
+    while none.len() < count {
+        none.push(Sequence::new(alloc))?;
+    }
+    Ok(none)
+}
+
+// Puts a variable behind those of its parent's class.
+fn enter_kid(
+    frame: &Frame,
+    family: &Family,
+    kids: &mut Vec<Sequence<Kid>>,
+    number: u32,
+) -> Result<(), Memory>
+    requires number { number < length frame.now.named }
+    requires family { (count : ℕ) × IsFamily count family.now }
+    requires kids { AreKidsOf family.now kids.old.items }
+    ensures { OnOk result (AreKidsOf family.now kids.new.items) }
+{
+    let Origin::Longer(parent, _) = frame.named.origin(number) else {
+        return Ok(());
+    };
+    let state = State {
+        variable: parent,
+        contra: false,
+    };
+    if let Some(home) = family.home(state) {
+        kids[home.class].push(Kid {
+            parent: home.index / 2,
+            variable: number,
+        })?;
+    }
+    Ok(())
+}
+
+// The edges that are pushed from the ways of a family, without spare ones.
+fn pushed(
+    alloc: Global,
+    frame: &Frame,
+    kids: &[Sequence<Kid>],
+    family: &Family,
+) -> Result<Vec<Edge>, Memory>
+    requires distinct { AreDistinct frame.now.named }
+    requires nodes { length frame.now.nodes.items ≡ length frame.now.named }
+    requires family { IsFamily (length frame.now.named) family.now }
+    requires kids { AreKidsOf family.now kids.now }
+    ensures told { IfOk result (λ edges. (lines : List Arrow) → IsToldFamily frame.now.named frame.now.flips.items lines family.now →
+        AreTold frame.now.named frame.now.flips.items lines edges.items) }
+    ensures within { IfOk result (λ edges. AreWithin frame.now.named edges.items) }
+{
+    let mut pushed = pushed_ways(alloc, frame, kids, family)?;
+    let edges = edges_of(alloc, &mut pushed)?;
+    Ok(edges)
+}
+
+// The ways that are pushed from those of a family.
+fn pushed_ways(
+    alloc: Global,
+    frame: &Frame,
+    kids: &[Sequence<Kid>],
+    family: &Family,
+) -> Result<Family, Memory>
+    requires distinct { AreDistinct frame.now.named }
+    requires nodes { length frame.now.nodes.items ≡ length frame.now.named }
+    requires family { IsFamily (length frame.now.named) family.now }
+    requires kids { AreKidsOf family.now kids.now }
+    ensures family { IfOk result (λ pushed. IsFamily (length frame.now.named) pushed) }
+    ensures told { IfOk result (λ pushed. (lines : List Arrow) →
+        IsToldFamily frame.now.named frame.now.flips.items lines family.now →
+        IsToldFamily frame.now.named frame.now.flips.items lines pushed) }
+{
+    let below = below(alloc, frame)?;
+    let mut pushed = Family::of(alloc, &frame.nodes, &below)?;
+    for class in 0..kids.len() {
+        push_apart(
+            alloc,
+            frame,
+            kids[class].items(),
+            family,
+            class,
+            &mut pushed,
+        )?;
+    }
+    Ok(pushed)
+}
+
+// The steps of all classes that aren't spare, as edges.
+fn edges_of(alloc: Global, family: &mut Family) -> Result<Vec<Edge>, Memory>
+    requires { (count : ℕ) × IsFamily count family.old }
+    ensures told { IfOk result (λ edges. (known : List Variable) (flips : List Bool) (lines : List Arrow) →
+        IsToldFamily known flips lines family.old → AreTold known flips lines edges.items) }
+    ensures within { IfOk result (λ edges. (known : List Variable) → IsFamily (length known) family.old →
+        AreWithin known edges.items) }
+{
+    let mut edges = Vec::new(alloc);
+    for class in 0..family.members.len() {
+        family.close(alloc, class)?;
+        emit(
+            alloc,
+            family.members[class].items(),
+            &family.grids[class],
+            &mut edges,
+        )?;
+    }
+    Ok(edges)
+}
+
+// Puts the steps of a class behind edges, but for those that turn a state round.
+fn emit(alloc: Global, members: &[u32], grid: &Grid, edges: &mut Vec<Edge>) -> Result<(), Memory>
+    requires { size_of grid.now ≡ 2 * length members.now }
+    ensures { OnOk result (AreMore (IsStepOf members.now grid.now) edges.old.items edges.new.items) }
+{
+    for index in 0..grid.len() {
+        emit_from(alloc, members, grid, index, edges)?;
+    }
+    Ok(())
+}
+
+// Puts the steps from a place behind edges, but for those that turn its state round.
+fn emit_from(
+    alloc: Global,
+    members: &[u32],
+    grid: &Grid,
+    index: usize,
+    edges: &mut Vec<Edge>,
+) -> Result<(), Memory>
+    requires size { size_of grid.now ≡ 2 * length members.now }
+    requires index { index < size_of grid.now }
+    ensures { OnOk result (AreMore (IsStepFrom members.now grid.now index) edges.old.items edges.new.items) }
+{
+    for step in grid.steps(index) {
+        emit_step(alloc, members, index, *step, edges)?;
+    }
+    Ok(())
+}
+
+// Puts a step behind edges, if it doesn't turn a state round.
+fn emit_step(
+    alloc: Global,
+    members: &[u32],
+    index: usize,
+    step: Step,
+    edges: &mut Vec<Edge>,
+) -> Result<(), Memory>
+    requires from { index < 2 * length members.now }
+    requires to { step.to < 2 * length members.now }
+    ensures { OnOk result (AreMore (IsOfStep members.now index step) edges.old.items edges.new.items) }
+{
+    let from = member_state(members, index);
+    let to = member_state(members, step.to);
+    if from.variable != to.variable {
+        edges.push(Edge {
+            from,
+            to,
+            count: Count::small(alloc, u32::from(step.count)),
+        })?;
+    }
+    Ok(())
+}
+
+// The state at a place.
+fn member_state(members: &[u32], place: usize) -> State
+    requires { place < 2 * length members.now }
+    ensures { result ≡ state_at members.now place }
+{
+    State {
+        variable: members[place / 2],
+        contra: place % 2 == 1,
+    }
+}
