@@ -1,0 +1,4 @@
+pub mod Moving
+pub mod Places
+pub mod Carrying
+pub mod Splitting
