@@ -2,3 +2,8 @@ pub mod Moving
 pub mod Places
 pub mod Carrying
 pub mod Splitting
+pub mod FirstFree
+pub mod Numbered
+pub mod Naming
+pub mod Sparing
+pub mod Counting

@@ -91,7 +91,7 @@ module _ (lines : List Line) (parts : ℕ → Label → Option ℕ) where
   line_live (Up x k) c = rw (moved_live x (Up x k, c, Contains-here x [])) refl
 
 -- a variable of another base than an existential stays
-outer_stays : (parts : ℕ → Label → Option ℕ) (b : Base) (w : List Label) → ((n : ℕ) → b ≡ Exist n → ⊥) →
+pub outer_stays : (parts : ℕ → Label → Option ℕ) (b : Base) (w : List Label) → ((n : ℕ) → b ≡ Exist n → ⊥) →
     moved_at parts b w ≡ record { base = b; word = w }
 outer_stays parts (Proc n) w none = refl
 outer_stays parts (Global n) w none = refl
@@ -99,7 +99,7 @@ outer_stays parts (Outer n) w none = refl
 outer_stays parts (Exist n) w none = absurd (none n refl)
 
 -- of a line in which the existential holds, each of its variables is a part
-flow_part : (n : ℕ) (l : Line) (x : Dtv) → IsHolding n l → Contains (flow_sides l) x → x.base ≡ Exist n → IsPart n x
+pub flow_part : (n : ℕ) (l : Line) (x : Dtv) → IsHolding n l → Contains (flow_sides l) x → x.base ≡ Exist n → IsPart n x
 flow_part n (Var y) x h c e = absurd (Contains-none x c)
 flow_part n (Same y z) x h c e = absurd (Contains-none x c)
 flow_part n (Sub y z) x h c e = by (Contains-cons_cases y (z ∷ []) x c)

@@ -3,3 +3,8 @@
 #![tactic(auto)]
 
 pub mod laws;
+mod parting;
+mod records;
+mod slots;
+
+pub use parting::split;
