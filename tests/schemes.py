@@ -1,8 +1,9 @@
 """Reduces lists of lines to schemes: a transcript of the definitions, by which a procedure has one scheme.
 
 It is written from crates/rt_polar/specs (Puts, Tidied), crates/rt_refine/specs (Refinements), crates/rt_twins/specs
-(Twinnings), crates/rt_trim/specs (Idle), crates/rt_reduction/specs (Simplifies, Before, Emits, Merges, Drops, Rounds), crates/rt_scheme/specs (Schemes,
-SplitExistentials) and crates/rt_settle/specs (Chosen), step by step, and is slow. Lines and variables are those of derivation.py.
+(Twinnings), crates/rt_trim/specs (Idle), crates/rt_record/specs (Records, Slots), crates/rt_reduction/specs (Simplifies,
+Before, Emits, Merges, Drops, Rounds), crates/rt_scheme/specs (Schemes, SplitExistentials) and crates/rt_settle/specs
+(Chosen), step by step, and is slow. Lines and variables are those of derivation.py.
 """
 import heapq
 
@@ -257,6 +258,51 @@ def prepared(lines):
             return lines
         lines = tidied(found)
 
+# ------------------------------------------------------------------ existentials that do nothing but hold fields
+
+
+def is_part(x):
+    """Whether the variable is what is loaded from a field, or stored in it, with more letters or none."""
+    return len(x) > 2 and x[1] in ('load', 'store') and '@' in x[2]
+
+
+def flow_sides(line):
+    """The sides of a `<=` line or bound, each with the sign of what may leave an existential there."""
+    if line[0] == 'below':
+        return [(line[1], 1), (line[2], -1)]
+    return [(x, {'up': 1, 'low': -1}[line[0]]) for x in sides(line) if line[0] in ('low', 'up')]
+
+
+def records(lines):
+    """The existentials that stand in `<=` lines and bounds with nothing but parts: where they leave it with those that keep
+    the order, elsewhere with those that turn it round."""
+    ends = [(x, sign) for line in lines for x, sign in flow_sides(line) if is_exist(x)]
+    spoiled = {x[0][1] for x, sign in ends if not is_part(x) or sign_of(x[1:]) != sign}
+    return {number for number in exists_of(lines) if number not in spoiled}
+
+
+def fields_apart(lines):
+    """The lines with an existential for each field of records, and behind them the shapes of these."""
+    found = records(lines)
+    moving = [x for line in lines for x, _ in flow_sides(line) if is_exist(x) and x[0][1] in found]
+    first = max([number + 1 for number in exists_of(lines)], default=0)
+    fields = list(dict.fromkeys((x[0], x[2]) for x in moving))
+    number = {field: first + place for place, field in enumerate(fields)}
+
+    def moved(x):
+        return exist(number[x[0], x[2]]) + x[3:] if is_exist(x) and x[0][1] in found else x
+
+    return ([mapped(moved, line) if line[0] in ('below', 'low', 'up') else line for line in lines]
+            + [('same', exist(number[x[0], x[2]]), x[:3]) for x in moving])
+
+
+def without_records(lines):
+    while True:
+        found = fields_apart(lines)
+        if found == lines:
+            return lines
+        lines = prepared(tidied(found))
+
 # ------------------------------------------------------------------ the shape written anew
 
 
@@ -362,7 +408,7 @@ def is_done(lines):
 
 
 def reduced(lines, lattice):
-    lines = tidied(lines)
+    lines = tidied(without_records(prepared(tidied(lines))))
     while True:
         lines = dropped(merged(emitted(prepared(lines))), lattice)
         if is_done(lines):

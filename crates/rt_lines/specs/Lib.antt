@@ -7,3 +7,5 @@ pub mod Equality
 pub mod Sides
 pub mod SidesLeft
 pub mod Numbering
+pub mod FirstFree
+pub mod FlowCounts

@@ -3,6 +3,7 @@
 #![tactic(auto)]
 
 mod deduplication;
+mod existentials;
 mod label;
 mod line;
 mod names;
@@ -13,6 +14,7 @@ mod variable;
 mod word;
 
 pub use deduplication::deduplicate;
+pub use existentials::first_free;
 pub use label::{Label, Loc, Variance};
 pub use line::{Judge, Line, Lines};
 pub use names::{Names, is_name};

@@ -5,10 +5,12 @@ use Rattle.rt_lines.specs.declared.label.Label.{Label}
 use Rattle.rt_lines.specs.declared.variable.Dtv.{Dtv}
 use Rattle.rt_lines.specs.declared.line.Line.{Line}
 use Rattle.rt_lines.specs.declared.line.Line.TheVariants.{Var, Same, Sub, Low, Up}
+use Rattle.rt_lines.specs.FirstFree.{first_free}
+use Rattle.rt_lines.specs.FlowCounts.{flow_count}
 use Rattle.rt_record.specs.declared.slots.Slot.{Slot}
 use Rattle.rt_record.specs.Records.{moved, moved_line, move, moves, flow_sides, shape_line, split}
-use Rattle.rt_record.specs.Slots.{AreRecords, slots, first_free, numbers, numbers_from, HasNoneSplit, IsSplit}
-use Rattle.rt_record.specs.Slots.{flow_count, line_letters, letters}
+use Rattle.rt_record.specs.Slots.{AreRecords, slots, numbers, numbers_from, HasNoneSplit, IsSplit}
+use Rattle.rt_record.specs.Slots.{line_letters, letters}
 use Rattle.rt_record.proofs.Moving.{Moves, Stays, moving}
 
 flow_count-append : (ks ls : List Line) → flow_count (ks ++ ls) ≡ flow_count ks + flow_count ls

@@ -2,7 +2,6 @@ pub mod Moving
 pub mod Places
 pub mod Carrying
 pub mod Splitting
-pub mod FirstFree
 pub mod Numbered
 pub mod Naming
 pub mod Sparing

@@ -9,16 +9,17 @@ use Rattle.rt_lines.specs.declared.variable.Base.TheVariants.{Proc, Global, Exis
 use Rattle.rt_lines.specs.declared.variable.Dtv.{Dtv}
 use Rattle.rt_lines.specs.declared.line.Line.{Line}
 use Rattle.rt_lines.specs.Equality.{label_eq}
+use Rattle.rt_lines.specs.FirstFree.{first_free}
 use Rattle.rt_lines.proofs.Equal.{label_equal}
 use Rattle.rt_lines.proofs.Distinct.{inserted-source}
 use Rattle.rt_rules.specs.Laws.{NamesBase}
+use Rattle.rt_rules.proofs.FirstFree.{first_free-above}
 use Rattle.rt_record.specs.declared.slots.Slot.{Slot}
 use Rattle.rt_record.specs.Records.{part, IsPart, IsField, flow_sides, split}
-use Rattle.rt_record.specs.Slots.{slot_eq, slot, word_slots, base_slots, side_slots, slots, first_free, number_at, numbers_from, numbers}
+use Rattle.rt_record.specs.Slots.{slot_eq, slot, word_slots, base_slots, side_slots, slots, number_at, numbers_from, numbers}
 use Rattle.rt_record.specs.Laws.{PartsLaw, OneSplitLaw}
 use Rattle.rt_record.proofs.Moving.{IsFlowSide}
 use Rattle.rt_record.proofs.Splitting.{flow_part}
-use Rattle.rt_record.proofs.FirstFree.{first_free-above}
 
 slot_same : (s t : Slot) → slot_eq s t ≡ true → s ≡ t
 slot_same s t e =

@@ -1,5 +1,5 @@
 -- The one list that splitting leaves: which existentials hold fields, the numbers of these, and what is counted of lines.
-use Rattle.std.specs.Prelude.{◌≡◌, ◌≢◌, ◌↔◌, ℕ, ◌+◌, max, nat_lt, Bool, true, false, cond, Option, Some, None}
+use Rattle.std.specs.Prelude.{◌≡◌, ◌≢◌, ◌↔◌, ℕ, ◌+◌, nat_lt, Bool, true, false, cond, Option, Some, None}
 use Rattle.std.specs.Prelude.{List, [], ◌∷◌, fold, map, flat_map, length, take}
 use Rattle.std.specs.List.{position}
 use Rattle.indexmap.specs.IndexSet.{insert_key}
@@ -10,7 +10,7 @@ use Rattle.rt_lines.specs.declared.variable.Base.TheVariants.{Proc, Global, Exis
 use Rattle.rt_lines.specs.declared.variable.Dtv.{Dtv}
 use Rattle.rt_lines.specs.declared.line.Line.{Line}
 use Rattle.rt_lines.specs.declared.line.Line.TheVariants.{Var, Same, Sub, Low, Up}
-use Rattle.rt_lines.specs.Sides.{sides}
+use Rattle.rt_lines.specs.FirstFree.{first_free}
 use Rattle.rt_lines.specs.Words.{variance_of_word}
 use Rattle.rt_record.specs.declared.slots.Slot.{Slot}
 use Rattle.rt_record.specs.contracts.slots.SlotPartialEq.TheImpl as the_slot
@@ -47,17 +47,6 @@ side_slots holds x = base_slots holds x.base x.word
 abbrev pub slots : (ℕ → Bool) → List Line → List Slot
 slots holds lines = fold (insert_key slot_eq) [] (flat_map (side_slots holds) (flat_map flow_sides lines))
 
--- one above an existential, and 0 of another base
-abbrev pub above : Base → ℕ
-above (Proc n) = 0
-above (Global n) = 0
-above (Exist n) = n + 1
-above (Outer n) = 0
-
--- one above the greatest existential of lines, or 0
-abbrev pub first_free : List Line → ℕ
-first_free lines = fold max 0 (flat_map (λ line. map (λ x. above x.base) (sides line)) lines)
-
 -- the number, if an existential can have it
 abbrev pub fitting : ℕ → Option ℕ
 fitting m = cond (nat_lt m 4294967296) (Some m) None
@@ -82,18 +71,6 @@ HasNoneSplit lines = (holds : ℕ → Bool) × AreRecords lines holds × (moves 
 abbrev pub IsSplit : List Line → List Line → Type 0
 IsSplit lines left =
     (holds : ℕ → Bool) × AreRecords lines holds × (moves (numbers holds lines) lines ≢ []) × (left ≡ split (numbers holds lines) lines)
-
--- how many of the lines are `<=` lines or bounds
-abbrev pub line_flow_count : Line → ℕ
-line_flow_count (Var x) = 0
-line_flow_count (Same x y) = 0
-line_flow_count (Sub x y) = 1
-line_flow_count (Low k x) = 1
-line_flow_count (Up x k) = 1
-
-abbrev pub flow_count : List Line → ℕ
-flow_count [] = 0
-flow_count (l ∷ ls) = line_flow_count l + flow_count ls
 
 -- the letters of the sides of `<=` lines and bounds
 abbrev pub line_letters : Line → ℕ

@@ -1,7 +1,8 @@
 // Fields as existentials of their own.
 ghost use Rattle.std.specs.Prelude.{◌≡◌, ◌<◌, ◌++◌, map, flat_map, drop, take, IfOk, IfSome, MatchOption, OnOk};
+ghost use Rattle.rt_lines.specs.FlowCounts.{flow_count};
 ghost use Rattle.rt_record.specs.Records.{moved as is_moved, moved_line as line_moved, move as move_of, moves, flow_sides, shape_line};
-ghost use Rattle.rt_record.specs.Slots.{front as front_of, numbers_from, flow_count, letters, HasNoneSplit, IsSplit};
+ghost use Rattle.rt_record.specs.Slots.{front as front_of, numbers_from, letters, HasNoneSplit, IsSplit};
 
 use crate::records::spoiled;
 use crate::slots::{Fields, number_fields};

@@ -1,17 +1,17 @@
 // The fields of existentials that do nothing but hold them, and their numbers.
-ghost use Rattle.std.specs.Prelude.{◌≡◌, [], not, max, fold, map, flat_map, IfOk, OnOk};
+ghost use Rattle.std.specs.Prelude.{◌≡◌, [], not, fold, flat_map, IfOk, OnOk};
 ghost use Rattle.std.specs.BTreeSet.{contains};
 ghost use Rattle.std.specs.Ordering.{nat_cmp};
 ghost use Rattle.indexmap.specs.IndexSet.{insert_key};
-ghost use Rattle.rt_lines.specs.Sides.{sides};
+ghost use Rattle.rt_lines.specs.FirstFree.{first_free as first_number};
 ghost use Rattle.rt_record.specs.Records.{flow_sides};
-ghost use Rattle.rt_record.specs.Slots.{above as one_above, first_free as first_number, numbers_from, side_number as number_of_side};
+ghost use Rattle.rt_record.specs.Slots.{numbers_from, side_number as number_of_side};
 ghost use Rattle.rt_record.specs.Slots.{side_slots, slot_eq, slots as fields_of};
 
 use crate::records::Existentials;
 use indexmap::IndexSet;
 use rt_base::Memory;
-use rt_lines::{Base, Dtv, Label, Line};
+use rt_lines::{Base, Dtv, Label, Line, first_free};
 use std::alloc::Global;
 
 // A field of an existential.
@@ -91,38 +91,6 @@ fn note(spoiled: &Existentials, x: &Dtv, found: &mut IndexSet<Slot>) -> Result<(
         })?;
     }
     Ok(())
-}
-
-// One above the greatest existential that the lines name, or 0.
-fn first_free(lines: &[Line]) -> u64
-    ensures { result ≡ first_number lines.now }
-{
-    let mut first: u64 = 0;
-    for line in lines {
-        first = max_above(first, line);
-    }
-    first
-}
-
-// The greater of the number and one above the greatest existential of the line.
-fn max_above(first: u64, line: &Line) -> u64
-    ensures { result ≡ fold max first (map (λ x. one_above x.base) (sides line.now)) }
-{
-    let mut max = first;
-    for x in line.sides() {
-        max = max.max(above(x.base));
-    }
-    max
-}
-
-// One above an existential, 0 of another base.
-fn above(base: Base) -> u64
-    ensures { result ≡ one_above base }
-{
-    match base {
-        Base::Exist(number) => u64::from(number) + 1,
-        Base::Proc(_) | Base::Global(_) | Base::Outer(_) => 0,
-    }
 }
 
 impl Fields {

@@ -7,7 +7,7 @@ use Rattle.rt_lines.specs.Orders.{Below}
 use Rattle.rt_polar.specs.Tidied.{tidied}
 use Rattle.rt_reduction.specs.Emits.{AreOfScheme}
 use Rattle.rt_reduction.specs.Rounds.{IsRound, IsDone, IsUnfinished, of_candidate, of_twins, of_unused, of_unjoined}
-use Rattle.rt_reduction.specs.Rounds.{Reduces, done, again, IsReducedForm}
+use Rattle.rt_reduction.specs.Rounds.{Reduces, done, again}
 use Rattle.rt_reduction.proofs.Losing.{round_loses_lem, round_names_lem}
 use Rattle.rt_reduction.proofs.NamesFrom.{named_from, names_tidied}
 use Rattle.rt_simplify.proofs.Staying.{round_tidied_lem}
@@ -23,7 +23,7 @@ unfinished_undone lines (of_twins Contra class n is apart) d = apart (d.no_twins
 unfinished_undone lines (of_unused n names unused) d = let (l, c, u) = d.used n names in unused l c u
 unfinished_undone lines (of_unjoined n names unjoined) d = unjoined (d.joined n names)
 
--- what a round left may be the reduced form, or is reduced further
+-- what a round left may be what rounds leave, or is reduced further
 abbrev pub Ends : Below → List Line → List Line → Type 0
 Ends order now form = (IsDone now × (form ≡ now)) ⊎ ((IsDone now → ⊥) × Reduces order form now)
 
@@ -37,7 +37,7 @@ module _ (order : Below) where
     pub before : List Line
     pub round : IsRound order before now
     pub numbers : AreOfNumbers lines now
-    pub ends : (form : List Line) → Ends order now form → IsReducedForm order lines form
+    pub ends : (form : List Line) → Ends order now form → Reduces order form (tidied lines)
 
   pub first_round : (lines now : List Line) → IsRound order (tidied lines) now → IsBetween lines now
   first_round lines now r = record {
@@ -66,7 +66,8 @@ module _ (order : Below) where
         let (n, names, gone) = round_loses_lem order now after scheme same left in
         named_falls lines now after (λ m h. round_names_lem order now after same (Exist m) h) n (between.numbers n names) names gone
 
-  pub last_round : (lines now : List Line) → IsBetween lines now → IsSimplified now × AreUsed now → IsReducedForm order lines now
+  pub last_round : (lines now : List Line) → IsBetween lines now → IsSimplified now × AreUsed now →
+      Reduces order now (tidied lines)
   last_round lines now between (simple, used) = between.ends now (inl (whole, refl))
     where
       whole : IsDone now

@@ -1,8 +1,9 @@
 -- What a round keeps: sides of schemes, and constants below a count.
-use Rattle.std.proofs.Common.{◌≡◌, ℕ, ◌⊎◌, inl, inr, List, ◌∷◌, ◌++◌, All, Contains, map, Bool, true, false, cond, ◌||◌}
+use Rattle.std.proofs.Common.{◌≡◌, ℕ, ◌⊎◌, inl, inr, List, ◌∷◌, ◌++◌, All, Contains, map, Bool, true, false, cond, ◌||◌, Option}
 use Rattle.std.proofs.Common.{sym, subst}
 use Rattle.std.proofs.lemmas.List.Elements.{All-contains, Contains-append_cases}
 use Rattle.rt_base.proofs.Lists.{All-from_contains, Contains-map_source, Contains-wider, Contains-middle_cases}
+use Rattle.rt_lines.specs.declared.label.Label.{Label}
 use Rattle.rt_lines.specs.declared.variable.Base.TheVariants.{Exist}
 use Rattle.rt_lines.specs.declared.variable.Dtv.{Dtv}
 use Rattle.rt_lines.specs.declared.line.Line.{Line}
@@ -15,6 +16,8 @@ use Rattle.rt_rules.specs.Alike.{map_line}
 use Rattle.rt_rules.specs.Laws.{NamesBase}
 use Rattle.rt_rules.specs.Put.{put_lines, use_of}
 use Rattle.rt_refine.specs.Refinements.{move, refined}
+use Rattle.rt_record.specs.Records.{moved_line, moves, shape_line, split}
+use Rattle.rt_record.specs.Slots.{numbers}
 use Rattle.rt_trim.specs.Idle.{is_idle, trimmed, trimmed_line}
 use Rattle.rt_polar.specs.Puts.{Exchanges, Puts}
 use Rattle.rt_polar.specs.Puts.Exchanges.{goes, exists_still}
@@ -22,12 +25,13 @@ use Rattle.rt_polar.specs.Puts.Puts.{none_left, puts}
 use Rattle.rt_polar.specs.Tidied.{tidied}
 use Rattle.rt_reduction.specs.Emits.{flow_lines, first_side, AreOfScheme, IsAnchored, IsEmitted, IsShapeLine}
 use Rattle.rt_reduction.specs.Simplifies.{Simplifies, simple, twins_go}
-use Rattle.rt_reduction.specs.Rounds.{Prepares, prepared, Refines, trims}
+use Rattle.rt_reduction.specs.Rounds.{Prepares, prepared, Refines, trims, Splits, whole, splits}
 use Rattle.rt_reduction.proofs.Anchoring.{keep_source}
 use Rattle.rt_reduction.proofs.Flow.{flow_source}
 use Rattle.rt_reduction.proofs.FromSides.{from_chain, from_put, from_scheme, from_self, from_tidied}
 use Rattle.rt_reduction.proofs.Prepared.{from_prepares}
 use Rattle.rt_reduction.proofs.Simplifying.{twinned_lines}
+use Rattle.rt_reduction.proofs.Split.{from_splits}
 use Rattle.rt_reduce.specs.Merging.{IsSide}
 use Rattle.rt_reduce.proofs.Falling.{put-below, tidied-below}
 
@@ -44,6 +48,10 @@ prepared_scheme lines start left e p h =
     from_scheme lines left
     (from_chain lines (tidied lines) left (from_tidied lines)
     (from_prepares left (tidied lines) (subst (Prepares left) e p))) h
+
+-- what is left when fields became existentials
+pub split_scheme : (left start : List Line) → Splits left start → AreOfScheme start → AreOfScheme left
+split_scheme left start s h = from_scheme start left (from_splits left start s) h
 
 pub fewer_scheme : (lines after : List Line) → ((l : Line) → Contains after l → Contains lines l) → AreOfScheme lines → AreOfScheme after
 fewer_scheme lines after stood h = λ l x c side. h l x (stood l c) side
@@ -137,6 +145,37 @@ module _ (count : ℕ) where
   pub prepared_below : (lines start left : List Line) → start ≡ tidied lines → Prepares left start → Are lines → Are left
   prepared_below lines start left e p h =
       all_prepared_below left (tidied lines) (subst (Prepares left) e p) (tidied-below count lines h)
+
+  moved_below : (parts : ℕ → Label → Option ℕ) (l : Line) → HasConstantsBelow count l → HasConstantsBelow count (moved_line parts l)
+  moved_below parts (Var x) h = h
+  moved_below parts (Same x y) h = h
+  moved_below parts (Sub x y) h = h
+  moved_below parts (Low k x) h = h
+  moved_below parts (Up x k) h = h
+
+  all_parted_below : (parts : ℕ → Label → Option ℕ) (lines : List Line) → Are lines → Are (split parts lines)
+  all_parted_below parts lines h =
+      All-from_contains (HasConstantsBelow count) (split parts lines)
+      (λ l c. by l (Contains-append_cases (map (moved_line parts) lines) (map shape_line (moves parts lines)) l c))
+    where
+      of_moved : (l : Line) → (k : Line) × Contains lines k × (moved_line parts k ≡ l) → HasConstantsBelow count l
+      of_moved l (k, c, e) =
+          subst (HasConstantsBelow count) e (moved_below parts k (All-contains (HasConstantsBelow count) lines k h c))
+
+      of_shape : (l : Line) → (m : ℕ × Dtv) × Contains (moves parts lines) m × (shape_line m ≡ l) → HasConstantsBelow count l
+      of_shape l (m, c, e) = subst (HasConstantsBelow count) e tt
+
+      by : (l : Line) → Contains (map (moved_line parts) lines) l ⊎ Contains (map shape_line (moves parts lines)) l →
+          HasConstantsBelow count l
+      by l (inl c) = of_moved l (Contains-map_source (moved_line parts) lines l c)
+      by l (inr c) = of_shape l (Contains-map_source shape_line (moves parts lines) l c)
+
+  pub split_below : (left start : List Line) → Splits left start → Are start → Are left
+  split_below left start (whole none) h = h
+  split_below left start (splits _ parted ready (holds, are, some, e) p rest) h =
+      split_below left ready rest
+      (all_prepared_below ready (tidied parted) p
+      (tidied-below count parted (subst Are (sym e) (all_parted_below (numbers holds start) start h))))
 
   shape_below : (x y : Dtv) (t : Bool) → HasConstantsBelow count (cond t (Var x) (Same x y))
   shape_below x y true = tt

@@ -1,7 +1,8 @@
 -- Constants of the lines that each step leaves stand in the lines before it.
-use Rattle.std.proofs.Common.{◌≡◌, ℕ, ◌⊎◌, inl, inr, List, ◌∷◌, ◌++◌, map, Contains, Bool, true, false, cond, ◌||◌, sym, subst}
+use Rattle.std.proofs.Common.{◌≡◌, ℕ, ◌⊎◌, inl, inr, List, ◌∷◌, ◌++◌, map, Contains, Bool, true, false, cond, ◌||◌, Option, sym, subst}
 use Rattle.std.proofs.lemmas.List.Elements.{Contains-append_cases}
 use Rattle.rt_base.proofs.Lists.{Contains-map_source, Contains-wider, Contains-middle_cases}
+use Rattle.rt_lines.specs.declared.label.Label.{Label}
 use Rattle.rt_lines.specs.declared.variable.Dtv.{Dtv}
 use Rattle.rt_lines.specs.declared.line.Line.{Line}
 use Rattle.rt_lines.specs.declared.line.Line.TheVariants.{Var, Same, Sub, Low, Up}
@@ -21,7 +22,9 @@ use Rattle.rt_reduction.specs.Merges.{Merges}
 use Rattle.rt_reduction.specs.Merges.Merges.{none_left as no_merge, merges}
 use Rattle.rt_reduction.specs.Emits.{flow_lines, first_side, IsShapeLine, IsAnchored, IsEmitted}
 use Rattle.rt_trim.specs.Idle.{is_idle, trimmed, trimmed_line}
-use Rattle.rt_reduction.specs.Rounds.{Refines, Prepares, prepared, trims, IsRound, Reduces, done, again}
+use Rattle.rt_record.specs.Records.{moved_line, moves, shape_line, split}
+use Rattle.rt_record.specs.Slots.{IsSplit, numbers}
+use Rattle.rt_reduction.specs.Rounds.{Refines, Prepares, prepared, trims, Splits, whole, splits, IsRound, Reduces, done, again}
 use Rattle.rt_reduction.specs.Laws.{FormConstantsLaw}
 use Rattle.rt_reduction.proofs.Simplifying.{twinned_lines}
 use Rattle.rt_reduction.proofs.Flow.{flow_source}
@@ -149,6 +152,32 @@ module _ (k : ℕ) where
       (changed (trimmed_line idle) (no_trimmed idle) now
       (of_tidied (trimmed idle now) (of_prepared left (tidied (trimmed idle now)) rest names))))
 
+  moved_constant : (parts : ℕ → Label → Option ℕ) (l : Line) → HasConstant k (moved_line parts l) → HasConstant k l
+  moved_constant parts (Var x) h = h
+  moved_constant parts (Same x y) h = h
+  moved_constant parts (Sub x y) h = h
+  moved_constant parts (Low n x) h = h
+  moved_constant parts (Up x n) h = h
+
+  of_split : (parts : ℕ → Label → Option ℕ) (lines : List Line) → Stand lines (split parts lines)
+  of_split parts lines (l, c, h) = by (Contains-append_cases (map (moved_line parts) lines) (map shape_line (moves parts lines)) l c)
+    where
+      by : Contains (map (moved_line parts) lines) l ⊎ Contains (map shape_line (moves parts lines)) l → NamesConstant lines k
+      by (inl d) = changed (moved_line parts) (moved_constant parts) lines (l, d, h)
+      by (inr d) =
+          let s : (p : ℕ × Dtv) × Contains (moves parts lines) p × (shape_line p ≡ l) =
+          Contains-map_source shape_line (moves parts lines) l d in
+          absurd (subst (HasConstant k) (sym s.2) h)
+
+  of_parted : (lines parted : List Line) → IsSplit lines parted → Stand lines parted
+  of_parted lines parted (holds, are, some, e) names =
+      of_split (numbers holds lines) lines (subst (λ ls. NamesConstant ls k) e names)
+
+  of_splits : (left start : List Line) → Splits left start → Stand start left
+  of_splits left start (whole none) names = names
+  of_splits left start (splits _ parted ready s p rest) names =
+      of_parted start parted s (of_tidied parted (of_prepared ready (tidied parted) p (of_splits left ready rest names)))
+
   of_round : (order : Below) (lines after : List Line) → IsRound order lines after → Stand lines after
   of_round order lines after r names =
       of_prepared r.simple lines r.is_simple (of_emitted order r.simple r.emitted r.is_emitted
@@ -160,4 +189,6 @@ module _ (k : ℕ) where
       of_round order start between r (of_reduced order reduced between rest names)
 
 pub form_constants_lem : FormConstantsLaw
-form_constants_lem order lines form r k names = of_tidied k lines (of_reduced k order form (tidied lines) r names)
+form_constants_lem order lines form r k names =
+    of_tidied k lines (of_prepared k r.ready (tidied lines) r.is_ready
+    (of_splits k r.start r.ready r.is_start (of_tidied k r.start (of_reduced k order form (tidied r.start) r.is_form names))))

@@ -14,6 +14,7 @@ pub mod Emitting
 pub mod NamesFrom
 pub mod Refined
 pub mod Prepared
+pub mod Split
 pub mod Tidying
 pub mod Rounds
 pub mod FromConstants

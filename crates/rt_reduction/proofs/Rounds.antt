@@ -19,12 +19,13 @@ use Rattle.rt_polar.proofs.OneAnswer.{none_left_lem}
 use Rattle.rt_reduction.specs.Emits.{AreOfScheme, IsFixed, IsEmitted}
 use Rattle.rt_reduction.specs.Merges.{Merges}
 use Rattle.rt_reduction.specs.Drops.{Drops}
-use Rattle.rt_reduction.specs.Rounds.{IsRound, IsDone, Reduces, done, again, IsReducedForm}
+use Rattle.rt_reduction.specs.Rounds.{Splits, IsRound, IsDone, Reduces, done, again, IsReducedForm}
 use Rattle.rt_reduction.specs.Laws.{OneFormLaw, FormAlikeLaw, FormSidesLaw, FormReducedLaw}
 use Rattle.rt_reduction.proofs.Dropping.{one_drop_lem, kept_lem, drops_alike_lem, none_to_spare_lem}
 use Rattle.rt_reduction.proofs.Merging.{merges_alike_lem, one_merge_lem, no_equal_lem, merges_no_self_lem}
 use Rattle.rt_reduction.proofs.Emitting.{emits_alike_lem, one_emit_lem, emits_no_self_lem, from_emitted}
 use Rattle.rt_reduction.proofs.Prepared.{one_prepares, prepares_alike, from_prepares}
+use Rattle.rt_reduction.proofs.Split.{one_splits, splits_alike, from_splits}
 use Rattle.rt_reduction.proofs.FromSides.{AreFrom, from_chain, from_scheme, from_procedure, from_fewer, from_tidied, from_merges}
 
 -- a round leaves one list
@@ -61,7 +62,10 @@ one_reduced order reduced other start (again _ between r n rest) b = by (steps b
         rest')
 
 pub one_form_lem : OneFormLaw
-one_form_lem order lines first second a b = one_reduced order first second (tidied lines) a b
+one_form_lem order lines first second a b =
+    let ready : b.ready ≡ a.ready = one_prepares b.ready a.ready (tidied lines) b.is_ready a.is_ready in
+    let start : b.start ≡ a.start = one_splits b.start a.start a.ready (subst (Splits b.start) ready b.is_start) a.is_start in
+    one_reduced order first second (tidied a.start) a.is_form (subst (λ ls. Reduces order second (tidied ls)) start b.is_form)
 
 -- sides come from sides
 from_dropped : (order : Below) (lines kept : List Line) → Drops order [] lines kept → AreFrom lines kept
@@ -79,8 +83,17 @@ from_reduced order reduced start (done _ r d) = from_round order start reduced r
 from_reduced order reduced start (again _ between r n rest) =
     from_chain start between reduced (from_round order start between r) (from_reduced order reduced between rest)
 
-from_form : (order : Below) (lines form : List Line) → IsReducedForm order lines form → AreFrom lines form
-from_form order lines form r = from_chain lines (tidied lines) form (from_tidied lines) (from_reduced order form (tidied lines) r)
+-- what the rounds begin with
+from_start : (order : Below) (lines form : List Line) (r : IsReducedForm order lines form) → AreFrom lines (tidied r.start)
+from_start order lines form r =
+    from_chain lines (tidied lines) (tidied r.start) (from_tidied lines)
+    (from_chain (tidied lines) r.ready (tidied r.start) (from_prepares r.ready (tidied lines) r.is_ready)
+    (from_chain r.ready r.start (tidied r.start) (from_splits r.start r.ready r.is_start) (from_tidied r.start)))
+
+-- sides of the reduced form come from sides
+pub from_form : (order : Below) (lines form : List Line) → IsReducedForm order lines form → AreFrom lines form
+from_form order lines form r =
+    from_chain lines (tidied r.start) form (from_start order lines form r) (from_reduced order form (tidied r.start) r.is_form)
 
 pub form_sides_lem : FormSidesLaw
 form_sides_lem order lines form scheme r =
@@ -106,7 +119,11 @@ module _ (order : Below) (inside : Base → Bool) (inner : (n : ℕ) → inside 
 pub form_alike_lem : FormAlikeLaw
 form_alike_lem order inside lines form inner scheme r =
     Alike-trans order inside lines (tidied lines) form (Alike-tidied order inside lines)
-    (reduced_alike order inside inner form (tidied lines) (from_scheme lines (tidied lines) (from_tidied lines) scheme) r)
+    (Alike-trans order inside (tidied lines) r.ready form (prepares_alike order inside r.ready (tidied lines) inner r.is_ready)
+    (Alike-trans order inside r.ready r.start form (splits_alike order inside r.start r.ready inner r.is_start)
+    (Alike-trans order inside r.start (tidied r.start) form (Alike-tidied order inside r.start)
+    (reduced_alike order inside inner form (tidied r.start)
+    (from_scheme lines (tidied r.start) (from_start order lines form r) scheme) r.is_form))))
 
 -- the last round, after which nothing is left to do
 record IsLast (order : Below) (form : List Line) : Type 0 where
@@ -174,4 +191,4 @@ module _ (order : Below) (own : ℕ) (form : List Line) (owned : (n : ℕ) → N
   }
 
 pub form_reduced_lem : FormReducedLaw
-form_reduced_lem order own lines form owned r = nothing_to_spare order own form owned (last_round order form (tidied lines) r)
+form_reduced_lem order own lines form owned r = nothing_to_spare order own form owned (last_round order form (tidied r.start) r.is_form)

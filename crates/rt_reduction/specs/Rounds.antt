@@ -9,6 +9,7 @@ use Rattle.rt_rules.specs.Laws.{NamesBase}
 use Rattle.rt_rules.specs.Put.{HasUse}
 use Rattle.rt_refine.specs.Refinements.{IsCoarsest, refined}
 use Rattle.rt_trim.specs.Idle.{AreIdle, trimmed}
+use Rattle.rt_record.specs.Slots.{HasNoneSplit, IsSplit}
 use Rattle.rt_twins.specs.Twinnings.{IsTwinning}
 use Rattle.rt_polar.specs.Polar.{HasCandidate}
 use Rattle.rt_polar.specs.Tidied.{tidied}
@@ -29,6 +30,12 @@ pub data Prepares (left : List Line) : List Line → Type 0 where
       trimmed idle left ≡ left → Prepares left lines
   trims : (lines between simple : List Line) (idle : ℕ → Bool) → Refines lines between → Simplifies simple between →
       AreIdle simple idle → trimmed idle simple ≢ simple → Prepares left (tidied (trimmed idle simple)) → Prepares left lines
+
+-- Fields of existentials that do nothing but hold fields become existentials of their own, and what that leaves is tidied and prepared,
+-- until no field does.
+pub data Splits (left : List Line) : List Line → Type 0 where
+  whole : HasNoneSplit left → Splits left left
+  splits : (lines parted ready : List Line) → IsSplit lines parted → Prepares ready (tidied parted) → Splits left ready → Splits left lines
 
 -- one round over tidied lines: they are prepared, the shape is written anew, equals become one, and what the other lines derive is dropped
 pub record IsRound (order : Below) (lines after : List Line) : Type 0 where
@@ -63,6 +70,11 @@ pub data Reduces (order : Below) (reduced : List Line) : List Line → Type 0 wh
   again : (lines between : List Line) → IsRound order lines between → (IsDone between → ⊥) → Reduces order reduced between →
       Reduces order reduced lines
 
--- The reduced form of lines, as they are left by the rounds: existentials have the numbers that they had, and lines the places.
-abbrev pub IsReducedForm : Below → List Line → List Line → Type 0
-IsReducedForm order lines form = Reduces order form (tidied lines)
+-- The reduced form of lines: they are tidied and prepared, fields become existentials of their own, and rounds follow. Existentials have
+-- the numbers that they have then, and lines the places.
+pub record IsReducedForm (order : Below) (lines form : List Line) : Type 0 where
+  pub ready : List Line
+  pub start : List Line
+  pub is_ready : Prepares ready (tidied lines)
+  pub is_start : Splits start ready
+  pub is_form : Reduces order form (tidied start)

@@ -10,3 +10,4 @@ pub mod WithoutSame
 pub mod LineSides
 pub mod Deduplicating
 pub mod Numbers
+pub mod FirstFree

@@ -1,5 +1,5 @@
 // Edges that are pushed from ways along others, found by tables of bytes. Nothing says that these are all, so searches go on
-// from them; but where counts are small they are.
+// from them.
 ghost use Rattle.std.specs.Prelude.{◌≡◌, ◌*◌, ◌<◌, ◌≤◌, ℕ, [], List, Bool, IfOk, OnOk};
 ghost use Rattle.std.specs.Prelude.{length, slice_index_or};
 ghost use Rattle.rt_lines.specs.declared.variable.Dtv.{Dtv as Variable};

@@ -4,6 +4,5 @@ pub mod SplitParts
 pub mod SplittingForth
 pub mod SplittingBack
 pub mod SplittingKeeps
-pub mod FirstFree
 pub mod PortLabels
 pub mod Clear

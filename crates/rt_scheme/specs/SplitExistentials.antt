@@ -1,11 +1,9 @@
 -- Which existential is for which argument or result of other procedures.
-use Rattle.std.specs.Prelude.{ℕ, ◌+◌, max, nat_eq, Bool, not, List, [], fold, map, flat_map}
+use Rattle.std.specs.Prelude.{ℕ, ◌+◌, nat_eq, Bool, not, List, [], fold, map}
 use Rattle.std.specs.List.{position_or_len}
 use Rattle.indexmap.specs.IndexSet.{insert_key}
-use Rattle.rt_lines.specs.declared.variable.Base.{Base}
-use Rattle.rt_lines.specs.declared.variable.Base.TheVariants.{Proc, Global, Exist, Outer}
 use Rattle.rt_lines.specs.declared.line.Line.{Line}
-use Rattle.rt_lines.specs.Sides.{sides}
+use Rattle.rt_lines.specs.FirstFree.{first_free}
 use Rattle.rt_scheme.specs.declared.interface.Interface.{Interface}
 use Rattle.rt_scheme.specs.contracts.interface.InterfacePartialEq.TheImpl as the_interface
 use Rattle.rt_scheme.specs.Splitting.{interfaces, split_line}
@@ -25,17 +23,6 @@ other_interfaces own lines = fold (insert_key interface_eq) [] (interfaces (is_o
 -- their existentials are numbered in order from the first number on
 abbrev pub existential_for : ℕ → List Interface → Interface → ℕ
 existential_for first order a = first + position_or_len (interface_eq a) order
-
--- one above an existential, and 0 of another base
-abbrev pub above : Base → ℕ
-above (Proc n) = 0
-above (Global n) = 0
-above (Exist n) = n + 1
-above (Outer n) = 0
-
--- one above the greatest existential of lines, or 0
-abbrev pub first_free : List Line → ℕ
-first_free lines = fold max 0 (flat_map (λ line. map (λ x. above x.base) (sides line)) lines)
 
 -- the lines with an existential for each argument and result of another procedure, numbered in the order in which they are
 -- first named, from the first number on that no line names

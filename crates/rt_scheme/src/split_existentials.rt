@@ -1,15 +1,15 @@
 // Which existential is for which argument or result.
-ghost use Rattle.std.specs.Prelude.{◌≡◌, IfOk, OnOk, fold, map, max, option_to_list};
+ghost use Rattle.std.specs.Prelude.{◌≡◌, IfOk, OnOk, fold, option_to_list};
 ghost use Rattle.indexmap.specs.IndexSet.{insert_key};
-ghost use Rattle.rt_lines.specs.Sides.{sides};
-ghost use Rattle.rt_scheme.specs.SplitExistentials.{above, existential_for, first_free, interface_eq, is_other, other_interfaces};
+ghost use Rattle.rt_lines.specs.FirstFree.{first_free};
+ghost use Rattle.rt_scheme.specs.SplitExistentials.{existential_for, interface_eq, is_other, other_interfaces};
 ghost use Rattle.rt_scheme.specs.Splitting.{interface_of, interfaces_of, split_line, split_variable};
 
 use crate::existential::existential;
 use crate::interface::Interface;
 use indexmap::IndexSet;
 use rt_base::Memory;
-use rt_lines::{Base, Dtv, Line};
+use rt_lines::{Base, Dtv, Line, first_free};
 use std::alloc::{AllocError, Global};
 
 // The existentials of the arguments and results of other procedures, numbered in order from the first number on.
@@ -127,37 +127,5 @@ fn interface_of(own: u32, x: &Dtv) -> Option<Interface>
             _ => None,
         },
         Base::Global(_) | Base::Exist(_) | Base::Outer(_) => None,
-    }
-}
-
-// One above the greatest existential that the lines name, or 0.
-fn first_free(lines: &[Line]) -> u64
-    ensures { result ≡ first_free lines.now }
-{
-    let mut first: u64 = 0;
-    for line in lines {
-        first = max_above(first, line);
-    }
-    first
-}
-
-// The greater of the number and one above the greatest existential of the line.
-fn max_above(first: u64, line: &Line) -> u64
-    ensures { result ≡ fold max first (map (λ x. above x.base) (sides line.now)) }
-{
-    let mut max = first;
-    for x in line.sides() {
-        max = max.max(above(x.base));
-    }
-    max
-}
-
-// One above an existential, 0 of another base.
-fn above(base: Base) -> u64
-    ensures { result ≡ above base }
-{
-    match base {
-        Base::Exist(number) => u64::from(number) + 1,
-        Base::Proc(_) | Base::Global(_) | Base::Outer(_) => 0,
     }
 }

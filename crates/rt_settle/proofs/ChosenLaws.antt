@@ -7,9 +7,10 @@ use Rattle.rt_rules.specs.Alike.{Alike, is_inside_for}
 use Rattle.rt_rules.specs.Reduced.{IsReduced}
 use Rattle.rt_rules.proofs.Covering.{Alike-refl, Alike-trans}
 use Rattle.rt_scheme.specs.Schemes.{AreSchemeLines}
-use Rattle.rt_scheme.specs.SplitExistentials.{existential_for, first_free, other_interfaces, split_for}
+use Rattle.rt_lines.specs.FirstFree.{first_free}
+use Rattle.rt_scheme.specs.SplitExistentials.{existential_for, other_interfaces, split_for}
 use Rattle.rt_scheme.specs.Splitting.{AreInterfaceLines}
-use Rattle.rt_scheme.proofs.FirstFree.{first_free-above}
+use Rattle.rt_rules.proofs.FirstFree.{first_free-above}
 use Rattle.rt_scheme.proofs.SplittingKeeps.{split-alike, split-scheme}
 use Rattle.rt_settle.specs.Chosen.{ChosenAlike, ChosenReduced, ChosenScheme, IsChosenFrom}
 use Rattle.rt_settle.specs.Chosen.IsChosenFrom.{as_they_stand, split}

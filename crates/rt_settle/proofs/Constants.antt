@@ -10,7 +10,8 @@ use Rattle.rt_lines.specs.Numbering.{existentials, numbered, placed}
 use Rattle.rt_lines.specs.Orders.{Below}
 use Rattle.rt_rules.specs.Alike.{map_line}
 use Rattle.rt_rules.specs.Laws.{renamed}
-use Rattle.rt_scheme.specs.SplitExistentials.{first_free, is_other, other_interfaces, existential_for, split_for}
+use Rattle.rt_lines.specs.FirstFree.{first_free}
+use Rattle.rt_scheme.specs.SplitExistentials.{is_other, other_interfaces, existential_for, split_for}
 use Rattle.rt_scheme.specs.Splitting.{split_variable}
 use Rattle.rt_reduction.specs.Constants.{HasConstant, NamesConstant}
 use Rattle.rt_reduction.proofs.FromConstants.{form_constants_lem}

@@ -28,12 +28,11 @@ use Rattle.rt_rules.proofs.Numbers.{numbered-bases, numbering_lem}
 use Rattle.rt_scheme.specs.Schemes.{is_interface, is_scheme_side, is_scheme_variable, is_scheme_line, AreSchemeLines}
 use Rattle.rt_scheme.specs.Splitting.{is_interface_side, is_interface_variable, is_interface_line, AreInterfaceLines}
 use Rattle.rt_reduction.specs.Emits.{AreOfScheme, IsOfScheme}
-use Rattle.rt_reduction.specs.Rounds.{IsReducedForm, Reduces, done, again}
-use Rattle.rt_reduction.proofs.NamesFrom.{NamesFrom, named_from, names_chain, names_tidied}
-use Rattle.rt_reduction.proofs.Prepared.{names_round}
+use Rattle.rt_reduction.specs.Rounds.{IsReducedForm}
+use Rattle.rt_reduction.proofs.FromSides.{IsFrom}
 use Rattle.rt_reduction.proofs.Renumbering.{numbered_reduced_lem}
 use Rattle.rt_reduction.proofs.Reordering.{reordered_reduced_lem}
-use Rattle.rt_reduction.proofs.Rounds.{form_alike_lem, form_reduced_lem, form_sides_lem}
+use Rattle.rt_reduction.proofs.Rounds.{form_alike_lem, form_reduced_lem, form_sides_lem, from_form}
 use Rattle.rt_settle.specs.Chosen.{AreInOrder, IsSettled}
 use Rattle.rt_settle.proofs.FirstLetters.{IsFitting, derived_fits}
 use Rattle.rt_settle.proofs.InOrder.{once_by_cuts, sorted_has, sorted_once, sorted_source}
@@ -107,14 +106,14 @@ interfaces_of_scheme lines all l x c h = at x.base x.word (side_of_interface lin
 
 -- The reduced form.
 
-names_reduced : (order : Below) (reduced start : List Line) → Reduces order reduced start → NamesFrom start reduced
-names_reduced order reduced start (done _ r d) = names_round order start reduced r
-names_reduced order reduced start (again _ between r n rest) =
-    names_chain start between reduced (names_round order start between r) (names_reduced order reduced between rest)
-
-form_names : (order : Below) (lines form : List Line) → IsReducedForm order lines form → (b : Base) → NamesBase form b → NamesBase lines b
-form_names order lines form is =
-    named_from lines form (names_chain lines _ form (names_tidied lines) (names_reduced order form _ is))
+-- each base that the form names is one that the lines name, or an existential
+form_names : (order : Below) (lines form : List Line) → IsReducedForm order lines form → (b : Base) → NamesBase form b →
+    NamesBase lines b ⊎ ((n : ℕ) × (b ≡ Exist n))
+form_names order lines form is b (l, x, c, h, e) = by (from_form order lines form is x (l, c, h))
+  where
+    by : IsFrom lines x → NamesBase lines b ⊎ ((n : ℕ) × (b ≡ Exist n))
+    by (inl (n, f)) = inr (n, sym e ∙ f)
+    by (inr (y, (k, d, g), f, m)) = inl (k, y, d, g, sym f ∙ e)
 
 -- numbers of existentials alone change
 abbrev renumbering : List Line → Dtv → Dtv
@@ -164,7 +163,7 @@ module _ (order : Below) (lines settled : List Line) (is : IsSettled order lines
   settled_names b (l, x, c, h, e) = by (numbered-bases is.reduced b (l, x, source l c, h, e))
     where
       by : NamesBase is.reduced b ⊎ ((n : ℕ) × (b ≡ Exist n)) → NamesBase lines b ⊎ ((n : ℕ) × (b ≡ Exist n))
-      by (inl names) = inl (form_names order lines is.reduced is.is_reduced b names)
+      by (inl names) = form_names order lines is.reduced is.is_reduced b names
       by (inr exists) = inr exists
 
   pub settled_globals : (n : ℕ) → NamesBase settled (Global n) → NamesBase lines (Global n)

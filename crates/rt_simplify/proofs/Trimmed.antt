@@ -2,7 +2,8 @@
 use Rattle.std.proofs.Common.{◌≡◌, ◌<◌, List, Option, Some, None, MatchOption, subst}
 use Rattle.std.specs.Option.{IfSome}
 use Rattle.rt_lines.specs.declared.line.Line.{Line}
-use Rattle.rt_trim.specs.Trimming.{flow_count, HasNoneIdle, IsTrimmed}
+use Rattle.rt_lines.specs.FlowCounts.{flow_count}
+use Rattle.rt_trim.specs.Trimming.{HasNoneIdle, IsTrimmed}
 
 pub none_idle : (found : Option (List Line)) (lines : List Line) → found ≡ None →
     MatchOption found (HasNoneIdle lines) (IsTrimmed lines) → HasNoneIdle lines

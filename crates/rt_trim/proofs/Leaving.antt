@@ -5,7 +5,8 @@ use Rattle.rt_base.proofs.Lists.{Contains-here, take-next}
 use Rattle.rt_lines.specs.declared.line.Line.{Line}
 use Rattle.rt_lines.specs.declared.line.Line.TheVariants.{Var, Same, Sub, Low, Up}
 use Rattle.rt_trim.specs.Idle.{is_idle, trimmed_line, trimmed}
-use Rattle.rt_trim.specs.Trimming.{line_flow_count, flow_count, AreNoted, AreOfLines}
+use Rattle.rt_lines.specs.FlowCounts.{line_flow_count, flow_count}
+use Rattle.rt_trim.specs.Trimming.{AreNoted, AreOfLines}
 
 module _ (idle : ℕ → Bool) where
   -- a line that changes is no `<=` line or bound any more

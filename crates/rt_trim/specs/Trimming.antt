@@ -1,6 +1,6 @@
 -- What trims lines: which lines use which variables, which existentials are not idle, and what is left.
-use Rattle.std.specs.Prelude.{◌≡◌, ◌≢◌, ◌↔◌, ℕ, ◌+◌, ◌<◌, ◌⊎◌, Bool, true, Some}
-use Rattle.std.specs.Prelude.{List, [], ◌∷◌, Contains, length, map, take, slice_get}
+use Rattle.std.specs.Prelude.{◌≡◌, ◌≢◌, ◌↔◌, ℕ, ◌<◌, ◌⊎◌, Bool, true, Some}
+use Rattle.std.specs.Prelude.{List, Contains, length, map, take, slice_get}
 use Rattle.std.specs.Map.{lookup}
 use Rattle.rt_lines.specs.declared.variable.Base.TheVariants.{Exist}
 use Rattle.rt_lines.specs.declared.variable.Dtv.{Dtv}
@@ -79,18 +79,6 @@ pub record AreNoted (P : ℕ → Type 0) (old new : ℕ → Bool) : Type 0 where
 -- the set holds the numbers for which one of the lines is such
 abbrev pub AreOfLines : (ℕ → Line → Type 0) → List Line → (ℕ → Bool) → Type 0
 AreOfLines P lines has = (n : ℕ) → (has n ≡ true) ↔ ((l : Line) × Contains lines l × P n l)
-
--- how many of the lines are `<=` lines or bounds
-abbrev pub line_flow_count : Line → ℕ
-line_flow_count (Var x) = 0
-line_flow_count (Same x y) = 0
-line_flow_count (Sub x y) = 1
-line_flow_count (Low k x) = 1
-line_flow_count (Up x k) = 1
-
-abbrev pub flow_count : List Line → ℕ
-flow_count [] = 0
-flow_count (l ∷ ls) = line_flow_count l + flow_count ls
 
 -- no `<=` line or bound has an idle existential
 abbrev pub HasNoneIdle : List Line → Type 0

@@ -2,8 +2,9 @@
 ghost use Rattle.std.specs.Prelude.{◌≡◌, ◌≢◌, ◌<◌, not, IfOk, MatchBool, MatchOption, OnSome, IfSome};
 ghost use Rattle.std.specs.BTreeSet.{contains};
 ghost use Rattle.std.specs.Ordering.{nat_cmp};
+ghost use Rattle.rt_lines.specs.FlowCounts.{flow_count};
 ghost use Rattle.rt_trim.specs.Idle.{is_idle, trimmed, trimmed_line as line_trimmed};
-ghost use Rattle.rt_trim.specs.Trimming.{flow_count, HasNoneIdle, IsTrimmed};
+ghost use Rattle.rt_trim.specs.Trimming.{HasNoneIdle, IsTrimmed};
 
 use crate::idle::{Existentials, spoiled};
 use rt_base::{Memory, Sequence};

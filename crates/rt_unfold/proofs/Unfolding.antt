@@ -19,8 +19,9 @@ use Rattle.rt_rules.proofs.Covering.{Alike-sym, Alike-trans}
 use Rattle.rt_rules.proofs.LineSides.{HasSide-in_sides}
 use Rattle.rt_scheme.specs.Schemes.{AreSchemeLines}
 use Rattle.rt_scheme.specs.Splitting.{AreInterfaceLines, is_interface_line, is_interface_side, is_interface_variable}
-use Rattle.rt_scheme.specs.SplitExistentials.{existential_for, first_free, other_interfaces, split_for}
-use Rattle.rt_scheme.proofs.FirstFree.{first_free-above}
+use Rattle.rt_lines.specs.FirstFree.{first_free}
+use Rattle.rt_scheme.specs.SplitExistentials.{existential_for, other_interfaces, split_for}
+use Rattle.rt_rules.proofs.FirstFree.{first_free-above}
 use Rattle.rt_scheme.proofs.SplittingKeeps.{split-alike, split-scheme}
 use Rattle.rt_rows.specs.declared.name.Name.{Name}
 use Rattle.rt_rows.specs.declared.row.Root.{Root}

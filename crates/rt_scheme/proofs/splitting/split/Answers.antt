@@ -8,7 +8,7 @@ use Rattle.rt_scheme.specs.Schemes.{AreSchemeLines}
 use Rattle.rt_scheme.specs.SplitExistentials.{is_other, existential_for}
 use Rattle.rt_scheme.specs.Splitting.{split_line}
 use Rattle.rt_scheme.proofs.SplittingKeeps.{split-alike, split-constants, split-globals, split-scheme}
-use Rattle.rt_scheme.proofs.FirstFree.{first_free-above}
+use Rattle.rt_rules.proofs.FirstFree.{first_free-above}
 use Rattle.rt_scheme.proofs.splitting.split.Goals as goal
 
 pub returns-clause-alike : goal.returns-clause-alike

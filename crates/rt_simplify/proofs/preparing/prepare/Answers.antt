@@ -1,7 +1,8 @@
 use Rattle.std.proofs.Common.{◌<◌, List, subst, arith}
 use Rattle.rt_lines.specs.declared.line.Line.{Line}
 use Rattle.rt_polar.specs.Tidied.{tidied}
-use Rattle.rt_trim.specs.Trimming.{flow_count, HasNoneIdle, IsTrimmed}
+use Rattle.rt_lines.specs.FlowCounts.{flow_count}
+use Rattle.rt_trim.specs.Trimming.{HasNoneIdle, IsTrimmed}
 use Rattle.rt_reduction.specs.Rounds.{Prepares, prepared, trims}
 use Rattle.rt_simplify.specs.Preparing.{IsOnce}
 use Rattle.rt_simplify.proofs.Counting.{once-count, tidied-count}

@@ -3,7 +3,7 @@ use Rattle.rt_lines.specs.Lines.{HasConstantsBelow}
 use Rattle.rt_reduction.specs.Emits.{AreOfScheme}
 use Rattle.rt_reduce.proofs.Between.{IsBetween}
 use Rattle.rt_reduce.proofs.Falling.{named_count}
-use Rattle.rt_reduce.proofs.reducing.reduce.Given as goal
+use Rattle.rt_reduce.proofs.reducing.go_round.Given as goal
 
 abbrev pub invariant-loop-now : goal.invariant-loop-now
 invariant-loop-now l = record {

@@ -6,7 +6,7 @@ use Rattle.rt_lines.specs.declared.line.Line.{Line}
 use Rattle.rt_lines.specs.Sides.{sides}
 use Rattle.rt_rules.specs.Laws.{NamesBase}
 use Rattle.rt_rules.proofs.LineSides.{Contains-sides}
-use Rattle.rt_record.specs.Slots.{above, first_free}
+use Rattle.rt_lines.specs.FirstFree.{above, first_free}
 
 -- the greatest of numbers and a first one is as great as each
 pub fold_max-first : (m : ℕ) (numbers : List ℕ) → m ≤ fold max m numbers

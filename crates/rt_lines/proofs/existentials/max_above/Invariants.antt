@@ -1,8 +1,8 @@
 use Rattle.std.proofs.Common.{◌≡◌, max, fold, map}
 use Rattle.rt_lines.specs.Sides.{sides}
 use Rattle.rt_lines.specs.SidesLeft.{sides_left}
-use Rattle.rt_scheme.specs.SplitExistentials.{above}
-use Rattle.rt_scheme.proofs.split_existentials.max_above.Given as goal
+use Rattle.rt_lines.specs.FirstFree.{above}
+use Rattle.rt_lines.proofs.existentials.max_above.Given as goal
 
 abbrev pub invariant-loop-x : goal.invariant-loop-x
 invariant-loop-x l =
