@@ -63,6 +63,10 @@ member_turned index i j e f =
     let same : i / 2 ≡ j / 2 = omega arith in
     ((same, λ g. omega (arith, g)), (sym same, λ g. omega (arith, g)))
 
+-- what the grids of classes say are ways between their members
+abbrev AreAll : (List ℕ → ℕ → ℕ → ℕ → Type 0) → Family → Type 0
+AreAll Way family = (class : ℕ) → class < length family.members.items → Holds (Way (members_of family class)) (grid_of family class)
+
 module _ (old new : Family) (class : ℕ) (table : Table) (less : class < length old.members.items) (same : new.members.items ≡ old.members.items) (changed : new.grids.items ≡ set old.grids.items class table) where
   grid_other : (k : ℕ) → (k ≡ class → ⊥) → grid_of new k ≡ grid_of old k
   grid_other k n = ap (λ xs. get_or xs k no_table) changed ∙ get_or-set_other old.grids.items class k table no_table n
@@ -83,14 +87,22 @@ module _ (old new : Family) (class : ℕ) (table : Table) (less : class < length
       sizes k h (inl e) = ap (λ n. size_of (grid_of new n)) e ∙ ap size_of (grid_here (subst (λ n. class < n) (sym f.each) less)) ∙ long ∙ f.sizes class less ∙ ap (λ n. 2 * length (members_of old n)) (sym e)
       sizes k h (inr n) = ap size_of (grid_other k n) ∙ f.sizes k h
 
+  -- whose ways are ways
+  pub ways_changed : (Way : List ℕ → ℕ → ℕ → ℕ → Type 0) → length old.grids.items ≡ length old.members.items →
+      Holds (Way (members_of old class)) table → AreAll Way old → AreAll Way new
+  ways_changed Way each holds all k h =
+      subst (λ (xs : List (List ℕ)). Holds (Way (get_or xs k [])) (grid_of new k)) (sym same)
+      (at k (subst (λ n. k < n) (ap length same) h) (cases_eq k class))
+    where
+      at : (k : ℕ) → k < length old.members.items → (k ≡ class) ⊎ (k ≡ class → ⊥) → Holds (Way (members_of old k)) (grid_of new k)
+      at k h (inl e) =
+          let here : grid_of new class ≡ table = grid_here (subst (λ n. class < n) (sym each) less) in
+          subst (λ n. Holds (Way (members_of old n)) (grid_of new n)) (sym e) (subst (Holds (Way (members_of old class))) (sym here) holds)
+      at k h (inr n) = subst (Holds (Way (members_of old k))) (sym (grid_other k n)) (all k h)
+
   -- of which it is told what it says
   pub told_changed : (known : List Dtv) (flips : List Bool) (lines : List Edge) → length old.grids.items ≡ length old.members.items → Holds (IsToldAt known flips lines (members_of old class)) table → IsToldFamily known flips lines old → IsToldFamily known flips lines new
-  told_changed known flips lines each holds told k h =
-      subst (λ (xs : List (List ℕ)). Holds (IsToldAt known flips lines (get_or xs k [])) (grid_of new k)) (sym same) (at k (subst (λ n. k < n) (ap length same) h) (cases_eq k class))
-    where
-      at : (k : ℕ) → k < length old.members.items → (k ≡ class) ⊎ (k ≡ class → ⊥) → Holds (IsToldAt known flips lines (members_of old k)) (grid_of new k)
-      at k h (inl e) = subst (λ n. Holds (IsToldAt known flips lines (members_of old n)) (grid_of new n)) (sym e) (subst (Holds (IsToldAt known flips lines (members_of old class))) (sym (grid_here (subst (λ n. class < n) (sym each) less))) holds)
-      at k h (inr n) = subst (Holds (IsToldAt known flips lines (members_of old k))) (sym (grid_other k n)) (told k h)
+  told_changed known flips lines each holds told = ways_changed (IsToldAt known flips lines) each holds told
 
 -- grids in which only ways are known that need no edge are told
 pub turning_told : (known : List Dtv) (flips : List Bool) (lines : List Edge) (family : Family) → IsFamily (length known) family →

@@ -8,6 +8,7 @@ pub mod Places
 pub mod Closed
 pub mod Telling
 pub mod Families
+pub mod Walking
 pub mod Emitting
 pub mod ToldPushes
 pub mod Children
@@ -25,3 +26,5 @@ pub mod Descending
 pub mod Raising
 pub mod Weighing
 pub mod Weighed
+pub mod Flagging
+pub mod Completing

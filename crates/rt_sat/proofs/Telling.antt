@@ -28,6 +28,10 @@ digits_differ (suc (suc a)) b h k n = absurd (omega (arith, h))
 other_digit : (i j : ℕ) → AreTurned i j → nat_eq (j % 2) 1 ≡ not (nat_eq (i % 2) 1)
 other_digit i j h = digits_differ (i % 2) (j % 2) (omega arith) (omega arith) (λ e. h.1 (omega (arith, e, h.0)))
 
+-- the state at the other place of a member
+pub turned_at : (members : List ℕ) (i j : ℕ) → AreTurned i j → state_at members j ≡ turned (state_at members i)
+turned_at members i j h = λ k. record { variable = get_or members (sym h.0 k) 0; contra = other_digit i j h k }
+
 -- the variable at a place
 pub inside_at : (count : ℕ) (members : List ℕ) → ((v : ℕ) → Contains members v → v < count) → (i : ℕ) → i < 2 * length members → (state_at members i).variable < count
 inside_at count members inside i h = let less : i / 2 < length members = omega arith in inside (get_or members (i / 2) 0) (Contains-at members (i / 2) less)
@@ -67,11 +71,11 @@ module _ (known : List Dtv) (flips : List Bool) (lines : List Edge) where
     told_pruned old new = prune_holds (IsToldAt known flips lines members) old new
 
     module _ (inside : (v : ℕ) → Contains members v → v < length known) where
-      turned_at : (i j : ℕ) → AreTurned i j → state_at members j ≡ turned (state_at members i)
-      turned_at i j h = λ k. record { variable = get_or members (sym h.0 k) 0; contra = other_digit i j h k }
-
       -- ways that need no edge are told
       pub turns_told : {i j k : ℕ} → Turns (2 * length members) i j k → IsToldAt known flips lines members i j k
       turns_told (stays {i} h) = told_here (state_at members i) (inside_at (length known) members inside i h)
-      turns_told (turns {i} {j} h t) = subst (λ s. IsTold known flips lines (state_at members i) s 1) (sym (turned_at i j t)) (told_turn (state_at members i) (inside_at (length known) members inside i h))
+      turns_told (turns {i} {j} h t) =
+          let here : State = state_at members i in
+          let told : IsTold known flips lines here (turned here) 1 = told_turn here (inside_at (length known) members inside i h) in
+          subst (λ s. IsTold known flips lines here s 1) (sym (turned_at members i j t)) told
       turns_told (behind {i} {j} {k} {m} {n} p q) = told_chain i j k m n (turns_told p) (turns_told q)

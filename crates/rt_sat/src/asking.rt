@@ -5,6 +5,7 @@ ghost use Rattle.rt_sat.specs.Pushes.{AreChildren, AreIndexed};
 ghost use Rattle.rt_sat.specs.Searches.{IsKnown};
 ghost use Rattle.rt_sat.specs.Tables.{HasNought, IsAnswer, place};
 
+use crate::checking::checked;
 use crate::closing::pass;
 use crate::hints::hints;
 use crate::layers::Layers;
@@ -31,15 +32,18 @@ pub(crate) fn reaches(
     let Begun { frame, first } = begun;
     let hints = hints(alloc, &frame, &first)?;
     let mut layers = Layers::new(alloc, first, hints)?;
-    let mut done = Vec::new(alloc);
+    if meets(alloc, &layers, sources, targets)? {
+        return Ok(true);
+    }
+    let mut done = checked(alloc, &frame, &layers)?;
     loop {
-        if meets(alloc, &layers, sources, targets)? {
-            return Ok(true);
-        }
         let before = layers.edges.len();
         done = pass(alloc, &frame, &mut layers, &done)?;
         if layers.edges.len() == before {
             return Ok(false);
+        }
+        if meets(alloc, &layers, sources, targets)? {
+            return Ok(true);
         }
         spread(&layers.edges, before, &mut done);
     }

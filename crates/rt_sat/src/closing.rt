@@ -6,6 +6,7 @@ ghost use Rattle.rt_sat.specs.Numbered.{AreDistinct};
 ghost use Rattle.rt_sat.specs.Pushes.{is_done, pushed_of, AreChildren, AreDone, AreGrown, AreIndexed, IsChildOf};
 ghost use Rattle.rt_sat.specs.Pushes.{IsClosedBy, IsClosedIn, IsClosing, IsStill};
 
+use crate::checking::checked;
 use crate::hints::hints;
 use crate::layers::Layers;
 use crate::pushing::{Frame, flag, push_below};
@@ -54,7 +55,7 @@ pub(crate) fn closed(alloc: Global, frame: &Frame, lines: Vec<Edge>) -> Result<V
 {
     let hints = hints(alloc, frame, &lines)?;
     let mut layers = Layers::new(alloc, lines, hints)?;
-    let mut done = Vec::new(alloc);
+    let mut done = checked(alloc, frame, &layers)?;
     loop {
         let before = layers.edges.len();
         done = pass(alloc, frame, &mut layers, &done)?;

@@ -4,6 +4,8 @@ ghost use Rattle.std.specs.Prelude.{length, slice_get, slice_index_or};
 ghost use Rattle.rt_lines.specs.declared.variable.Dtv.{Dtv as Variable};
 ghost use Rattle.rt_sat.specs.declared.state.Edge.{Edge as Arrow};
 ghost use Rattle.rt_sat.specs.Counts.{digit_of};
+ghost use Rattle.rt_sat.specs.Checks.{home_of, AreWalked};
+ghost use Rattle.rt_sat.specs.Searches.{Walk};
 ghost use Rattle.rt_sat.specs.Hints.{no_table, AreMembers, AreSameMembers, IsFamily, IsHome, IsTold, IsToldFamily, IsTurning};
 
 use crate::closing::no_numbers;
@@ -41,6 +43,7 @@ impl Family {
         ensures family { IfOk result (λ family. IsFamily (length nodes.now) family) }
         ensures told { IfOk result (λ family. (known : List Variable) (flips : List Bool) (lines : List Arrow) →
             length known ≡ length nodes.now → IsToldFamily known flips lines family) }
+        ensures walked { IfOk result (λ family. (edges : List Arrow) → AreWalked family edges) }
     {
         let members = members(alloc, nodes, used)?;
         let homes = homes(alloc, &members, nodes.len())?;
@@ -55,7 +58,8 @@ impl Family {
     // Where a state stands, if its variable is a member of a class.
     pub(crate) fn home(&self, state: State) -> Option<Home>
         requires { (count : ℕ) × IsFamily count self.now }
-        ensures { IfSome result (IsHome self.now state) }
+        ensures home { IfSome result (IsHome self.now state) }
+        ensures is { result ≡ home_of self.now state }
     {
         let home = (*self.homes.get(state.variable as usize)?)?;
         let members = self.members.get(home.class)?;
@@ -81,6 +85,8 @@ impl Family {
         ensures family { OnOk result ((count : ℕ) → IsFamily count self.old → IsFamily count self.new) }
         ensures told { OnOk result ((known : List Variable) (flips : List Bool) (lines : List Arrow) →
             IsTold known flips lines from to count → IsToldFamily known flips lines self.old → IsToldFamily known flips lines self.new) }
+        ensures walked { OnOk result ((edges : List Arrow) → Walk edges from to count → AreWalked self.old edges →
+            AreWalked self.new edges) }
     {
         let Some(left) = self.home(from) else {
             return Ok(());
@@ -103,6 +109,7 @@ impl Family {
         ensures family { OnOk result ((count : ℕ) → IsFamily count self.old → IsFamily count self.new) }
         ensures told { OnOk result ((known : List Variable) (flips : List Bool) (lines : List Arrow) →
             IsToldFamily known flips lines self.old → IsToldFamily known flips lines self.new) }
+        ensures walked { OnOk result ((edges : List Arrow) → AreWalked self.old edges → AreWalked self.new edges) }
     {
         self.grids[class].close(alloc)?;
         self.grids[class].prune(alloc)?;

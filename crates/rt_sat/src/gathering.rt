@@ -1,8 +1,10 @@
 // Pushes from ways that tables of bytes tell.
-ghost use Rattle.std.specs.Prelude.{◌≡◌, ◌*◌, ◌+◌, ◌%◌, ◌<◌, ◌≤◌, ℕ, List, Contains, IfOk, IfSome, OnOk};
+ghost use Rattle.std.specs.Prelude.{◌≡◌, ◌*◌, ◌+◌, ◌%◌, ◌<◌, ◌≤◌, ℕ, List, Contains, Some, None, IfOk, IfSome, OnOk};
 ghost use Rattle.std.specs.Prelude.{length, slice_index_or};
 ghost use Rattle.rt_grid.specs.declared.grid.Step.{Step as Pace};
 ghost use Rattle.rt_grid.specs.Tables.{size_of, Holds, Made, SaysWith};
+ghost use Rattle.rt_lines.specs.declared.label.Label.{Label as Letter};
+ghost use Rattle.rt_sat.specs.declared.state.State.{State as Place};
 ghost use Rattle.rt_sat.specs.declared.state.Edge.{Edge as Arrow};
 ghost use Rattle.rt_sat.specs.Counts.{digit_of};
 ghost use Rattle.rt_sat.specs.Hints.{bit_of, grid_of, members_of, state_at, AreInClass, AreKids, AreKidsOf, AreSameMembers, AreToldSteps};
@@ -305,9 +307,12 @@ fn push_kid(
 }
 
 // The state of a variable, if that has a letter more than a state's, and the letter.
-fn child_of(frame: &Frame, parent: State, number: u32) -> Option<(State, Label)>
+pub(crate) fn child_of(frame: &Frame, parent: State, number: u32) -> Option<(State, Label)>
     requires distinct { AreDistinct frame.now.named }
-    ensures { IfSome result (λ child. IsChildOf frame.now.named child.0 parent child.1) }
+    ensures child { IfSome result (λ child. IsChildOf frame.now.named child.0 parent child.1) }
+    ensures number { IfSome result (λ child. child.0.variable ≡ number) }
+    ensures none { result ≡ None → (child : Place) (l : Letter) → child.variable ≡ number →
+        IsChildOf frame.now.named child parent l → ⊥ }
 {
     if number as usize >= frame.named.len() {
         return None;
@@ -461,10 +466,19 @@ fn pushed_step(
     })
 }
 
-// The count that one between two parents gives between children with these letters and signs.
-fn between(flip: bool, first: Label, second: Label, count: u8, a: bool, b: bool) -> Option<u8>
+// The least count that one between two parents gives between children with these letters and signs.
+pub(crate) fn between(
+    flip: bool,
+    first: Label,
+    second: Label,
+    count: u8,
+    a: bool,
+    b: bool,
+) -> Option<u8>
     requires { count < 255 }
-    ensures { IfSome result (λ k. PushBy flip first second count (sign_of a) (sign_of b) k) }
+    ensures push { IfSome result (λ k. PushBy flip first second count (sign_of a) (sign_of b) k) }
+    ensures least { (k : ℕ) → PushBy flip first second count (sign_of a) (sign_of b) k →
+        (n : ℕ) × (result ≡ Some n) × (n ≤ k) }
 {
     if flip && is_pointer(first) && is_pointer(second) {
         let left = first.variance().times(sign(a));
@@ -483,6 +497,8 @@ fn half(count: u8, left: bool, right: bool, differ: bool) -> u8
     requires { count < 255 }
     ensures enough { count + bit_of left ≤ result + result + bit_of right }
     ensures parity { (result + digit_of differ) % 2 ≡ 0 }
+    ensures least { (other : ℕ) → count + bit_of left ≤ other + other + bit_of right → (other + digit_of differ) % 2 ≡ 0 →
+        result ≤ other }
 {
     let more = if left {
         u16::from(count)

@@ -1,12 +1,13 @@
 // Edges that are pushed from ways along others, found by tables of bytes. Nothing says that these are all, so searches go on
 // from them.
-ghost use Rattle.std.specs.Prelude.{◌≡◌, ◌*◌, ◌<◌, ◌≤◌, ℕ, [], List, Bool, IfOk, OnOk};
+ghost use Rattle.std.specs.Prelude.{◌≡◌, ◌*◌, ◌<◌, ◌≤◌, ℕ, [], List, Bool, Contains, IfOk, OnOk};
 ghost use Rattle.std.specs.Prelude.{length, slice_index_or};
 ghost use Rattle.rt_lines.specs.declared.variable.Dtv.{Dtv as Variable};
 ghost use Rattle.rt_sat.specs.declared.state.Edge.{Edge as Arrow};
 ghost use Rattle.rt_grid.specs.Tables.{size_of};
 ghost use Rattle.rt_sat.specs.Hints.{state_at, AreKidsOf, AreMore, AreSameMembers, AreTold, IsFamily, IsOfStep};
 ghost use Rattle.rt_sat.specs.Hints.{IsStepFrom, IsStepOf, IsTold, IsToldFamily};
+ghost use Rattle.rt_sat.specs.Checks.{AreWalked};
 ghost use Rattle.rt_sat.specs.Numbered.{AreDistinct, AreWithin};
 
 use crate::count::Count;
@@ -20,7 +21,10 @@ use rt_named::Origin;
 use std::alloc::Global;
 
 // From so many edges of lines on it pays to look for hints.
-const MANY: usize = 200;
+pub(crate) const MANY: usize = 200;
+
+// A class with no member with a letter more is looked at too, if it has no more members.
+const SMALL: usize = 500;
 
 // Pushed edges. The error is want of memory.
 pub(crate) fn hints(alloc: Global, frame: &Frame, lines: &[Edge]) -> Result<Vec<Edge>, Memory>
@@ -42,12 +46,14 @@ pub(crate) fn hints(alloc: Global, frame: &Frame, lines: &[Edge]) -> Result<Vec<
 }
 
 // Adds steps of edges, as far as their counts are small.
-fn enter_lines(alloc: Global, family: &mut Family, lines: &[Edge]) -> Result<(), Memory>
+pub(crate) fn enter_lines(alloc: Global, family: &mut Family, lines: &[Edge]) -> Result<(), Memory>
     requires { (count : ℕ) × IsFamily count family.old }
     ensures same { OnOk result (AreSameMembers family.old family.new) }
     ensures family { OnOk result ((count : ℕ) → IsFamily count family.old → IsFamily count family.new) }
     ensures told { OnOk result ((known : List Variable) (flips : List Bool) → IsToldFamily known flips lines.now family.old →
         IsToldFamily known flips lines.now family.new) }
+    ensures walked { OnOk result ((edges : List Arrow) → ((e : Arrow) → Contains lines.now e → Contains edges e) →
+        AreWalked family.old edges → AreWalked family.new edges) }
 {
     for edge in lines {
         enter_line(alloc, family, edge)?;
@@ -63,6 +69,8 @@ fn enter_line(alloc: Global, family: &mut Family, edge: &Edge) -> Result<(), Mem
     ensures told { OnOk result ((known : List Variable) (flips : List Bool) (lines : List Arrow) →
         IsTold known flips lines edge.now.from edge.now.to edge.now.count → IsToldFamily known flips lines family.old →
         IsToldFamily known flips lines family.new) }
+    ensures walked { OnOk result ((edges : List Arrow) → Contains edges edge.now → AreWalked family.old edges →
+        AreWalked family.new edges) }
 {
     let count = edge.count.capped();
     if count < 255 {
@@ -72,7 +80,7 @@ fn enter_line(alloc: Global, family: &mut Family, edge: &Edge) -> Result<(), Mem
 }
 
 // For each variable whether its class has a member with a letter more.
-fn above(alloc: Global, frame: &Frame) -> Result<Vec<bool>, Memory>
+pub(crate) fn above(alloc: Global, frame: &Frame) -> Result<Vec<bool>, Memory>
     requires nodes { length frame.now.nodes.items ≡ length frame.now.named }
     ensures each { IfOk result (λ above. length above.items ≡ length frame.now.named) }
     ensures few { IfOk result (λ above. length above.items ≤ 4294967296) }
@@ -103,22 +111,45 @@ fn parents(alloc: Global, frame: &Frame) -> Result<Vec<bool>, Memory>
     Ok(parents)
 }
 
-// For each variable whether it has a letter, and its class a member with a letter more. Of others no way is asked but by the
-// searches that come behind.
-fn below(alloc: Global, frame: &Frame) -> Result<Vec<bool>, Memory>
+// For each variable whether it has a letter, and its class a member with a letter more, or few members. Of others no way is
+// asked but by the searches that come behind.
+pub(crate) fn below(alloc: Global, frame: &Frame) -> Result<Vec<bool>, Memory>
     requires nodes { length frame.now.nodes.items ≡ length frame.now.named }
     ensures each { IfOk result (λ below. length below.items ≡ length frame.now.named) }
     ensures few { IfOk result (λ below. length below.items ≤ 4294967296) }
 {
     let above = above(alloc, frame)?;
+    let sizes = sizes(alloc, &frame.nodes)?;
     let mut below = Vec::with_capacity(alloc, frame.named.len())?;
     for number in 0..frame.named.len() {
         below.push(match frame.named.origin(number as u32) {
-            Origin::Longer(_, _) => above[number],
+            Origin::Longer(_, _) => above[number] || is_small(&sizes, frame.nodes[number]),
             Origin::Bare(_) => false,
         })?;
     }
     Ok(below)
+}
+
+// How many variables there are of each node.
+fn sizes(alloc: Global, nodes: &[Option<u32>]) -> Result<Vec<usize>, Memory> {
+    let mut sizes = vec![in alloc; 0usize; class_count(nodes)]?;
+    for number in 0..nodes.len() {
+        if let Some(node) = nodes[number] {
+            sizes[node as usize] = sizes[node as usize].saturating_add(1);
+        }
+    }
+    Ok(sizes)
+}
+
+// Whether a variable is of a node with few others.
+fn is_small(sizes: &[usize], node: Option<u32>) -> bool {
+    let Some(node) = node else {
+        return false;
+    };
+    match sizes.get(node as usize) {
+        Some(size) => *size <= SMALL,
+        None => false,
+    }
 }
 
 // By class the variables with a letter more than its members.
@@ -299,7 +330,7 @@ fn emit_step(
 }
 
 // The state at a place.
-fn member_state(members: &[u32], place: usize) -> State
+pub(crate) fn member_state(members: &[u32], place: usize) -> State
     requires { place < 2 * length members.now }
     ensures { result ≡ state_at members.now place }
 {

@@ -4,7 +4,10 @@
 #![tactic(auto)]
 
 mod asking;
+mod building;
+mod checking;
 mod closing;
+mod complete;
 mod count;
 mod digits;
 mod entering;

@@ -25,7 +25,7 @@ returns-clause-told c = λ lines told.
     let read : way ≡ count_at row (2 * parent + digit_of c.args.contra) = get_or_default row c.place.result 0 255 less ∙ ap (count_at row) place in
     let few : way < 255 = omega (arith, c.type_inv.row c.place.result, c.if-way.false) in
     let from : IsTold known flips lines source.parent other way = row_told known flips lines source.parent c.args.members.now row parent way c.args.contra told (subst (λ n. n < length row) place less) read few in
-    let by = subst (λ f. PushBy f source.letter c.in_ok-end.letter way (sign_of source.child.contra) (sign_of end.contra) c.in_ok-count.count) c.requires.flip c.in_ok-count.ensures in
-    let to : IsTold known flips lines source.child end c.in_ok-count.count = told_push known flips lines source.child source.parent end other source.letter c.in_ok-end.letter way c.in_ok-count.count from c.requires.child c.in_ok-end.ensures by in
+    let by = subst (λ f. PushBy f source.letter c.in_ok-end.letter way (sign_of source.child.contra) (sign_of end.contra) c.in_ok-count.count) c.requires.flip c.in_ok-count.ensures.push in
+    let to : IsTold known flips lines source.child end c.in_ok-count.count = told_push known flips lines source.child source.parent end other source.letter c.in_ok-end.letter way c.in_ok-count.count from c.requires.child c.in_ok-end.ensures.child by in
     let class : target.class ≡ source.home.class = c.if-target-source.false in
-    subst (λ s. IsTold known flips lines source.child s c.in_ok-count.count) (sym (ap (λ n. state_at (members_of c.args.into.now n) target.index) (sym class) ∙ c.in_ok-target.ensures.is)) to
+    subst (λ s. IsTold known flips lines source.child s c.in_ok-count.count) (sym (ap (λ n. state_at (members_of c.args.into.now n) target.index) (sym class) ∙ c.in_ok-target.ensures.home.is)) to

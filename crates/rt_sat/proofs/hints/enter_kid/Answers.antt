@@ -13,7 +13,7 @@ returns-in_ok-push c =
     let home : Home = c.in-Some.home in
     let kid : Kid = record { parent = home.index / 2; variable = c.args.number } in
     let is : IsFamily c.requires.family.0 family = c.requires.family.1 in
-    let there : IsHome family (record { variable = c.in-Longer.parent; contra = false }) home = c.in-Some.ensures in
+    let there : IsHome family (record { variable = c.in-Longer.parent; contra = false }) home = c.in-Some.ensures.home in
     let less : home.index < 2 * length (members_of family home.class) = subst (λ n. home.index < n) (is.sizes home.class there.class) there.place in
     let fits : kid.parent < length (members_of family home.class) = omega arith in
     let room : home.class < length c.args.kids.now.items = subst (λ n. home.class < n) (sym c.requires.kids.each) there.class in
