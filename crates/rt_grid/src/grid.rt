@@ -146,8 +146,9 @@ impl Grid {
         Ok(())
     }
 
-    // Goes over all rows, from the first to the last and back. Whether one changed.
-    fn sweep(&mut self, alloc: Global) -> Result<bool, Memory>
+    /// Takes in what steps lead to, once for each row from the first to the last and back. Whether a count became less. The error
+    /// is want of memory.
+    pub fn sweep(&mut self, alloc: Global) -> Result<bool, Memory>
         ensures size { OnOk result (size_of self.new ≡ size_of self.old) }
         ensures holds { OnOk result (Holds (Made (Says self.old)) self.new) }
     {

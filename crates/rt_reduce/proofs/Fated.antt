@@ -11,7 +11,7 @@ use Rattle.rt_named.specs.Naming.{named as named_by}
 use Rattle.rt_outline.specs.Lines.{standing}
 use Rattle.rt_sure.specs.declared.fate.Fate.{Fate}
 use Rattle.rt_sure.specs.declared.fate.Fate.TheVariants.{Stays, Goes, Open}
-use Rattle.rt_sure.specs.Fates.{AreGoing, AreStaying, HasSure, IsSure, fate_at}
+use Rattle.rt_sure.specs.Fates.{AreGoing, AreStaying, HasBefore, HasSure, IsSure, fate_at}
 use Rattle.rt_reduce.specs.Deciding.{AreWitnessed}
 use Rattle.rt_reduce.specs.Dropping.{AreFated, IsFatedAt, IsMoved}
 use Rattle.rt_reduce.proofs.Flags.{set_again, standing_at, standing_gone, standing_has}
@@ -63,13 +63,19 @@ module _ (order : Below) (lines left : List Line) (stands : List Bool) (place : 
       (standing_has lines (set stands place false) j m at
       (get_or-set_other stands place j false false (elsewhere goes j sure) ∙ fated.sure j sure))
 
+  has_before : HasBefore lines place (remove left place)
+  has_before = λ j m h at.
+      subst (λ ls. Contains ls m) (sym others)
+      (standing_has lines (set stands place false) j m at
+      (get_or-set_other stands place j false false (λ e. omega (arith, e, h)) ∙ are.before j (omega (arith, h))))
+
   -- what is known of the line at the place
   pub fated_here : (fate : Fate) → fate ≡ fate_at fates place → IsFatedAt order fate left place
   fated_here fate is = record {
     stays = λ l at e d.
         fated.staying place l (here l at) (sym is ∙ e) (set stands place false) (cleared stands place)
         (subst (λ ls. Derivable order ls l) others d);
-    goes = λ l at e. fated.going place l (here l at) (sym is ∙ e) (remove left place) (has_sure (sym is ∙ e));
+    goes = λ l at e. fated.going place l (here l at) (sym is ∙ e) (remove left place) (has_sure (sym is ∙ e)) has_before;
   }
 
 module _ (order : Below) (lines left now : List Line) (stands flags : List Bool) (place : ℕ) (fates : List Fate)

@@ -21,3 +21,4 @@ pub mod Unbounded
 pub mod Made
 pub mod Told
 pub mod Fated
+pub mod Exact

@@ -13,8 +13,8 @@ use Rattle.rt_rules.proofs.Carry.{given}
 use Rattle.rt_rules.proofs.Covering.{derives_more}
 use Rattle.rt_sat.proofs.Frames.{side_named}
 use Rattle.rt_outline.specs.Lines.{Lined}
-use Rattle.rt_reduce.specs.Deciding.{IsInnerFor, IsLowerWith}
-use Rattle.rt_reduce.specs.Dropping.{Decides}
+use Rattle.rt_reduce.specs.Deciding.{IsInnerFor, IsLowerWith, IsOwnOuter, IsWaysFor}
+use Rattle.rt_reduce.specs.Dropping.{Decides, IsKeptOrGone}
 use Rattle.rt_reduce.proofs.Places.{All-removed}
 
 -- an element that is taken out, before the others
@@ -87,3 +87,31 @@ pub inner_stays : (order : Below) (left : List Line) (place : ℕ) (inner : Line
 inner_stays order left place inner is now h decides =
     let line = get_or left place (Var (exist 0)) in
     inner_next order left place inner is now line h (sym (get_or_default left place line (Var (exist 0)) h)) decides
+
+-- ways of all lines
+pub first_ways : (order : Below) (lines left : List Line) (ways : Lined) → IsOwnOuter lines ways → left ≡ lines → IsWaysFor order left ways
+first_ways order lines left ways own e = record {
+  inner = first_inner order lines left ways
+      (record { extra = []; own = own.0; names = own.1; given = λ x c. absurd (Contains-none x c) }) e;
+  among = λ l c. subst (λ ls. Contains ls l) (e ∙ sym own.0) c;
+}
+
+module _ (order : Below) (left : List Line) (place : ℕ) (ways : Lined) (are : IsWaysFor order left ways) where
+  -- with the line at the place before the others
+  pub ways_out : (line : Line) → place < length left → line ≡ get_or left place line → IsWaysFor order (line ∷ remove left place) ways
+  ways_out line h e = record {
+    inner = inner_out order left place ways are.inner line h e;
+    among = λ l c. are.among l (of_taken_out left place line l h e c);
+  }
+
+  -- as the line at the place goes or stays
+  pub ways_stay : (now : List Line) → place < length left → Decides order left place now → IsKeptOrGone left place now →
+      IsWaysFor order now ways
+  ways_stay now h decides kept = record {
+    inner = inner_stays order left place ways are.inner now h decides;
+    among = λ l c. are.among l (by kept l c);
+  }
+    where
+      by : IsKeptOrGone left place now → (l : Line) → Contains now l → Contains left l
+      by (inl e) l c = subst (λ ls. Contains ls l) e c
+      by (inr e) l c = of_removed left place l (subst (λ ls. Contains ls l) e c)

@@ -42,6 +42,11 @@ pub record IsInnerFor (order : Below) (left : List Line) (inner : Lined) : Type 
   pub derived : (l : Line) → Contains inner.lines l → Derivable order left l
   pub sides : (l : Line) (x : Dtv) → Contains left l → HasSide l x → Contains inner.named x
 
+-- ways of lines that what is left derives, each line that is left among these, between variables among which those of what is left are
+pub record IsWaysFor (order : Below) (left : List Line) (ways : Lined) : Type 0 where
+  pub inner : IsInnerFor order left ways
+  pub among : (l : Line) → Contains left l → Contains ways.lines l
+
 -- arcs of lines, between the variables that these and another line name
 pub record IsUpperWith (lines : List Line) (line : Line) (outer : Lined) : Type 0 where
   pub own : outer.lines ≡ lines

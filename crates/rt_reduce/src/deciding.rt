@@ -7,28 +7,31 @@ ghost use Rattle.rt_lines.specs.Orders.{Below};
 ghost use Rattle.rt_rules.specs.Rules.{Derivable};
 ghost use Rattle.rt_outline.specs.Lines.{standing};
 ghost use Rattle.rt_witness.specs.Witnesses.{IsLeft, IsWitnesses};
-ghost use Rattle.rt_reduce.specs.Deciding.{IsInnerFor, IsOuterFor, IsUpperWith, Tells};
+ghost use Rattle.rt_reduce.specs.Deciding.{IsInnerFor, IsOuterFor, IsUpperWith, IsWaysFor, Tells};
 
 use crate::bounds::{lows, ups};
 use crate::derivable::derives_line;
 use crate::dropping::is_flow;
-use crate::early::is_told;
+use crate::early::{decided, is_told};
 use crate::effort::Effort;
 use crate::merging::push_sides;
 use crate::opened::seen;
 use rt_base::Memory;
 use rt_lines::{Dtv, Line, Order};
 use rt_outline::{Led, Lower, Upper};
+use rt_sure::Ways;
 use rt_witness::Witnesses;
 use std::alloc::Global;
 use std::slice;
 
 // Whether the line is derivable from the lines left: by arcs from outside and by which lines name which variables, where these
-// tell, else by arcs from inside that were made before, else by what is left.
+// tell, else, if it is a bound, by ways that were made before, else by arcs from inside that were made before, else by what is
+// left.
 pub fn is_derivable(
     alloc: Global,
     outer: Option<&Upper>,
     inner: Option<&Lower>,
+    ways: Option<&Ways>,
     witnesses: &Witnesses,
     stands: &[bool],
     left: &[Line],
@@ -38,6 +41,7 @@ pub fn is_derivable(
 ) -> Result<bool, Memory>
     requires outer { IfSome outer (λ t. IsOuterFor left.now stands.now line.now t.now) }
     requires inner { IfSome inner (λ t. IsInnerFor order.now (line.now ∷ left.now) t.now) }
+    requires ways { IfSome ways (λ t. IsWaysFor order.now (line.now ∷ left.now) t.now) }
     requires witnesses { (lines : List Given) × IsWitnesses lines witnesses.now × IsLeft lines stands.now left.now }
     requires constants { All (HasConstantsBelow order.now.count) left.now }
     requires constant { HasConstantsBelow order.now.count line.now }
@@ -47,6 +51,9 @@ pub fn is_derivable(
         Led::No => return Ok(false),
         Led::Yes => return Ok(true),
         Led::Open => {}
+    }
+    if let Some(yes) = decided(alloc, ways, witnesses, stands, left, order, line)? {
+        return Ok(yes);
     }
     if is_told(alloc, inner, witnesses, stands, left, order, line)? {
         return Ok(true);

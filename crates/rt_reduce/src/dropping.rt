@@ -7,7 +7,8 @@ ghost use Rattle.rt_lines.specs.Lines.{HasConstantsBelow};
 ghost use Rattle.rt_reduction.specs.Drops.{Drops};
 ghost use Rattle.rt_reduction.specs.Emits.{is_flow as is_flow_line};
 ghost use Rattle.rt_witness.specs.Witnesses.{IsWitnesses};
-ghost use Rattle.rt_reduce.specs.Deciding.{AreStanding, AreWitnessed, IsInnerFor, IsLowerWith, IsOwnOuter};
+ghost use Rattle.rt_reduce.specs.Deciding.{AreStanding, AreWitnessed, IsInnerFor, IsLowerWith, IsOwnOuter, IsWaysFor};
+ghost use Rattle.rt_named.specs.Naming.{named as named_by};
 ghost use Rattle.rt_sure.specs.Fates.{fate_at};
 ghost use Rattle.rt_sure.specs.declared.fate.Fate.TheVariants.{Stays as Staying};
 ghost use Rattle.rt_reduce.specs.Dropping.{AreFated, AreLeft, AreTold, Decides, IsFatedAt, IsKeptOrGone, IsMoved, IsSpared, IsToldAt};
@@ -18,7 +19,7 @@ use crate::effort::Effort;
 use rt_base::{Memory, Sequence};
 use rt_lines::{Line, Lines, Order};
 use rt_outline::{Lower, Upper};
-use rt_sure::Fate;
+use rt_sure::{Fate, Ways};
 use rt_witness::Witnesses;
 use std::alloc::Global;
 
@@ -26,15 +27,15 @@ use std::alloc::Global;
 /// behind it derive with the order of constants. One of which `rt_earlier` tells that the lines before it derive it goes at
 /// once. Another one that arcs from outside don't give isn't derivable; else arcs from inside of all lines tell, which are made
 /// once, or arcs from inside and from outside of what is left, or it is saturated. Once questions have cost much, the lines that
-/// are left take the place of all: arcs are made of them, and `rt_sure` tells beforehand what becomes of them. The error is want
-/// of memory.
+/// are left take the place of all: arcs from outside are made of them, and ways, which decide each bound, and `rt_sure` tells
+/// beforehand what becomes of lines. The error is want of memory.
 pub fn drop_derivable(alloc: Global, lines: &[Line], order: &Order) -> Result<Lines, Memory>
     requires { All (HasConstantsBelow order.now.count) lines.now }
     ensures drops { IfOk result (λ left. Drops order.now [] lines.now left) }
     ensures stood { IfOk result (λ left. (l : Given) → Contains left l → Contains lines.now l) }
 {
     let told = rt_earlier::told(alloc, lines)?;
-    let rest = drop_by(alloc, lines, lines.len(), &told, &[], order)?;
+    let rest = drop_by(alloc, lines, lines.len(), None, &told, &[], order)?;
     let left = drop_rest(alloc, rest, &told, order)?;
     Ok(Sequence::from_vec(left))
 }
@@ -63,25 +64,45 @@ fn drop_rest(alloc: Global, rest: Rest, told: &[bool], order: &Order) -> Result<
     if place == 0 {
         return Ok(left);
     }
-    let fates = fates_before(alloc, &left, place, order)?;
-    let rest = drop_by(alloc, &left, place, &told[..place], &fates, order)?;
+    let ways = ways_of(alloc, &left)?;
+    let fates = fates_before(alloc, &ways, place, order)?;
+    let rest = drop_by(
+        alloc,
+        &left,
+        place,
+        Some(&ways),
+        &told[..place],
+        &fates,
+        order,
+    )?;
     Ok(rest.left)
 }
 
-// What becomes of the lines before the place in any case, where all from it on are kept.
+// The ways between the variables that the lines name.
+fn ways_of(alloc: Global, lines: &[Line]) -> Result<Ways, Memory>
+    ensures { IfOk result (IsOwnOuter lines.now) }
+{
+    let copies = copies(alloc, lines)?;
+    let ways = Ways::of(alloc, copies, &[])?;
+    Ok(ways)
+}
+
+// What becomes of the lines of the ways before the place in any case, where all from it on are kept.
 fn fates_before(
     alloc: Global,
-    lines: &[Line],
+    ways: &Ways,
     place: usize,
     order: &Order,
 ) -> Result<Vec<Fate>, Memory>
-    requires within { place ≤ length lines.now }
-    requires constants { All (HasConstantsBelow order.now.count) lines.now }
+    requires own { ways.now.named ≡ named_by ways.now.lines [] }
+    requires within { place ≤ length ways.now.lines }
+    requires constants { All (HasConstantsBelow order.now.count) ways.now.lines }
     ensures each { IfOk result (λ fates. length fates.items ≡ place) }
-    ensures fated { IfOk result (λ fates. AreFated order.now lines.now (replicate (length lines.now) true) place fates.items) }
+    ensures fated { IfOk result (λ fates.
+        AreFated order.now ways.now.lines (replicate (length ways.now.lines) true) place fates.items) }
 {
-    let kept = kept_from(alloc, place, lines.len())?;
-    let fates = rt_sure::fates(alloc, lines, &kept, place, order)?;
+    let kept = kept_from(alloc, place, ways.lines().len())?;
+    let fates = rt_sure::fates(alloc, ways, &kept, place, order)?;
     Ok(fates)
 }
 
@@ -96,17 +117,19 @@ fn kept_from(alloc: Global, place: usize, count: usize) -> Result<Vec<bool>, Mem
 }
 
 // What is left when lines go from the first ones, so many as the number says, the last of these first. Which of them follow from
-// those before them is given, and what becomes of them, as far as it is known. Where nothing of that is known, lines go only
-// until questions have cost much.
+// those before them is given, and what becomes of them, as far as it is known, and maybe ways of all lines. Where nothing is known
+// of what becomes of them, lines go only until questions have cost much.
 fn drop_by(
     alloc: Global,
     lines: &[Line],
     from: usize,
+    ways: Option<&Ways>,
     told: &[bool],
     fates: &[Fate],
     order: &Order,
 ) -> Result<Rest, Memory>
     requires within { from ≤ length lines.now }
+    requires ways { IfSome ways (λ t. IsOwnOuter lines.now t.now) }
     requires each { from ≤ length told.now }
     requires told { AreTold lines.now told.now }
     requires fated { AreFated order.now lines.now (replicate (length lines.now) true) from fates.now }
@@ -117,7 +140,7 @@ fn drop_by(
     ensures stood { IfOk result (λ rest. (l : Given) → Contains rest.left.items l → Contains lines.now l) }
 {
     let outer = outer_of(alloc, lines)?;
-    let inner = inner_of(alloc, lines)?;
+    let inner = inner_beside(alloc, lines, ways)?;
     let witnesses = Witnesses::of(alloc, lines)?;
     drop_from(
         alloc,
@@ -125,6 +148,7 @@ fn drop_by(
         from,
         outer.as_ref(),
         inner.as_ref(),
+        ways,
         told,
         fates,
         &witnesses,
@@ -139,6 +163,7 @@ fn drop_from(
     from: usize,
     outer: Option<&Upper>,
     inner: Option<&Lower>,
+    ways: Option<&Ways>,
     told: &[bool],
     fates: &[Fate],
     witnesses: &Witnesses,
@@ -147,6 +172,7 @@ fn drop_from(
     requires within { from ≤ length lines.now }
     requires outer { IfSome outer (λ t. IsOwnOuter lines.now t.now) }
     requires inner { IfSome inner (λ t. IsLowerWith lines.now [] t.now) }
+    requires ways { IfSome ways (λ t. IsOwnOuter lines.now t.now) }
     requires each { from ≤ length told.now }
     requires told { AreTold lines.now told.now }
     requires fated { AreFated order.now lines.now (replicate (length lines.now) true) from fates.now }
@@ -169,6 +195,7 @@ fn drop_from(
             alloc,
             outer,
             inner,
+            ways,
             told[place],
             fate_of(fates, place),
             witnesses,
@@ -211,6 +238,16 @@ fn outer_of(alloc: Global, lines: &[Line]) -> Result<Option<Upper>, Memory>
     }
     let outer = Upper::of(alloc, lines, &[])?;
     Ok(Some(outer))
+}
+
+// Arcs from inside of the lines, if there is a bound among them and no ways of the lines decide bounds.
+fn inner_beside(alloc: Global, lines: &[Line], ways: Option<&Ways>) -> Result<Option<Lower>, Memory>
+    ensures { IfOk result (λ inner. IfSome inner (λ t. IsLowerWith lines.now [] t)) }
+{
+    if ways.is_some() {
+        return Ok(None);
+    }
+    inner_of(alloc, lines)
 }
 
 // Arcs from inside of the lines, if there is a bound among them.
@@ -271,6 +308,7 @@ fn drop_before(
     alloc: Global,
     outer: Option<&Upper>,
     inner: Option<&Lower>,
+    ways: Option<&Ways>,
     told: bool,
     fate: Fate,
     witnesses: &Witnesses,
@@ -286,6 +324,7 @@ fn drop_before(
     requires constants { All (HasConstantsBelow order.now.count) (remove_range left.old.items (place + 1) next) }
     requires standing { IfSome outer (λ t. AreStanding (remove_range left.old.items (place + 1) next) stands.old.items (place + 1) t.now) }
     requires inner { IfSome inner (λ t. IsInnerFor order.now (remove_range left.old.items (place + 1) next) t.now) }
+    requires ways { IfSome ways (λ t. IsWaysFor order.now (remove_range left.old.items (place + 1) next) t.now) }
     requires told { IsToldAt told (remove_range left.old.items (place + 1) next) place }
     requires fated { IsFatedAt order.now fate (remove_range left.old.items (place + 1) next) place }
     requires stood { slice_index_or stands.old.items place false ≡ true }
@@ -313,7 +352,7 @@ fn drop_before(
     }
     take_out(left, place + 1, next);
     drop_at(
-        alloc, outer, inner, witnesses, stands, left, order, place, effort,
+        alloc, outer, inner, ways, witnesses, stands, left, order, place, effort,
     )?;
     Ok(place)
 }
@@ -347,6 +386,7 @@ fn drop_at(
     alloc: Global,
     outer: Option<&Upper>,
     inner: Option<&Lower>,
+    ways: Option<&Ways>,
     witnesses: &Witnesses,
     stands: &mut Vec<bool>,
     left: &mut Vec<Line>,
@@ -359,6 +399,7 @@ fn drop_at(
     requires constants { All (HasConstantsBelow order.now.count) left.old.items }
     requires standing { IfSome outer (λ t. AreStanding left.old.items stands.old.items (place + 1) t.now) }
     requires inner { IfSome inner (λ t. IsInnerFor order.now left.old.items t.now) }
+    requires ways { IfSome ways (λ t. IsWaysFor order.now left.old.items t.now) }
     requires witnesses { (lines : List Given) × IsWitnesses lines witnesses.now
         × AreWitnessed lines left.old.items stands.old.items (place + 1) }
     ensures lines { OnOk result (IsKeptOrGone left.old.items place left.new.items) }
@@ -372,7 +413,7 @@ fn drop_at(
     }
     let line = left.remove(place);
     let derived = is_derivable(
-        alloc, outer, inner, witnesses, stands, left, order, &line, effort,
+        alloc, outer, inner, ways, witnesses, stands, left, order, &line, effort,
     )?;
     if derived {
         return Ok(());

@@ -1,12 +1,12 @@
-// Bounds that arcs from inside, which were made before, tell to be derivable.
-ghost use Rattle.std.specs.Prelude.{◌∷◌, ◌<◌, List, All, IsTrue, IfOk, IfSome};
+// Bounds of which arcs from inside or ways, which were made before, tell whether they are derivable.
+ghost use Rattle.std.specs.Prelude.{◌∷◌, ◌<◌, ◌↔◌, List, All, IsTrue, IfOk, IfSome};
 ghost use Rattle.rt_lines.specs.declared.line.Line.{Line as Given};
 ghost use Rattle.rt_lines.specs.declared.line.Line.TheVariants.{Low as LowerBound, Up as UpperBound, Var as Exists};
 ghost use Rattle.rt_lines.specs.Lines.{HasConstantsBelow};
 ghost use Rattle.rt_lines.specs.Orders.{Below};
 ghost use Rattle.rt_rules.specs.Rules.{Derivable};
 ghost use Rattle.rt_witness.specs.Witnesses.{IsLeft, IsWitnesses};
-ghost use Rattle.rt_reduce.specs.Deciding.{IsInnerFor};
+ghost use Rattle.rt_reduce.specs.Deciding.{IsInnerFor, IsWaysFor};
 
 use crate::bounds::{lows, ups};
 use crate::deciding::told_named;
@@ -14,9 +14,101 @@ use crate::derivable::exists;
 use rt_base::Memory;
 use rt_lines::{Dtv, Line, Order};
 use rt_outline::{Led, Lower};
+use rt_sure::Ways;
 use rt_witness::Witnesses;
 use std::alloc::Global;
 use std::slice;
+
+// Whether a bound is derivable from the lines left, by ways of lines that these and the bound derive, the lines left among them,
+// if there are such ways. No bound has an arc, so the bound itself may be among those. Of other lines nothing is said.
+pub(crate) fn decided(
+    alloc: Global,
+    ways: Option<&Ways>,
+    witnesses: &Witnesses,
+    stands: &[bool],
+    left: &[Line],
+    order: &Order,
+    line: &Line,
+) -> Result<Option<bool>, Memory>
+    requires ways { IfSome ways (λ t. IsWaysFor order.now (line.now ∷ left.now) t.now) }
+    requires witnesses { (lines : List Given) × IsWitnesses lines witnesses.now × IsLeft lines stands.now left.now }
+    requires constants { All (HasConstantsBelow order.now.count) left.now }
+    requires constant { HasConstantsBelow order.now.count line.now }
+    ensures { IfOk result (λ decided. IfSome decided (λ yes. IsTrue yes ↔ Derivable order.now left.now line.now)) }
+{
+    let Some(ways) = ways else {
+        return Ok(None);
+    };
+    match line {
+        Line::Var(_) | Line::Same(_, _) | Line::Sub(_, _) => Ok(None),
+        Line::Low(k, x) => {
+            let yes = is_low(alloc, ways, witnesses, stands, left, order, *k, x)?;
+            Ok(Some(yes))
+        }
+        Line::Up(x, k) => {
+            let yes = is_up(alloc, ways, witnesses, stands, left, order, x, *k)?;
+            Ok(Some(yes))
+        }
+    }
+}
+
+// Whether the constant is a lower bound of the variable: whether this exists, and ways lead to it from those of other lower
+// bounds.
+fn is_low(
+    alloc: Global,
+    ways: &Ways,
+    witnesses: &Witnesses,
+    stands: &[bool],
+    left: &[Line],
+    order: &Order,
+    k: u16,
+    x: &Dtv,
+) -> Result<bool, Memory>
+    requires ways { IsWaysFor order.now (LowerBound k x.now ∷ left.now) ways.now }
+    requires witnesses { (lines : List Given) × IsWitnesses lines witnesses.now × IsLeft lines stands.now left.now }
+    requires constants { All (HasConstantsBelow order.now.count) left.now }
+    requires constant { k < order.now.count }
+    ensures { IfOk result (λ yes. IsTrue yes ↔ Derivable order.now left.now (LowerBound k x.now)) }
+{
+    // The call says that the order is transitive.
+    order.count();
+    let from = lows(alloc, left, order, k)?;
+    let led = ways.leads(alloc, &from, slice::from_ref(x))?;
+    if !led {
+        return Ok(false);
+    }
+    let there = is_there(alloc, witnesses, stands, left, x)?;
+    Ok(there)
+}
+
+// Whether the constant is an upper bound of the variable: whether this exists, and ways lead from it to those of other upper
+// bounds.
+fn is_up(
+    alloc: Global,
+    ways: &Ways,
+    witnesses: &Witnesses,
+    stands: &[bool],
+    left: &[Line],
+    order: &Order,
+    x: &Dtv,
+    k: u16,
+) -> Result<bool, Memory>
+    requires ways { IsWaysFor order.now (UpperBound x.now k ∷ left.now) ways.now }
+    requires witnesses { (lines : List Given) × IsWitnesses lines witnesses.now × IsLeft lines stands.now left.now }
+    requires constants { All (HasConstantsBelow order.now.count) left.now }
+    requires constant { k < order.now.count }
+    ensures { IfOk result (λ yes. IsTrue yes ↔ Derivable order.now left.now (UpperBound x.now k)) }
+{
+    // The call says that the order is transitive.
+    order.count();
+    let to = ups(alloc, left, order, k)?;
+    let led = ways.leads(alloc, slice::from_ref(x), &to)?;
+    if !led {
+        return Ok(false);
+    }
+    let there = is_there(alloc, witnesses, stands, left, x)?;
+    Ok(there)
+}
 
 // Whether the line is derivable from the lines left, as far as arcs from inside tell, of lines that these and the line derive.
 // No bound has an arc, so a bound itself may be among those.
@@ -57,7 +149,7 @@ fn is_there(
     x: &Dtv,
 ) -> Result<bool, Memory>
     requires { (lines : List Given) × IsWitnesses lines witnesses.now × IsLeft lines stands.now left.now }
-    ensures { IfOk result (λ yes. IsTrue yes → (order : Below) → Derivable order left.now (Exists x.now)) }
+    ensures { IfOk result (λ yes. (order : Below) → IsTrue yes ↔ Derivable order left.now (Exists x.now)) }
 {
     match told_named(witnesses, stands, x) {
         Led::No => Ok(false),

@@ -1,7 +1,7 @@
 // What questions cost.
 
 // From so many on it pays to find out beforehand what becomes of lines.
-const LARGE: usize = 3;
+const LARGE: usize = 2;
 
 // For how many questions about `<=` lines and bounds what is left of a list was saturated.
 #[derive(Drop)]

@@ -33,7 +33,7 @@ use Rattle.rt_sat.specs.Searches.{Walk}
 use Rattle.rt_shape.specs.Graphs.{Graph, node_of}
 use Rattle.rt_shape.specs.Shapes.{IsShapeOf}
 use Rattle.rt_sat.specs.Tables.{AreThere, IsTableOf, IsBegun, IsAnswer, BelowLaw, place, HasNought, HasBelow, AreFlagged, AreLows, AreUps}
-use Rattle.rt_sat.proofs.Closed.{edge_sound, name_at}
+use Rattle.rt_sat.proofs.Closed.{edge_sound, in_frame, name_at}
 use Rattle.rt_sat.proofs.Closings.{closing_law, lines_sound}
 use Rattle.rt_sat.proofs.Deciding.{are_named, are_flips}
 use Rattle.rt_sat.proofs.Frames.{begun_table, frame_law, named_distinct}
@@ -47,14 +47,14 @@ module _ (L : Given) (extra known : List Dtv) (graph : Graph) (is : known ≡ na
   named_by : AreNamed L (is_among known)
   named_by = subst (λ xs. AreNamed L (is_among xs)) (sym is) (are_named L extra graph shape)
 
-  frame_by : (flips : List Bool) → AreThere L.lines extra → AreFlagged graph known flips → IsFrame L known flips
+  pub frame_by : (flips : List Bool) → AreThere L.lines extra → AreFlagged graph known flips → IsFrame L known flips
   frame_by flips there flagged = subst (λ xs. IsFrame L xs flips) (sym is) (frame_law L extra graph flips shape there (subst (λ xs. AreFlagged graph xs flips) is flagged))
 
 module _ (L : Given) (x y : Dtv) where
   to_der : Derivable L.order L.lines (Sub x y) → Der L (S (vd x) (vd y))
   to_der d = der L (S (vd x) (vd y)) (subst (λ z. Derivable L.order L.lines (Sub z (dv (vd y)))) (sym (dv-vd x)) (subst (λ z. Derivable L.order L.lines (Sub x z)) (sym (dv-vd y)) d))
 
-  from_der : Der L (S (vd x) (vd y)) → Derivable L.order L.lines (Sub x y)
+  pub from_der : Der L (S (vd x) (vd y)) → Derivable L.order L.lines (Sub x y)
   from_der d = subst (λ z. Derivable L.order L.lines (Sub z y)) (dv-vd x) (subst (λ z. Derivable L.order L.lines (Sub (dv (vd x)) z)) (dv-vd y) d.derives)
 
 -- a way of count nought along sound edges
@@ -64,7 +64,7 @@ module _ (L : Given) (known : List Dtv) (graph : Graph) (flips : List Bool) (edg
   way_below w =
       from_der L (at_number known i) (at_number known j)
       ((exact_law L (is_among known) (flips_by graph) names (are_flips L [] graph shape) (vd (at_number known i)) (vd (at_number known j)) (name_at known i h) (name_at known j k) (frames.there i h)).1
-      (way_bridge (EdgeOf (edges_of known edges)) L (Named (is_among known)) names.sides (edge_sound known L flips frames names.sides edges sound) w (name_at known i h) (frames.there i h)))
+      (way_bridge (EdgeOf (edges_of known edges)) L (Named (is_among known)) names.sides (edge_sound known L flips (in_frame L known flips frames) names.sides edges sound) w (name_at known i h) (frames.there i h)))
 
   walk_below : AreDistinct known → AreWithin known edges → Walk edges (place i) (place j) 0 → Derivable L.order L.lines (Sub (at_number known i) (at_number known j))
   walk_below apart inside w = way_below ((numbered_law known edges apart inside (place i) (place j) 0 h k).0 w)

@@ -19,11 +19,15 @@ use Rattle.rt_sat.specs.declared.state.State.{State as Place}
 use Rattle.rt_sat.specs.declared.state.Edge.{Edge}
 use Rattle.rt_sat.specs.Deciding.{is_among}
 use Rattle.rt_sat.specs.Numbered.{sign_of, is_contra, at_number, state_of, edges_of, AreDistinct, AreWithin}
-use Rattle.rt_sat.specs.Pushes.{IsChildOf, PushBy, IsPushed, IsClosedBy, HasWalk, IsFrame, AreSound, flip_at, matter_at}
+use Rattle.rt_sat.specs.Pushes.{IsChildOf, PushBy, IsPushed, IsClosedBy, HasWalk, IsFrame, IsInFrame, AreSound, flip_at, matter_at}
 use Rattle.rt_sat.specs.Searches.{Walk}
 use Rattle.rt_sat.proofs.Deciding.{among-from, among-to}
 use Rattle.rt_sat.proofs.Mattering.{asked_allowed}
 use Rattle.rt_sat.proofs.Numbered.{IsEdge, edge_from, sign_contra, walk_of, way_of}
+
+-- where it is known of each variable whether it can be read and written through, it is known of those that can
+pub in_frame : (L : Given) (known : List Dtv) (flips : List Bool) → IsFrame L known flips → IsInFrame L known flips
+in_frame L known flips frame = record { there = frame.there; flip = λ n h. (frame.flip n h).0 }
 
 module _ (known : List Dtv) where
   abbrev M : Var → Type 0
@@ -44,14 +48,10 @@ module _ (known : List Dtv) where
   pub parent_state : (child parent : Place) (l : Label) → IsChildOf known child parent l → state_of known parent ≡ st (vd (at_number known parent.variable)) (times (label_variance l) (sign_of child.contra))
   parent_state child parent l c = ap (st (vd (at_number known parent.variable))) (sym c.sign)
 
-  module _ (L : Given) (flips : List Bool) (frame : IsFrame L known flips) where
+  module _ (L : Given) (flips : List Bool) (frame : IsInFrame L known flips) where
     pub push_of : (n : ℕ) (l m : Label) (d : ℕ) (a b : Variance) (k : ℕ) → n < length known → PushBy (flip_at flips n) l m d a b k → Push L (vd (at_number known n)) l m d a b k
-    push_of n l m d a b k h (inl p) = let f : Flip L (vd (at_number known n)) = (frame.flip n h).0 p.flips in half p.left p.right f.0 f.1 p.enough p.parity
+    push_of n l m d a b k h (inl p) = let f : Flip L (vd (at_number known n)) = frame.flip n h p.flips in half p.left p.right f.0 f.1 p.enough p.parity
     push_of n l m d a b k h (inr p) = subst (λ g. Push L (vd (at_number known n)) l g d a b k) p.0 (subst (λ j. Push L (vd (at_number known n)) l l d a b j) p.1 kept)
-
-    push_from : (n : ℕ) (x : Var) (l m : Label) (d : ℕ) (a b : Variance) (k : ℕ) → n < length known → vd (at_number known n) ≡ x → Push L x l m d a b k → PushBy (flip_at flips n) l m d a b k
-    push_from n x l m d a b k h e (half p q f g i j) = inl (record { flips = (frame.flip n h).1 (subst (Flip L) (sym e) (f, g)); left = p; right = q; enough = i; parity = j })
-    push_from n x l m d a b k h e kept = inr (refl, refl)
 
     pub there_child : (child parent : Place) (l : Label) → IsChildOf known child parent l → Der L (V (dot (vd (at_number known parent.variable)) l))
     there_child child parent l c = subst (λ x. Der L (V x)) (ap vd c.is ∙ vd-longer (at_number known parent.variable) l) (frame.there child.variable c.within)
@@ -79,6 +79,11 @@ module _ (known : List Dtv) where
           (subst (λ z. Bridge L M (st (dot x p.first) (sign_of e.from.contra)) z e.count) (sym (child_state e.to p.other p.second p.right))
           (push (named_child e.from p.parent p.first p.left) (named_child e.to p.other p.second p.right) (there_child e.from p.parent p.first p.left) (there_child e.to p.other p.second p.right) placed
           (push_of p.parent.variable p.first p.second p.count (sign_of e.from.contra) (sign_of e.to.contra) e.count p.left.above p.push)))
+
+  module _ (L : Given) (flips : List Bool) (frame : IsFrame L known flips) where
+    push_from : (n : ℕ) (x : Var) (l m : Label) (d : ℕ) (a b : Variance) (k : ℕ) → n < length known → vd (at_number known n) ≡ x → Push L x l m d a b k → PushBy (flip_at flips n) l m d a b k
+    push_from n x l m d a b k h e (half p q f g i j) = inl (record { flips = (frame.flip n h).1 (subst (Flip L) (sym e) (f, g)); left = p; right = q; enough = i; parity = j })
+    push_from n x l m d a b k h e kept = inr (refl, refl)
 
     -- the numbered state of a child, and that of its parent
     pub record Numbers (x : Var) (l : Label) (a : Variance) : Type 0 where

@@ -17,7 +17,7 @@ use Rattle.rt_sat.specs.Closings.{IsEdgeOf, IsLineEdge, AreLineEdges, ClosingLaw
 use Rattle.rt_sat.specs.Mattering.{Matters}
 use Rattle.rt_sat.proofs.Mattering.{number_matters}
 use Rattle.rt_sat.proofs.Numbered.{IsEdge, edge_of, edge_from}
-use Rattle.rt_sat.proofs.Closed.{edge_sound, closed_ways}
+use Rattle.rt_sat.proofs.Closed.{closed_ways, edge_sound, in_frame}
 
 pub way_more : (F G : State → State → ℕ → Bool) → ((x y : State) (k : ℕ) → EdgeOf F x y k → EdgeOf G x y k) → {x y : State} {k : ℕ} → Way (EdgeOf F) x y k → Way (EdgeOf G) x y k
 way_more F G more stays = stays
@@ -63,7 +63,7 @@ module _ (L : Given) (known : List Dtv) (lines : List Edge) (are : AreLineEdges 
 
 pub closing_law : ClosingLaw
 closing_law L known graph marks flips matters lines edges named apart frame mattering are closing = record {
-  sound = edge_sound known L flips frame named.sides edges (closing.sound L frame named.sides (lines_sound L known lines are));
+  sound = edge_sound known L flips (in_frame L known flips frame) named.sides edges (closing.sound L frame named.sides (lines_sound L known lines are));
   lines = record { forth = λ {x} {y} h. forth_edge L known lines are edges closing.lines_stay x y h; back = λ {x} {y} h. back_edge L known lines are edges closing.lines_stay x y h };
   closed = λ x y l m a b d k o p q v w way push.
       (let r : WayIn (EdgeOf (edges_of known (drop (length lines) edges))) (st (dot x l) a) (st (dot y m) b) k =

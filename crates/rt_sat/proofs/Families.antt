@@ -2,7 +2,7 @@
 use Rattle.std.proofs.Common.{◌≡◌, ℕ, ◌+◌, ◌*◌, ◌/◌, ◌<◌, ◌≤◌, ◌⊎◌, inl, inr, Bool, List, [], ◌∷◌, ◌++◌, Contains, Option, Some, None, slice_get, length, get_or, set, sym, ap, subst, ◌∙◌, arith, length-append, get_or-set_same, get_or-set_other}
 use Rattle.std.proofs.Math.ListN.{length-set}
 use Rattle.std.proofs.lemmas.Bool.{cases_eq}
-use Rattle.std.proofs.lemmas.List.Elements.{Contains-push_cases}
+use Rattle.std.proofs.lemmas.List.Elements.{All-weaker, Contains-push_cases}
 use Rattle.std.proofs.lemmas.Option.{get_or_from_slice_get}
 use Rattle.rt_lines.specs.declared.variable.Dtv.{Dtv}
 use Rattle.rt_grid.specs.Tables.{Table, size_of, Holds, Made, SaysWith}
@@ -10,8 +10,9 @@ use Rattle.rt_grid.proofs.Holding.{add_holds, holds_by}
 use Rattle.rt_rules.proofs.Lists.{Contains-none}
 use Rattle.rt_sat.specs.declared.family.Family.{Family}
 use Rattle.rt_sat.specs.declared.gathering.Kid.{Kid}
+use Rattle.rt_sat.specs.declared.gathering.Group.{Group}
 use Rattle.rt_sat.specs.declared.state.Edge.{Edge}
-use Rattle.rt_sat.specs.Hints.{grid_of, members_of, most_members, no_table, AreKidsOf, AreMembers, AreSameMembers, AreTurned, IsFamily, IsToldAt, IsToldFamily, IsTurning, Turns}
+use Rattle.rt_sat.specs.Hints.{grid_of, members_of, most_members, no_table, AreGroups, AreMembers, AreSameMembers, AreTurned, IsFamily, IsGroup, IsKid, IsToldAt, IsToldFamily, IsTurning, Turns}
 use Rattle.rt_sat.specs.Hints.Turns.{turns, behind}
 use Rattle.rt_sat.proofs.Telling.{turns_told}
 
@@ -111,33 +112,32 @@ turning_told known flips lines family f turning class h =
     let members : List ℕ = members_of family class in
     holds_by (Turns (2 * length members)) (IsToldAt known flips lines members) (λ i j n w. turns_told known flips lines members (f.inside class) w) (grid_of family class) (turning class h).holds
 
--- lists of none
-pub kids_none : (family : Family) (kids : List (List Kid)) → length kids ≡ length family.members.items → ((class : ℕ) → get_or kids class [] ≡ []) → AreKidsOf family kids
-kids_none family kids each none = record {
-  each = each;
-  are = λ class kid c. absurd (Contains-none kid (subst (λ xs. Contains xs kid) (none class) c));
+-- what is a group stays one where the classes have the same members
+pub group_same : (old new : Family) (group : Group) → AreSameMembers old new → IsGroup old group → IsGroup new group
+group_same old new group same is = record {
+  class = subst (λ (xs : List (List ℕ)). group.class < length xs) (sym same) is.class;
+  are = λ kid c. subst (λ (xs : List (List ℕ)). kid.parent < length (get_or xs group.class [])) (sym same) (is.are kid c);
 }
 
--- a variable more with a letter more than a member
-pub kids_more : (family : Family) (class : ℕ) (kid : Kid) (kids : List (List Kid)) (now : List Kid) → class < length family.members.items → kid.parent < length (members_of family class) → now ≡ get_or kids class [] ++ kid ∷ [] → AreKidsOf family kids → AreKidsOf family (set kids class now)
-kids_more family class kid kids now less fits grown all = record {
-  each = simp length-set all.each;
-  are = λ k other c. are k other c (cases_eq k class);
-}
-  where
-    are : (k : ℕ) (other : Kid) → Contains (get_or (set kids class now) k []) other → (k ≡ class) ⊎ (k ≡ class → ⊥) → other.parent < length (members_of family k)
-    are k other c (inr n) = all.are k other (subst (λ xs. Contains xs other) (get_or-set_other kids class k now [] n) c)
-    are k other c (inl e) =
-        let room : class < length kids = subst (λ n. class < n) (sym all.each) less in
-        let here : get_or (set kids class now) k [] ≡ get_or kids class [] ++ kid ∷ [] = ap (λ n. get_or (set kids class now) n []) e ∙ get_or-set_same kids class now [] room ∙ grown in
-        subst (λ n. other.parent < length (members_of family n)) (sym e) (elim (Contains-push_cases (get_or kids class []) kid other (subst (λ xs. Contains xs other) here c)) [
-          | inl d ↦ all.are class other d
-          | inr f ↦ subst (λ (x : Kid). x.parent < length (members_of family class)) f fits
-        ])
+pub groups_same : (old new : Family) (groups : List Group) → AreSameMembers old new → AreGroups old groups → AreGroups new groups
+groups_same old new groups same = All-weaker (IsGroup old) (IsGroup new) (λ group. group_same old new group same) groups
 
--- the same for the same members
-pub kids_same : (old new : Family) (kids : List (List Kid)) → AreSameMembers old new → AreKidsOf old kids → AreKidsOf new kids
-kids_same old new kids same all = record {
-  each = all.each ∙ ap length (sym same);
-  are = λ class kid c. subst (λ (xs : List (List ℕ)). kid.parent < length (get_or xs class [])) (sym same) (all.are class kid c);
+-- a group of one
+pub group_one : (family : Family) (class : ℕ) (kid : Kid) → IsKid family class kid → IsGroup family (record { class = class; kids = kid ∷ [] })
+group_one family class kid is = record {
+  class = is.class;
+  are = λ other c. elim (Contains-push_cases [] kid other c) [
+    | inl none ↦ absurd (Contains-none other none)
+    | inr e ↦ subst (λ (x : Kid). x.parent < length (members_of family class)) e is.parent
+  ];
+}
+
+-- a variable more in a group
+pub group_more : (family : Family) (old new : Group) (kid : Kid) → new.class ≡ old.class → new.kids ≡ old.kids ++ kid ∷ [] → IsKid family old.class kid → IsGroup family old → IsGroup family new
+group_more family old new kid class kids is all = record {
+  class = subst (λ n. n < length family.members.items) (sym class) all.class;
+  are = λ other c. subst (λ n. other.parent < length (members_of family n)) (sym class) (elim (Contains-push_cases old.kids kid other (subst (λ xs. Contains xs other) kids c)) [
+    | inl d ↦ all.are other d
+    | inr e ↦ subst (λ (x : Kid). x.parent < length (members_of family old.class)) e is.parent
+  ]);
 }

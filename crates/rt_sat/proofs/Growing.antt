@@ -15,7 +15,7 @@ use Rattle.rt_sat.specs.Deciding.{is_among}
 use Rattle.rt_sat.specs.Hints.{AreTold}
 use Rattle.rt_sat.specs.Numbered.{AreWithin}
 use Rattle.rt_sat.specs.Pushes.{AreGrown, AreSound, Grows, same, more, IsBuilt, IsClosedBy, IsClosedFrom, IsClosedIn, IsClosing, IsFrame, IsGrown, IsNoted, IsPushed, IsStill, pushed_of}
-use Rattle.rt_sat.proofs.Closed.{pushed_sound}
+use Rattle.rt_sat.proofs.Closed.{in_frame, pushed_sound}
 
 pub grown_more : (P Q R : Edge → Type 0) (a b c : Layers) → ((e : Edge) → P e → R e) → ((e : Edge) → Q e → R e) → IsGrown P a b → IsGrown Q b c → IsGrown R a c
 grown_more P Q R a b c f g p q = record {
@@ -88,7 +88,7 @@ module _ (known : List Dtv) (flips : List Bool) where
   grows_sound L frame sides a b same = λ s. s
   grows_sound L frame sides a b (more {edges} g fresh p) = λ s e c. elim (Contains-append_cases edges fresh e c) [
     | inl d ↦ grows_sound L frame sides a edges g s e d
-    | inr d ↦ pushed_sound known L flips frame sides edges (grows_sound L frame sides a edges g s) e (p e d)
+    | inr d ↦ pushed_sound known L flips (in_frame L known flips frame) sides edges (grows_sound L frame sides a edges g s) e (p e d)
   ]
 
   pub all_grown : (a b : Layers) → IsGrown (IsPushed known flips a.edges.items) a b → AreGrown known flips a b
@@ -124,7 +124,7 @@ module _ (known : List Dtv) (flips : List Bool) where
     fresh = hints;
     is = is;
     within = λ w e c. (elim (either e c) [ inl d ↦ w e d | inr d ↦ within e d ]);
-    sound = λ L frame sides s e c. (elim (either e c) [ inl d ↦ s e d | inr d ↦ told e d L frame sides s ]);
+    sound = λ L frame sides s e c. (elim (either e c) [ inl d ↦ s e d | inr d ↦ told e d L (in_frame L known flips frame) sides s ]);
   }
     where
       either : (e : Edge) → Contains edges e → Contains lines e ⊎ Contains hints e

@@ -1,5 +1,6 @@
 pub mod Binary
 pub mod Deciding
+pub mod Sounding
 pub mod Searching
 pub mod Indices
 pub mod Numbered
@@ -28,3 +29,4 @@ pub mod Weighing
 pub mod Weighed
 pub mod Flagging
 pub mod Completing
+pub mod Adding

@@ -1,5 +1,5 @@
 -- What is told of states by the edges of lines and what is pushed from their ways, in tables of classes.
-use Rattle.std.specs.Prelude.{◌≡◌, ℕ, ◌+◌, ◌*◌, ◌/◌, ◌%◌, ◌<◌, ◌≤◌, ◌⊎◌, true, false, List, [], Contains, Bool, length, nat_eq, slice_index_or}
+use Rattle.std.specs.Prelude.{◌≡◌, ℕ, ◌+◌, ◌*◌, ◌/◌, ◌%◌, ◌<◌, ◌≤◌, ◌⊎◌, true, false, List, [], All, Contains, Bool, length, nat_eq, slice_index_or}
 use Rattle.rt_lines.specs.declared.variable.Dtv.{Dtv}
 use Rattle.rt_bridge.specs.Growing.{Var, Given, HasSub}
 use Rattle.rt_bridge.specs.Counted.{Bridge}
@@ -11,13 +11,14 @@ use Rattle.rt_sat.specs.declared.state.Edge.{Edge}
 use Rattle.rt_sat.specs.declared.family.Family.{Family}
 use Rattle.rt_sat.specs.declared.family.Home.{Home}
 use Rattle.rt_sat.specs.declared.gathering.Kid.{Kid}
+use Rattle.rt_sat.specs.declared.gathering.Group.{Group}
 use Rattle.rt_sat.specs.Deciding.{is_among}
 use Rattle.rt_sat.specs.Numbered.{state_of}
-use Rattle.rt_sat.specs.Pushes.{AreSound, IsFrame}
+use Rattle.rt_sat.specs.Pushes.{AreSound, IsInFrame}
 
 -- the count between the states is a counted judgement, wherever the edges of lines are
 abbrev pub IsTold : List Dtv → List Bool → List Edge → State → State → ℕ → Type 0
-IsTold known flips lines s t k = (L : Given) → IsFrame L known flips →
+IsTold known flips lines s t k = (L : Given) → IsInFrame L known flips →
     ((x y : Var) → HasSub L x y → Named (is_among known) x × Named (is_among known) y) → AreSound L known lines →
     Bridge L (Named (is_among known)) (state_of known s) (state_of known t) k
 
@@ -106,10 +107,19 @@ AreToldSteps known flips lines state family class steps = (s : Step) → Contain
 abbrev pub AreInClass : Family → ℕ → List Step → Type 0
 AreInClass family class steps = (s : Step) → Contains steps s → s.to < size_of (grid_of family class)
 
--- by class variables with a letter more than members
-pub record AreKidsOf (family : Family) (kids : List (List Kid)) : Type 0 where
-  pub each : length kids ≡ length family.members.items
-  pub are : (class : ℕ) → AreKids (members_of family class) (slice_index_or kids class [])
+-- the variable has a letter more than a member of a class
+pub record IsKid (family : Family) (number : ℕ) (kid : Kid) : Type 0 where
+  pub class : number < length family.members.items
+  pub parent : kid.parent < length (members_of family number)
+
+-- the variables of a group have a letter more than members of its class
+pub record IsGroup (family : Family) (group : Group) : Type 0 where
+  pub class : group.class < length family.members.items
+  pub are : AreKids (members_of family group.class) group.kids
+
+-- so have those of all groups
+abbrev pub AreGroups : Family → List Group → Type 0
+AreGroups family groups = All (IsGroup family) groups
 
 -- the edge is a step from a place to another one
 pub record IsOfStep (members : List ℕ) (i : ℕ) (step : Step) (e : Edge) : Type 0 where

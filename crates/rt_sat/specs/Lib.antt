@@ -13,3 +13,4 @@ pub mod Flags
 pub mod Tables
 pub mod Weighing
 pub mod Weights
+pub mod Increments

@@ -171,6 +171,11 @@ pub record IsFrame (L : Given) (known : List Dtv) (flips : List Bool) : Type 0 w
   pub there : (n : ℕ) → n < length known → Der L (V (vd (at_number known n)))
   pub flip : (n : ℕ) → n < length known → (flip_at flips n ≡ true) ↔ Flip L (vd (at_number known n))
 
+-- the variables exist, and those can be read and written through of which the flags say so
+pub record IsInFrame (L : Given) (known : List Dtv) (flips : List Bool) : Type 0 where
+  pub there : (n : ℕ) → n < length known → Der L (V (vd (at_number known n)))
+  pub flip : (n : ℕ) → n < length known → flip_at flips n ≡ true → Flip L (vd (at_number known n))
+
 -- the edges are counted judgements
 abbrev pub AreSound : Given → List Dtv → List Edge → Type 0
 AreSound L known edges = (e : Edge) → Contains edges e →

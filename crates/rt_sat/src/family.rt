@@ -100,6 +100,20 @@ impl Family {
         Ok(())
     }
 
+    // Takes in what the steps of a class lead to, once for each state from the first to the last and back. Whether a way became
+    // shorter. The error is want of memory.
+    pub(crate) fn sweep(&mut self, alloc: Global, class: usize) -> Result<bool, Memory>
+        requires family { (count : ℕ) × IsFamily count self.old }
+        requires class { class < length self.old.members.items }
+        ensures same { OnOk result (AreSameMembers self.old self.new) }
+        ensures family { OnOk result ((count : ℕ) → IsFamily count self.old → IsFamily count self.new) }
+        ensures told { OnOk result ((known : List Variable) (flips : List Bool) (lines : List Arrow) →
+            IsToldFamily known flips lines self.old → IsToldFamily known flips lines self.new) }
+    {
+        let shorter = self.grids[class].sweep(alloc)?;
+        Ok(shorter)
+    }
+
     // Takes in what the steps of a class lead to, and forgets those without which its ways are as short. The error is want of
     // memory.
     pub(crate) fn close(&mut self, alloc: Global, class: usize) -> Result<(), Memory>

@@ -1,14 +1,15 @@
 // Pushes from ways that tables of bytes tell.
-ghost use Rattle.std.specs.Prelude.{◌≡◌, ◌*◌, ◌+◌, ◌%◌, ◌<◌, ◌≤◌, ℕ, List, Contains, Some, None, IfOk, IfSome, OnOk};
+ghost use Rattle.std.specs.Prelude.{◌≡◌, ◌*◌, ◌+◌, ◌%◌, ◌<◌, ◌≤◌, ℕ, Bool, List, Contains, Some, None, IfOk, IfSome, OnOk};
 ghost use Rattle.std.specs.Prelude.{length, slice_index_or};
 ghost use Rattle.rt_grid.specs.declared.grid.Step.{Step as Pace};
 ghost use Rattle.rt_grid.specs.Tables.{size_of, Holds, Made, SaysWith};
 ghost use Rattle.rt_lines.specs.declared.label.Label.{Label as Letter};
+ghost use Rattle.rt_lines.specs.declared.variable.Dtv.{Dtv as Variable};
 ghost use Rattle.rt_sat.specs.declared.state.State.{State as Place};
 ghost use Rattle.rt_sat.specs.declared.state.Edge.{Edge as Arrow};
 ghost use Rattle.rt_sat.specs.Counts.{digit_of};
-ghost use Rattle.rt_sat.specs.Hints.{bit_of, grid_of, members_of, state_at, AreInClass, AreKids, AreKidsOf, AreSameMembers, AreToldSteps};
-ghost use Rattle.rt_sat.specs.Hints.{IsFamily, IsHome, IsTold, IsToldFamily, IsToldRow, SaysOr};
+ghost use Rattle.rt_sat.specs.Hints.{bit_of, grid_of, members_of, state_at, AreGroups, AreInClass, AreKids, AreSameMembers, AreToldSteps};
+ghost use Rattle.rt_sat.specs.Hints.{IsFamily, IsGroup, IsHome, IsTold, IsToldFamily, IsToldRow, SaysOr};
 ghost use Rattle.rt_sat.specs.Numbered.{sign_of, AreDistinct};
 ghost use Rattle.rt_sat.specs.Pushes.{flip_at, IsChildOf, PushBy};
 
@@ -24,6 +25,9 @@ use std::alloc::Global;
 // How often all classes are gone over at most.
 const PASSES: usize = 1000;
 
+// In how many passes steps are put in before spare ones are forgotten.
+const BETWEEN: usize = 8;
+
 // A variable with a letter more than a member of a class.
 #[derive(Clone, Copy)]
 pub(crate) struct Kid {
@@ -31,6 +35,16 @@ pub(crate) struct Kid {
     pub(crate) parent: usize,
     // The variable.
     pub(crate) variable: u32,
+}
+
+// Variables with a letter more than members of a class: with one letter, or with letters of pointers. Nothing is pushed but
+// between those of one group.
+#[derive(Drop)]
+pub(crate) struct Group {
+    // The class of the members.
+    pub(crate) class: usize,
+    // The variables.
+    pub(crate) kids: Sequence<Kid>,
 }
 
 // A child to which its parent's ways are pushed.
@@ -52,117 +66,227 @@ struct Source {
 pub(crate) fn spread(
     alloc: Global,
     frame: &Frame,
-    kids: &[Sequence<Kid>],
+    groups: &[Group],
     family: &mut Family,
 ) -> Result<(), Memory>
     requires distinct { AreDistinct frame.now.named }
     requires family { IsFamily (length frame.now.named) family.old }
-    requires kids { AreKidsOf family.old kids.now }
+    requires groups { AreGroups family.old groups.now }
     ensures same { OnOk result (AreSameMembers family.old family.new) }
     ensures family { OnOk result (IsFamily (length frame.now.named) family.new) }
     ensures told { OnOk result ((lines : List Arrow) → IsToldFamily frame.now.named frame.now.flips.items lines family.old →
         IsToldFamily frame.now.named frame.now.flips.items lines family.new) }
 {
-    let mut due = vec![in alloc; true; kids.len()]?;
-    for _ in 0..PASSES {
-        if !pass(alloc, frame, kids, family, &mut due)? {
+    let due = vec![in alloc; true; family.members.len()]?;
+    spread_from(alloc, frame, groups, family, due)
+}
+
+// Pushes within a family from the classes that are due, until nothing is added.
+pub(crate) fn spread_from(
+    alloc: Global,
+    frame: &Frame,
+    groups: &[Group],
+    family: &mut Family,
+    due: Vec<bool>,
+) -> Result<(), Memory>
+    requires distinct { AreDistinct frame.now.named }
+    requires family { IsFamily (length frame.now.named) family.old }
+    requires groups { AreGroups family.old groups.now }
+    requires due { length due.items ≡ length family.old.members.items }
+    ensures same { OnOk result (AreSameMembers family.old family.new) }
+    ensures family { OnOk result (IsFamily (length frame.now.named) family.new) }
+    ensures told { OnOk result ((lines : List Arrow) → IsToldFamily frame.now.named frame.now.flips.items lines family.old →
+        IsToldFamily frame.now.named frame.now.flips.items lines family.new) }
+{
+    let mut due = due;
+    for pass in 0..PASSES {
+        let mut next = vec![in alloc; false; due.len()]?;
+        sweep_due(
+            alloc,
+            family,
+            &due,
+            pass % BETWEEN == BETWEEN - 1,
+            &mut next,
+        )?;
+        push_due(alloc, frame, groups, family, &due, &mut next)?;
+        if !next.contains(&true) {
             return Ok(());
         }
+        due = next;
     }
     Ok(())
 }
 
-// Pushes once from each class that is due. Whether something was added.
-fn pass(
+// Takes in what the steps of the classes lead to that are due, and flags those in which a way became shorter.
+fn sweep_due(
     alloc: Global,
-    frame: &Frame,
-    kids: &[Sequence<Kid>],
     family: &mut Family,
-    due: &mut Vec<bool>,
-) -> Result<bool, Memory>
-    requires distinct { AreDistinct frame.now.named }
-    requires family { IsFamily (length frame.now.named) family.old }
-    requires kids { AreKidsOf family.old kids.now }
-    requires due { length due.old.items ≡ length family.old.members.items }
-    ensures due { OnOk result (length due.new.items ≡ length due.old.items) }
+    due: &[bool],
+    prunes: bool,
+    next: &mut Vec<bool>,
+) -> Result<(), Memory>
+    requires family { (count : ℕ) × IsFamily count family.old }
+    requires due { length due.now ≡ length family.old.members.items }
+    requires next { length next.old.items ≡ length family.old.members.items }
+    ensures next { OnOk result (length next.new.items ≡ length next.old.items) }
     ensures same { OnOk result (AreSameMembers family.old family.new) }
-    ensures family { OnOk result (IsFamily (length frame.now.named) family.new) }
-    ensures told { OnOk result ((lines : List Arrow) → IsToldFamily frame.now.named frame.now.flips.items lines family.old →
-        IsToldFamily frame.now.named frame.now.flips.items lines family.new) }
+    ensures family { OnOk result ((count : ℕ) → IsFamily count family.old → IsFamily count family.new) }
+    ensures told { OnOk result ((known : List Variable) (flips : List Bool) (lines : List Arrow) →
+        IsToldFamily known flips lines family.old → IsToldFamily known flips lines family.new) }
 {
-    let mut any = false;
-    for class in 0..kids.len() {
-        if push_due(alloc, frame, kids[class].items(), family, class, due)? {
-            any = true;
-        }
+    for class in 0..due.len() {
+        sweep_at(alloc, family, class, due[class], prunes, next)?;
     }
-    Ok(any)
+    Ok(())
 }
 
-// Pushes from a class, if it is due. Whether something was added.
+// Takes in what the steps of a class lead to, if it is due, and flags it, if a way became shorter.
+fn sweep_at(
+    alloc: Global,
+    family: &mut Family,
+    class: usize,
+    due: bool,
+    prunes: bool,
+    next: &mut Vec<bool>,
+) -> Result<(), Memory>
+    requires family { (count : ℕ) × IsFamily count family.old }
+    requires class { class < length family.old.members.items }
+    requires next { length next.old.items ≡ length family.old.members.items }
+    ensures next { OnOk result (length next.new.items ≡ length next.old.items) }
+    ensures same { OnOk result (AreSameMembers family.old family.new) }
+    ensures family { OnOk result ((count : ℕ) → IsFamily count family.old → IsFamily count family.new) }
+    ensures told { OnOk result ((known : List Variable) (flips : List Bool) (lines : List Arrow) →
+        IsToldFamily known flips lines family.old → IsToldFamily known flips lines family.new) }
+{
+    if !due {
+        return Ok(());
+    }
+    if sweep_class(alloc, family, class, prunes)? {
+        next[class] = true;
+    }
+    Ok(())
+}
+
+// Takes in what the steps of a class lead to, and may forget those without which its ways are as short. Whether a way became
+// shorter, or may have become so.
+fn sweep_class(
+    alloc: Global,
+    family: &mut Family,
+    class: usize,
+    prunes: bool,
+) -> Result<bool, Memory>
+    requires family { (count : ℕ) × IsFamily count family.old }
+    requires class { class < length family.old.members.items }
+    ensures same { OnOk result (AreSameMembers family.old family.new) }
+    ensures family { OnOk result ((count : ℕ) → IsFamily count family.old → IsFamily count family.new) }
+    ensures told { OnOk result ((known : List Variable) (flips : List Bool) (lines : List Arrow) →
+        IsToldFamily known flips lines family.old → IsToldFamily known flips lines family.new) }
+{
+    if prunes {
+        family.close(alloc, class)?;
+        return Ok(true);
+    }
+    family.sweep(alloc, class)
+}
+
+// Pushes once from each class that is due, and flags those to which something was added.
 fn push_due(
     alloc: Global,
     frame: &Frame,
-    kids: &[Kid],
+    groups: &[Group],
     family: &mut Family,
-    class: usize,
-    due: &mut Vec<bool>,
-) -> Result<bool, Memory>
+    due: &[bool],
+    next: &mut Vec<bool>,
+) -> Result<(), Memory>
     requires distinct { AreDistinct frame.now.named }
     requires family { IsFamily (length frame.now.named) family.old }
-    requires class { class < length family.old.members.items }
-    requires kids { AreKids (members_of family.old class) kids.now }
-    requires due { length due.old.items ≡ length family.old.members.items }
-    ensures due { OnOk result (length due.new.items ≡ length due.old.items) }
+    requires groups { AreGroups family.old groups.now }
+    requires next { length next.old.items ≡ length family.old.members.items }
+    ensures next { OnOk result (length next.new.items ≡ length next.old.items) }
     ensures same { OnOk result (AreSameMembers family.old family.new) }
     ensures family { OnOk result (IsFamily (length frame.now.named) family.new) }
     ensures told { OnOk result ((lines : List Arrow) → IsToldFamily frame.now.named frame.now.flips.items lines family.old →
         IsToldFamily frame.now.named frame.now.flips.items lines family.new) }
 {
-    if !due[class] || kids.is_empty() {
-        return Ok(false);
+    for group in groups {
+        push_at(alloc, frame, group, family, due, next)?;
     }
-    due[class] = false;
-    family.close(alloc, class)?;
-    push_class(alloc, frame, kids, family, class, due)
+    Ok(())
 }
 
-// Pushes from the ways of a class within its family. Whether something was added.
-fn push_class(
+// Pushes from the ways of a class to the variables of a group, within its family, if the class is due.
+fn push_at(
     alloc: Global,
     frame: &Frame,
-    kids: &[Kid],
+    group: &Group,
     family: &mut Family,
-    class: usize,
-    due: &mut Vec<bool>,
-) -> Result<bool, Memory>
+    due: &[bool],
+    next: &mut Vec<bool>,
+) -> Result<(), Memory>
     requires distinct { AreDistinct frame.now.named }
     requires family { IsFamily (length frame.now.named) family.old }
-    requires class { class < length family.old.members.items }
-    requires kids { AreKids (members_of family.old class) kids.now }
-    requires due { length due.old.items ≡ length family.old.members.items }
-    ensures due { OnOk result (length due.new.items ≡ length due.old.items) }
+    requires group { IsGroup family.old group.now }
+    requires next { length next.old.items ≡ length family.old.members.items }
+    ensures next { OnOk result (length next.new.items ≡ length next.old.items) }
     ensures same { OnOk result (AreSameMembers family.old family.new) }
     ensures family { OnOk result (IsFamily (length frame.now.named) family.new) }
     ensures told { OnOk result ((lines : List Arrow) → IsToldFamily frame.now.named frame.now.flips.items lines family.old →
         IsToldFamily frame.now.named frame.now.flips.items lines family.new) }
 {
-    let members = family.members[class].items().to_vec(alloc)?;
-    let mut any = false;
-    for kid in kids {
-        if push_within(
-            alloc, frame, &members, kids, *kid, false, family, class, due,
-        )? {
-            any = true;
-        }
-        if push_within(alloc, frame, &members, kids, *kid, true, family, class, due)? {
-            any = true;
-        }
+    match due.get(group.class) {
+        Some(true) => push_group(alloc, frame, group, family, next),
+        Some(false) | None => Ok(()),
     }
-    Ok(any)
 }
 
-// Pushes from the ways of a member's state within its family. Whether something was added.
+// Pushes from the ways of a class to the variables of a group, within its family.
+fn push_group(
+    alloc: Global,
+    frame: &Frame,
+    group: &Group,
+    family: &mut Family,
+    next: &mut Vec<bool>,
+) -> Result<(), Memory>
+    requires distinct { AreDistinct frame.now.named }
+    requires family { IsFamily (length frame.now.named) family.old }
+    requires group { IsGroup family.old group.now }
+    requires next { length next.old.items ≡ length family.old.members.items }
+    ensures next { OnOk result (length next.new.items ≡ length next.old.items) }
+    ensures same { OnOk result (AreSameMembers family.old family.new) }
+    ensures family { OnOk result (IsFamily (length frame.now.named) family.new) }
+    ensures told { OnOk result ((lines : List Arrow) → IsToldFamily frame.now.named frame.now.flips.items lines family.old →
+        IsToldFamily frame.now.named frame.now.flips.items lines family.new) }
+{
+    let members = family.members[group.class].items().to_vec(alloc)?;
+    let kids = group.kids.items();
+    for kid in kids {
+        push_within(
+            alloc,
+            frame,
+            &members,
+            kids,
+            *kid,
+            false,
+            family,
+            group.class,
+            next,
+        )?;
+        push_within(
+            alloc,
+            frame,
+            &members,
+            kids,
+            *kid,
+            true,
+            family,
+            group.class,
+            next,
+        )?;
+    }
+    Ok(())
+}
+
+// Pushes from the ways of a member's state within its family, and flags the class to which something was added.
 fn push_within(
     alloc: Global,
     frame: &Frame,
@@ -172,16 +296,16 @@ fn push_within(
     contra: bool,
     family: &mut Family,
     class: usize,
-    due: &mut Vec<bool>,
-) -> Result<bool, Memory>
+    next: &mut Vec<bool>,
+) -> Result<(), Memory>
     requires distinct { AreDistinct frame.now.named }
     requires family { IsFamily (length frame.now.named) family.old }
     requires class { class < length family.old.members.items }
     requires members { members.now ≡ members_of family.old class }
     requires kids { AreKids members.now kids.now }
     requires kid { kid.parent < length members.now }
-    requires due { length due.old.items ≡ length family.old.members.items }
-    ensures due { OnOk result (length due.new.items ≡ length due.old.items) }
+    requires next { length next.old.items ≡ length family.old.members.items }
+    ensures next { OnOk result (length next.new.items ≡ length next.old.items) }
     ensures same { OnOk result (AreSameMembers family.old family.new) }
     ensures family { OnOk result (IsFamily (length frame.now.named) family.new) }
     ensures told { OnOk result ((lines : List Arrow) → IsToldFamily frame.now.named frame.now.flips.items lines family.old →
@@ -190,26 +314,23 @@ fn push_within(
     let row = family.grids[class]
         .row(place(kid.parent, contra))
         .to_vec(alloc)?;
-    let Some(changed) = push_kid(alloc, frame, members, kids, kid, contra, &row, family)? else {
-        return Ok(false);
-    };
-    due[changed] = true;
-    Ok(true)
+    if let Some(changed) = push_kid(alloc, frame, members, kids, kid, contra, &row, family)? {
+        next[changed] = true;
+    }
+    Ok(())
 }
 
-// Pushes from the ways of a class into another family.
+// Pushes from the ways of a class to the variables of a group, in another family.
 pub(crate) fn push_apart(
     alloc: Global,
     frame: &Frame,
-    kids: &[Kid],
+    group: &Group,
     family: &Family,
-    class: usize,
     into: &mut Family,
 ) -> Result<(), Memory>
     requires distinct { AreDistinct frame.now.named }
     requires family { IsFamily (length frame.now.named) family.now }
-    requires class { class < length family.now.members.items }
-    requires kids { AreKids (members_of family.now class) kids.now }
+    requires group { IsGroup family.now group.now }
     requires into { IsFamily (length frame.now.named) into.old }
     ensures same { OnOk result (AreSameMembers into.old into.new) }
     ensures family { OnOk result (IsFamily (length frame.now.named) into.new) }
@@ -217,9 +338,10 @@ pub(crate) fn push_apart(
         IsToldFamily frame.now.named frame.now.flips.items lines into.old →
         IsToldFamily frame.now.named frame.now.flips.items lines into.new) }
 {
+    let kids = group.kids.items();
     for kid in kids {
-        push_beyond(alloc, frame, kids, *kid, false, family, class, into)?;
-        push_beyond(alloc, frame, kids, *kid, true, family, class, into)?;
+        push_beyond(alloc, frame, kids, *kid, false, family, group.class, into)?;
+        push_beyond(alloc, frame, kids, *kid, true, family, group.class, into)?;
     }
     Ok(())
 }

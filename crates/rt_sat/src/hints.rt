@@ -1,30 +1,38 @@
 // Edges that are pushed from ways along others, found by tables of bytes. Nothing says that these are all, so searches go on
 // from them.
-ghost use Rattle.std.specs.Prelude.{◌≡◌, ◌*◌, ◌<◌, ◌≤◌, ℕ, [], List, Bool, Contains, IfOk, OnOk};
-ghost use Rattle.std.specs.Prelude.{length, slice_index_or};
+ghost use Rattle.std.specs.Prelude.{◌≡◌, ◌∷◌, ◌++◌, ◌*◌, ◌<◌, ◌≤◌, ℕ, [], List, Bool, Contains, IfOk, OnOk, length};
 ghost use Rattle.rt_lines.specs.declared.variable.Dtv.{Dtv as Variable};
 ghost use Rattle.rt_sat.specs.declared.state.Edge.{Edge as Arrow};
 ghost use Rattle.rt_grid.specs.Tables.{size_of};
-ghost use Rattle.rt_sat.specs.Hints.{state_at, AreKidsOf, AreMore, AreSameMembers, AreTold, IsFamily, IsOfStep};
+ghost use Rattle.rt_sat.specs.declared.family.Family.{Family as Classes};
+ghost use Rattle.rt_sat.specs.Hints.{state_at, AreGroups, AreMore, AreSameMembers, AreTold, IsFamily, IsKid, IsOfStep};
 ghost use Rattle.rt_sat.specs.Hints.{IsStepFrom, IsStepOf, IsTold, IsToldFamily};
 ghost use Rattle.rt_sat.specs.Checks.{AreWalked};
 ghost use Rattle.rt_sat.specs.Numbered.{AreDistinct, AreWithin};
 
 use crate::count::Count;
 use crate::family::{Family, class_count};
-use crate::gathering::{Kid, push_apart, spread};
+use crate::gathering::{Group, Kid, push_apart, spread};
 use crate::pushing::{Frame, flag};
 use crate::state::{Edge, State};
 use rt_base::{Memory, Sequence};
 use rt_grid::{Grid, Step};
+use rt_lines::{Label, Loc};
 use rt_named::Origin;
 use std::alloc::Global;
+use std::collections::BTreeMap;
 
 // From so many edges of lines on it pays to look for hints.
 pub(crate) const MANY: usize = 200;
 
 // A class with no member with a letter more is looked at too, if it has no more members.
 const SMALL: usize = 500;
+
+// A number for what letters have in common, and what they have of their own.
+type Kind = (u8, u32, i32);
+
+// The group of each class and kind of letters.
+type Places = BTreeMap<(usize, Kind), usize>;
 
 // Pushed edges. The error is want of memory.
 pub(crate) fn hints(alloc: Global, frame: &Frame, lines: &[Edge]) -> Result<Vec<Edge>, Memory>
@@ -39,9 +47,9 @@ pub(crate) fn hints(alloc: Global, frame: &Frame, lines: &[Edge]) -> Result<Vec<
     let above = above(alloc, frame)?;
     let mut family = Family::of(alloc, &frame.nodes, &above)?;
     enter_lines(alloc, &mut family, lines)?;
-    let kids = kids(alloc, frame, &family)?;
-    spread(alloc, frame, &kids, &mut family)?;
-    let edges = pushed(alloc, frame, &kids, &family)?;
+    let groups = groups(alloc, frame, &family)?;
+    spread(alloc, frame, &groups, &mut family)?;
+    let edges = pushed(alloc, frame, &groups, &family)?;
     Ok(edges)
 }
 
@@ -52,6 +60,9 @@ pub(crate) fn enter_lines(alloc: Global, family: &mut Family, lines: &[Edge]) ->
     ensures family { OnOk result ((count : ℕ) → IsFamily count family.old → IsFamily count family.new) }
     ensures told { OnOk result ((known : List Variable) (flips : List Bool) → IsToldFamily known flips lines.now family.old →
         IsToldFamily known flips lines.now family.new) }
+    ensures among { OnOk result ((known : List Variable) (flips : List Bool) (edges : List Arrow) →
+        ((e : Arrow) → Contains lines.now e → Contains edges e) → IsToldFamily known flips edges family.old →
+        IsToldFamily known flips edges family.new) }
     ensures walked { OnOk result ((edges : List Arrow) → ((e : Arrow) → Contains lines.now e → Contains edges e) →
         AreWalked family.old edges → AreWalked family.new edges) }
 {
@@ -152,74 +163,118 @@ fn is_small(sizes: &[usize], node: Option<u32>) -> bool {
     }
 }
 
-// By class the variables with a letter more than its members.
-fn kids(alloc: Global, frame: &Frame, family: &Family) -> Result<Vec<Sequence<Kid>>, Memory>
+// The variables with a letter more than members of classes, in groups.
+pub(crate) fn groups(alloc: Global, frame: &Frame, family: &Family) -> Result<Vec<Group>, Memory>
     requires { (count : ℕ) × IsFamily count family.now }
-    ensures { IfOk result (λ kids. AreKidsOf family.now kids.items) }
+    ensures { IfOk result (λ groups. AreGroups family.now groups.items) }
 {
-    let mut kids = no_kids(alloc, family.members.len())?;
+    let mut places = BTreeMap::new(alloc);
+    let mut groups = Vec::new(alloc);
     for number in 0..frame.named.len() {
-        enter_kid(frame, family, &mut kids, number as u32)?;
+        enter_kid(
+            alloc,
+            frame,
+            family,
+            &mut places,
+            &mut groups,
+            number as u32,
+        )?;
     }
-    Ok(kids)
+    Ok(groups)
 }
 
-// So many lists of none.
-fn no_kids(alloc: Global, count: usize) -> Result<Vec<Sequence<Kid>>, Memory>
-    ensures each { IfOk result (λ none. length none.items ≡ count) }
-    ensures none { IfOk result (λ none. (class : ℕ) → slice_index_or none.items class [] ≡ []) }
-{
-    let mut none = Vec::new(alloc);
-    while none.len() < count {
-        none.push(Sequence::new(alloc))?;
-    }
-    Ok(none)
-}
-
-// Puts a variable behind those of its parent's class.
+// Puts a variable into its group, if it has a letter more than a member of a class.
 fn enter_kid(
+    alloc: Global,
     frame: &Frame,
     family: &Family,
-    kids: &mut Vec<Sequence<Kid>>,
+    places: &mut Places,
+    groups: &mut Vec<Group>,
     number: u32,
 ) -> Result<(), Memory>
     requires number { number < length frame.now.named }
     requires family { (count : ℕ) × IsFamily count family.now }
-    requires kids { AreKidsOf family.now kids.old.items }
-    ensures { OnOk result (AreKidsOf family.now kids.new.items) }
+    requires groups { AreGroups family.now groups.old.items }
+    ensures { OnOk result (AreGroups family.now groups.new.items) }
 {
-    let Origin::Longer(parent, _) = frame.named.origin(number) else {
+    let Origin::Longer(parent, letter) = frame.named.origin(number) else {
         return Ok(());
     };
     let state = State {
         variable: parent,
         contra: false,
     };
-    if let Some(home) = family.home(state) {
-        kids[home.class].push(Kid {
-            parent: home.index / 2,
-            variable: number,
-        })?;
+    let Some(home) = family.home(state) else {
+        return Ok(());
+    };
+    let kid = Kid {
+        parent: home.index / 2,
+        variable: number,
+    };
+    put_kid(alloc, places, groups, home.class, kind(letter), kid)
+}
+
+// Puts a variable into the group of a class and a kind of letters.
+fn put_kid(
+    alloc: Global,
+    places: &mut Places,
+    groups: &mut Vec<Group>,
+    class: usize,
+    kind: Kind,
+    kid: Kid,
+) -> Result<(), Memory>
+    ensures { OnOk result ((family : Classes) → IsKid family class kid → AreGroups family groups.old.items →
+        AreGroups family groups.new.items) }
+{
+    if let Some(place) = places.get(&(class, kind)) {
+        let place = *place;
+        if place < groups.len() && groups[place].class == class {
+            join(&mut groups[place], kid)?;
+            return Ok(());
+        }
     }
+    places.insert((class, kind), groups.len())?;
+    let mut kids = Sequence::new(alloc);
+    kids.push(kid)?;
+    groups.push(Group { class, kids })?;
     Ok(())
+}
+
+// Puts a variable behind those of a group.
+fn join(group: &mut Group, kid: Kid) -> Result<(), Memory>
+    ensures class { OnOk result (group.new.class ≡ group.old.class) }
+    ensures kids { OnOk result (group.new.kids ≡ group.old.kids ++ kid ∷ []) }
+{
+    group.kids.push(kid)
+}
+
+// What a letter has in common with those to which something is pushed from it.
+fn kind(letter: Label) -> Kind {
+    match letter {
+        Label::In(Loc::Arg(n)) => (0, u32::from(n), 0),
+        Label::In(Loc::Stack(offset)) => (1, offset, 0),
+        Label::Out(n) => (2, u32::from(n), 0),
+        Label::Load | Label::Store => (3, 0, 0),
+        Label::Field(bits, offset) => (4, u32::from(bits), offset),
+    }
 }
 
 // The edges that are pushed from the ways of a family, without spare ones.
 fn pushed(
     alloc: Global,
     frame: &Frame,
-    kids: &[Sequence<Kid>],
+    groups: &[Group],
     family: &Family,
 ) -> Result<Vec<Edge>, Memory>
     requires distinct { AreDistinct frame.now.named }
     requires nodes { length frame.now.nodes.items ≡ length frame.now.named }
     requires family { IsFamily (length frame.now.named) family.now }
-    requires kids { AreKidsOf family.now kids.now }
+    requires groups { AreGroups family.now groups.now }
     ensures told { IfOk result (λ edges. (lines : List Arrow) → IsToldFamily frame.now.named frame.now.flips.items lines family.now →
         AreTold frame.now.named frame.now.flips.items lines edges.items) }
     ensures within { IfOk result (λ edges. AreWithin frame.now.named edges.items) }
 {
-    let mut pushed = pushed_ways(alloc, frame, kids, family)?;
+    let mut pushed = pushed_ways(alloc, frame, groups, family)?;
     let edges = edges_of(alloc, &mut pushed)?;
     Ok(edges)
 }
@@ -228,13 +283,13 @@ fn pushed(
 fn pushed_ways(
     alloc: Global,
     frame: &Frame,
-    kids: &[Sequence<Kid>],
+    groups: &[Group],
     family: &Family,
 ) -> Result<Family, Memory>
     requires distinct { AreDistinct frame.now.named }
     requires nodes { length frame.now.nodes.items ≡ length frame.now.named }
     requires family { IsFamily (length frame.now.named) family.now }
-    requires kids { AreKidsOf family.now kids.now }
+    requires groups { AreGroups family.now groups.now }
     ensures family { IfOk result (λ pushed. IsFamily (length frame.now.named) pushed) }
     ensures told { IfOk result (λ pushed. (lines : List Arrow) →
         IsToldFamily frame.now.named frame.now.flips.items lines family.now →
@@ -242,15 +297,8 @@ fn pushed_ways(
 {
     let below = below(alloc, frame)?;
     let mut pushed = Family::of(alloc, &frame.nodes, &below)?;
-    for class in 0..kids.len() {
-        push_apart(
-            alloc,
-            frame,
-            kids[class].items(),
-            family,
-            class,
-            &mut pushed,
-        )?;
+    for group in groups {
+        push_apart(alloc, frame, group, family, &mut pushed)?;
     }
     Ok(pushed)
 }

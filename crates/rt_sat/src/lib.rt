@@ -14,6 +14,7 @@ mod entering;
 mod family;
 mod gathering;
 mod hints;
+mod increments;
 mod indexing;
 mod judging;
 pub mod laws;
@@ -28,6 +29,7 @@ mod table;
 mod weights;
 
 pub use count::Count;
+pub use increments::GrowingTable;
 pub use judging::derives;
 pub use state::{Edge, State};
 pub use table::{Table, saturated};

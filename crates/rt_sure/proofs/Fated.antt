@@ -1,25 +1,21 @@
 -- What becomes of lines, said one by one.
-use Rattle.std.proofs.Common.{◌≡◌, ◌≢◌, ◌⊎◌, ◌↔◌, ℕ, zero, suc, ◌+◌, ◌<◌, ◌≤◌, inl, inr, List, [], ◌∷◌, ◌++◌, All, Contains, Bool, false}
+use Rattle.std.proofs.Common.{◌≡◌, ◌≢◌, ◌⊎◌, ◌↔◌, ℕ, zero, suc, ◌+◌, ◌<◌, ◌≤◌, inl, inr, List, [], ◌∷◌, ◌++◌, Contains, Bool, false}
 use Rattle.std.proofs.Common.{Some, length, get_or, refl, sym, ap, subst, ◌∙◌, arith}
 use Rattle.std.specs.Prelude.{slice_get}
 use Rattle.std.proofs.lemmas.List.{get_or_past, length-append}
-use Rattle.std.proofs.lemmas.List.Elements.{All-contains}
+use Rattle.std.proofs.lemmas.List.Elements.{Contains-push_cases}
 use Rattle.std.proofs.lemmas.Option.{get_or_from_slice_get, slice_get-get_or}
-use Rattle.rt_lines.specs.declared.variable.Dtv.{Dtv}
 use Rattle.rt_lines.specs.declared.line.Line.{Line}
-use Rattle.rt_lines.specs.Lines.{HasConstantsBelow}
 use Rattle.rt_lines.specs.Orders.{Below}
-use Rattle.rt_rules.specs.Rules.{Derivable, HasSide}
+use Rattle.rt_rules.specs.Rules.{Derivable}
 use Rattle.rt_rules.proofs.Carry.{given}
 use Rattle.rt_rules.proofs.Covering.{derives_more}
-use Rattle.rt_base.proofs.Lists.{All-from_contains}
-use Rattle.rt_named.specs.Naming.{named as named_by}
-use Rattle.rt_outline.specs.Lines.{Lined, standing}
-use Rattle.rt_sat.proofs.Frames.{side_named}
+use Rattle.rt_outline.specs.Lines.{standing}
+use Rattle.rt_sat.specs.declared.increments.GrowingTable.{GrowingTable as Growing}
+use Rattle.rt_sat.specs.Increments.{IsAdded, Tells}
 use Rattle.rt_sure.specs.declared.fate.Fate.{Fate}
 use Rattle.rt_sure.specs.declared.fate.Fate.TheVariants.{Stays, Goes, Open}
 use Rattle.rt_sure.specs.Fates.{fate_at, AreGoing, AreStaying, AreSure, IsSure, IsOpenOr}
-use Rattle.rt_sure.proofs.Bounded.{line_in}
 
 -- a fate that is put behind others
 abbrev pub IsPushed : List Fate → Fate → ℕ → Type 0
@@ -68,21 +64,69 @@ cases a b = grind arith
 abbrev pub AreSameTo : List Fate → List Fate → ℕ → Type 0
 AreSameTo fates staying count = (j : ℕ) → j < count → fate_at fates j ≡ Stays ↔ fate_at staying j ≡ Stays
 
--- those that go so far are derived by the lines that are given
-abbrev pub DoGo : Below → List Line → List Line → List Fate → Type 0
-DoGo order lines sure fates = (j : ℕ) (l : Line) → slice_get lines j ≡ Some l → fate_at fates j ≡ Goes → Derivable order sure l
+module _ (lines : List Line) (kept : List Bool) (staying : List Fate) where
+  -- each of the lines is kept, or stays, or stands before an index
+  abbrev pub AreSureTo : ℕ → List Line → Type 0
+  AreSureTo i told = (m : Line) → Contains told m → (j : ℕ) × (slice_get lines j ≡ Some m) × (IsSure kept staying j ⊎ (j < i))
 
-pub more_go : (order : Below) (lines sure : List Line) (fates new : List Fate) (i : ℕ) (f : Fate) (line : Line) → new ≡ fates ++ f ∷ [] →
-    length fates ≡ i → slice_get lines i ≡ Some line → (f ≡ Goes → Derivable order sure line) → DoGo order lines sure fates →
-    DoGo order lines sure new
-more_go order lines sure fates new i f line is long here goes are j l at e = by (pushed fates f j) (ap (λ xs. fate_at xs j) (sym is) ∙ e)
-  where
-    by : IsPushed fates f j → fate_at (fates ++ f ∷ []) j ≡ Goes → Derivable order sure l
-    by (inl p) g = are j l at (sym p.1 ∙ g)
-    by (inr p) g =
-        let again : slice_get lines i ≡ Some l = subst (λ n. slice_get lines n ≡ Some l) (p.0 ∙ long) at in
-        let same : line ≡ l = cc in
-        subst (Derivable order sure) same (goes (sym p.1 ∙ g))
+  -- such lines derive the line
+  abbrev pub IsGone : ℕ → Line → Type 0
+  IsGone i l = (order : Below) → (told : List Line) × AreSureTo i told × Derivable order told l
+
+  -- those that go so far
+  abbrev pub DoGo : List Fate → Type 0
+  DoGo fates = (i : ℕ) (l : Line) → slice_get lines i ≡ Some l → fate_at fates i ≡ Goes → IsGone i l
+
+  pub none_go : (fates : List Fate) → fates ≡ [] → DoGo fates
+  none_go fates e i l at f = let g : Open ≡ Goes = sym (ap (λ fs. fate_at fs i) e) ∙ f in absurd (cc)
+
+  -- such lines are what the table tells of
+  abbrev pub IsTold : ℕ → Growing → Type 0
+  IsTold i growing = (told : List Line) × AreSureTo i told × Tells told growing
+
+  -- what the table tells of, before the first step
+  pub told_first : (sure : List Line) (growing : Growing) → AreSure lines kept staying sure → Tells sure growing → IsTold 0 growing
+  told_first sure growing are tells = (sure, λ m c. (let (j, at, s) = are m c in (j, at, inl s)), tells)
+
+  module _ (i : ℕ) (line : Line) (here : slice_get lines i ≡ Some line) where
+    sure_more : (told : List Line) → AreSureTo i told → AreSureTo (i + 1) told
+    sure_more told are m c = let (j, at, s) = are m c in (j, at, by j s)
+      where
+        by : (j : ℕ) → IsSure kept staying j ⊎ (j < i) → IsSure kept staying j ⊎ (j < i + 1)
+        by j (inl s) = inl s
+        by j (inr h) = inr (omega (arith, h))
+
+    sure_added : (told : List Line) → AreSureTo i told → AreSureTo (i + 1) (told ++ line ∷ [])
+    sure_added told are m c = by (Contains-push_cases told line m c)
+      where
+        by : Contains told m ⊎ (line ≡ m) → (j : ℕ) × (slice_get lines j ≡ Some m) × (IsSure kept staying j ⊎ (j < i + 1))
+        by (inl d) = sure_more told are m d
+        by (inr e) = (i, here ∙ ap Some e, inr (omega arith))
+
+    -- a step
+    pub told_next : (growing new : Growing) → IsTold i growing →
+        ((told : List Line) → Tells told growing → IsAdded told line new) → IsTold (i + 1) new
+    told_next growing new (told, are, tells) added = by (added told tells)
+      where
+        by : IsAdded told line new → IsTold (i + 1) new
+        by (inl t) = (told, sure_more told are, t)
+        by (inr t) = (told ++ line ∷ [], sure_added told are, t)
+
+    pub gone_here : (growing : Growing) → IsTold i growing →
+        ((order : Below) (told : List Line) → Tells told growing → Derivable order told line) → IsGone i line
+    gone_here growing (told, are, tells) derived = λ order. (told, are, derived order told tells)
+
+    pub more_go : (fates new : List Fate) (f : Fate) → new ≡ fates ++ f ∷ [] → length fates ≡ i → (f ≡ Goes → IsGone i line) →
+        DoGo fates → DoGo new
+    more_go fates new f is long goes are j l at e = by (pushed fates f j) (ap (λ xs. fate_at xs j) (sym is) ∙ e)
+      where
+        by : IsPushed fates f j → fate_at (fates ++ f ∷ []) j ≡ Goes → IsGone j l
+        by (inl p) g = are j l at (sym p.1 ∙ g)
+        by (inr p) g =
+            let same : j ≡ i = p.0 ∙ long in
+            let again : slice_get lines i ≡ Some l = subst (λ n. slice_get lines n ≡ Some l) same at in
+            let one : line ≡ l = cc in
+            subst (λ n. IsGone n l) (sym same) (subst (IsGone i) one (goes (sym p.1 ∙ g)))
 
 pub more_same : (fates new staying : List Fate) (i : ℕ) (f d : Fate) → new ≡ fates ++ f ∷ [] → length fates ≡ i → i < length staying →
     f ≡ Stays ↔ get_or staying i d ≡ Stays → AreSameTo fates staying i → AreSameTo new staying (i + 1)
@@ -111,39 +155,22 @@ whole_same fates staying long are j = by (cases j (length staying))
         let f : fate_at staying j ≡ Open = past staying j h in
         ((λ g. f ∙ sym e ∙ g), (λ g. e ∙ sym f ∙ g))
 
--- a list that has each line that is kept or stays derives what those derive that are given
-pub all_go : (order : Below) (lines : List Line) (kept : List Bool) (fates staying : List Fate) (sure : List Line) →
-    ((j : ℕ) → fate_at fates j ≡ Stays ↔ fate_at staying j ≡ Stays) → AreSure lines kept staying sure → DoGo order lines sure fates →
-    AreGoing order lines kept fates
-all_go order lines kept fates staying sure same are go i l at e left has =
-    derives_more order sure left (λ m c. given order left m (by m (are m c))) (go i l at e)
+-- a list that has each line that is kept or stays, and those before one that goes, derives it
+pub all_go : (order : Below) (lines : List Line) (kept : List Bool) (fates staying : List Fate) →
+    ((j : ℕ) → fate_at fates j ≡ Stays ↔ fate_at staying j ≡ Stays) → DoGo lines kept staying fates → AreGoing order lines kept fates
+all_go order lines kept fates staying same go i l at e left has before = from (go i l at e order)
   where
     as_before : (j : ℕ) → IsSure kept staying j → IsSure kept fates j
     as_before j (inl f) = inl f
     as_before j (inr f) = inr ((same j).1 f)
 
-    by : (m : Line) → (j : ℕ) × (slice_get lines j ≡ Some m) × IsSure kept staying j → Contains left m
-    by m (j, f, h) = has j m f (as_before j h)
+    by : (m : Line) (j : ℕ) → slice_get lines j ≡ Some m → IsSure kept staying j ⊎ (j < i) → Contains left m
+    by m j f (inl s) = has j m f (as_before j s)
+    by m j f (inr h) = before j m h f
 
--- the lines that are kept or stay are some of the lines
-pub sure_of : (lines : List Line) (kept : List Bool) (fates : List Fate) (sure : List Line) → AreSure lines kept fates sure → (m : Line) →
-    Contains sure m → Contains lines m
-sure_of lines kept fates sure are m c =
-    let r : (j : ℕ) × (slice_get lines j ≡ Some m) × IsSure kept fates j = are m c in line_in lines r.0 m r.1
-
-pub few_sure : (count : ℕ) (lines : List Line) (kept : List Bool) (fates : List Fate) (sure : List Line) →
-    All (HasConstantsBelow count) lines → AreSure lines kept fates sure → All (HasConstantsBelow count) sure
-few_sure count lines kept fates sure few are =
-    All-from_contains (HasConstantsBelow count) sure
-    (λ m c. All-contains (HasConstantsBelow count) lines m few (sure_of lines kept fates sure are m c))
-
--- the variables of lines are named by the ways between them
-pub ways_named : (lines : List Line) (extra : List Dtv) (ways : Lined) → ways ≡ record { lines = lines; named = named_by lines extra } →
-    (l : Line) (x : Dtv) → Contains ways.lines l → HasSide l x → Contains ways.named x
-ways_named lines extra ways e =
-    let same : ways.lines ≡ lines = ap (λ (w : Lined). w.lines) e in
-    let names : ways.named ≡ named_by lines extra = ap (λ (w : Lined). w.named) e in
-    side_named ways.lines extra ways.named (names ∙ ap (λ ls. named_by ls extra) (sym same))
+    from : (told : List Line) × AreSureTo lines kept staying i told × Derivable order told l → Derivable order left l
+    from (told, are, d) =
+        derives_more order told left (λ m c. given order left m (let (j, f, s) = are m c in by m j f s)) d
 
 pub more_long : (fates new : List Fate) (i : ℕ) (f : Fate) → new ≡ fates ++ f ∷ [] → length fates ≡ i → length new ≡ i + 1
 more_long fates new i f is long = ap length is ∙ length-append fates (f ∷ []) ∙ ap (λ n. n + 1) long

@@ -52,13 +52,13 @@ module _ (order : Below) (lines : List Line) (named : List Dtv) where
   at n z e = get_or_from_slice_get named n z no_variable e
 
   -- below each other by variables is so by numbers
-  to_numbers : (n m : ℕ) (x y : Dtv) → slice_get named n ≡ Some x → slice_get named m ≡ Some y → Derivable order lines (Sub x y) →
+  pub to_numbers : (n m : ℕ) (x y : Dtv) → slice_get named n ≡ Some x → slice_get named m ≡ Some y → Derivable order lines (Sub x y) →
       Derivable order lines (Sub (at_number named n) (at_number named m))
   to_numbers n m x y e f d =
       subst (λ z. Derivable order lines (Sub z (at_number named m))) (sym (at n x e))
       (subst (λ z. Derivable order lines (Sub x z)) (sym (at m y f)) d)
 
-  from_numbers : (n m : ℕ) (x y : Dtv) → slice_get named n ≡ Some x → slice_get named m ≡ Some y →
+  pub from_numbers : (n m : ℕ) (x y : Dtv) → slice_get named n ≡ Some x → slice_get named m ≡ Some y →
       Derivable order lines (Sub (at_number named n) (at_number named m)) → Derivable order lines (Sub x y)
   from_numbers n m x y e f d =
       subst (λ z. Derivable order lines (Sub z y)) (at n x e)

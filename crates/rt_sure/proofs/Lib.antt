@@ -6,3 +6,4 @@ pub mod Bounded
 pub mod Cleared
 pub mod Fated
 pub mod Leading
+pub mod Numbers

@@ -1,5 +1,5 @@
 -- What becomes of lines, whatever becomes of others.
-use Rattle.std.specs.Prelude.{◌≡◌, ℕ, ◌⊎◌, List, Contains, Bool, true, false, Some, slice_get, slice_index_or}
+use Rattle.std.specs.Prelude.{◌≡◌, ℕ, ◌<◌, ◌⊎◌, List, Contains, Bool, true, false, Some, slice_get, slice_index_or}
 use Rattle.rt_lines.specs.declared.line.Line.{Line}
 use Rattle.rt_lines.specs.Orders.{Below}
 use Rattle.rt_rules.specs.Rules.{Derivable}
@@ -25,11 +25,15 @@ IsSure kept fates i = (slice_index_or kept i false ≡ true) ⊎ (fate_at fates 
 abbrev pub HasSure : List Line → List Bool → List Fate → List Line → Type 0
 HasSure lines kept fates left = (j : ℕ) (m : Line) → slice_get lines j ≡ Some m → IsSure kept fates j → Contains left m
 
--- a line that goes follows from those that are kept or stay
+-- the list has each line before an index
+abbrev pub HasBefore : List Line → ℕ → List Line → Type 0
+HasBefore lines i left = (j : ℕ) (m : Line) → j < i → slice_get lines j ≡ Some m → Contains left m
+
+-- a line that goes follows from those that are kept or stay and those before it
 abbrev pub AreGoing : Below → List Line → List Bool → List Fate → Type 0
 AreGoing order lines kept fates =
     (i : ℕ) (l : Line) → slice_get lines i ≡ Some l → fate_at fates i ≡ Goes → (left : List Line) →
-    HasSure lines kept fates left → Derivable order left l
+    HasSure lines kept fates left → HasBefore lines i left → Derivable order left l
 
 -- the fate is open, or the given one
 abbrev pub IsOpenOr : Fate → Fate → Type 0

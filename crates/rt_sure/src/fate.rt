@@ -11,6 +11,7 @@ ghost use Rattle.rt_named.specs.Naming.{named as named_by};
 ghost use Rattle.rt_outline.specs.Lines.{standing};
 ghost use Rattle.rt_outline.specs.declared.led.Led.TheVariants.{No as Never, Yes as Always};
 ghost use Rattle.rt_shape.specs.Shapes.{IsShapeOf};
+ghost use Rattle.rt_sat.specs.Increments.{IsAdded, Tells};
 ghost use Rattle.rt_sat.specs.Tables.{AreThere};
 ghost use Rattle.rt_sure.specs.Fates.{fate_at, AreGoing, AreStaying, AreSure, IsOpenOr};
 ghost use Rattle.rt_sure.specs.declared.fate.Fate.TheVariants.{Stays as Staying, Goes as Going};
@@ -20,6 +21,7 @@ use crate::ways::Ways;
 use rt_base::Memory;
 use rt_lines::{Dtv, Line, Order};
 use rt_outline::Led;
+use rt_sat::GrowingTable;
 use rt_shape::Shape;
 use std::alloc::Global;
 
@@ -28,73 +30,55 @@ use std::alloc::Global;
 pub enum Fate {
     /// However many of the other lines stand, they don't derive it.
     Stays,
-    /// The lines that are kept or stay derive it.
+    /// The lines that are kept or stay and those before it derive it.
     Goes,
     /// Neither is known.
     Open,
 }
 
-/// What becomes of the first lines, so many as the count says, where those whose flags are set are kept in any case. Of lines
-/// that are no `<=` lines and no bounds nothing is known. The error is want of memory.
+/// What becomes of the first lines of the ways, so many as the count says, where those whose flags are set are kept in any case.
+/// Only `<=` lines go; of lines that are no `<=` lines and no bounds nothing is known. The error is want of memory.
 pub fn fates(
     alloc: Global,
-    lines: &[Line],
+    ways: &Ways,
     kept: &[bool],
     count: usize,
     order: &Order,
 ) -> Result<Vec<Fate>, Memory>
-    requires within { count ≤ length lines.now }
-    requires each { length kept.now ≡ length lines.now }
-    requires constants { All (HasConstantsBelow order.now.count) lines.now }
+    requires named { ways.now.named ≡ named_by ways.now.lines [] }
+    requires within { count ≤ length ways.now.lines }
+    requires each { length kept.now ≡ length ways.now.lines }
+    requires constants { All (HasConstantsBelow order.now.count) ways.now.lines }
     ensures each { IfOk result (λ fates. length fates.items ≡ count) }
-    ensures staying { IfOk result (λ fates. AreStaying order.now lines.now fates.items) }
-    ensures going { IfOk result (λ fates. AreGoing order.now lines.now kept.now fates.items) }
+    ensures staying { IfOk result (λ fates. AreStaying order.now ways.now.lines fates.items) }
+    ensures going { IfOk result (λ fates. AreGoing order.now ways.now.lines kept.now fates.items) }
 {
-    let staying = staying(alloc, lines, count, order)?;
+    let staying = staying(alloc, ways, count, order)?;
+    let lines = ways.lines();
     if !has_open(lines, &staying) {
         return Ok(staying);
     }
     let sure = sure(alloc, lines, kept, &staying)?;
-    let fates = with_going(alloc, lines, kept, sure, &staying, order)?;
+    let fates = with_going(alloc, lines, kept, &sure, &staying)?;
     Ok(fates)
 }
 
 // Which of the first lines stay; of others nothing is said.
-fn staying(alloc: Global, lines: &[Line], count: usize, order: &Order) -> Result<Vec<Fate>, Memory>
-    requires within { count ≤ length lines.now }
-    requires constants { All (HasConstantsBelow order.now.count) lines.now }
+fn staying(alloc: Global, ways: &Ways, count: usize, order: &Order) -> Result<Vec<Fate>, Memory>
+    requires named { ways.now.named ≡ named_by ways.now.lines [] }
+    requires within { count ≤ length ways.now.lines }
+    requires constants { All (HasConstantsBelow order.now.count) ways.now.lines }
     ensures each { IfOk result (λ fates. length fates.items ≡ count) }
-    ensures staying { IfOk result (λ fates. AreStaying order.now lines.now fates.items) }
+    ensures staying { IfOk result (λ fates. AreStaying order.now ways.now.lines fates.items) }
     ensures others { IfOk result (λ fates. (i : ℕ) → IsOpenOr Staying (fate_at fates.items i)) }
 {
-    let ways = ways_of(alloc, lines)?;
-    let mut stands = vec![in alloc; true; lines.len()]?;
+    let mut stands = vec![in alloc; true; ways.lines().len()]?;
     let mut fates = Vec::with_capacity(alloc, count)?;
     for i in 0..count {
-        let fate = staying_at(alloc, &ways, &mut stands, order, i)?;
+        let fate = staying_at(alloc, ways, &mut stands, order, i)?;
         fates.push(fate)?;
     }
     Ok(fates)
-}
-
-// The ways between the variables that the lines name.
-fn ways_of(alloc: Global, lines: &[Line]) -> Result<Ways, Memory>
-    ensures { IfOk result (λ ways. ways ≡ record { lines = lines.now; named = named_by lines.now [] }) }
-{
-    let copies = copies(alloc, lines)?;
-    let ways = Ways::of(alloc, copies, &[])?;
-    Ok(ways)
-}
-
-// Equal lines.
-fn copies(alloc: Global, lines: &[Line]) -> Result<Vec<Line>, Memory>
-    ensures { IfOk result (λ copies. copies.items ≡ lines.now) }
-{
-    let mut copies = Vec::with_capacity(alloc, lines.len())?;
-    for line in lines {
-        copies.push(line.copy()?)?;
-    }
-    Ok(copies)
 }
 
 // Whether the line at the index stays, where all flags are set but the one that is cleared meanwhile.
@@ -123,23 +107,23 @@ fn staying_at(
     }
 }
 
-// Whether nothing is said of one of the first lines that is a `<=` line or a bound.
+// Whether nothing is said of one of the first lines that is a `<=` line.
 fn has_open(lines: &[Line], fates: &[Fate]) -> bool
     requires { length fates.now ≤ length lines.now }
 {
     for i in 0..fates.len() {
-        if fates[i] == Fate::Open && is_flow(&lines[i]) {
+        if fates[i] == Fate::Open && is_below(&lines[i]) {
             return true;
         }
     }
     false
 }
 
-// Whether the line is a `<=` line or a bound.
-fn is_flow(line: &Line) -> bool {
+// Whether the line is a `<=` line.
+fn is_below(line: &Line) -> bool {
     match line {
-        Line::Var(_) | Line::Same(_, _) => false,
-        Line::Sub(_, _) | Line::Low(_, _) | Line::Up(_, _) => true,
+        Line::Sub(_, _) => true,
+        Line::Var(_) | Line::Same(_, _) | Line::Low(_, _) | Line::Up(_, _) => false,
     }
 }
 
@@ -172,55 +156,51 @@ fn with_going(
     alloc: Global,
     lines: &[Line],
     kept: &[bool],
-    sure: Vec<Line>,
+    sure: &[Line],
     staying: &[Fate],
-    order: &Order,
 ) -> Result<Vec<Fate>, Memory>
     requires within { length staying.now ≤ length lines.now }
-    requires sure { AreSure lines.now kept.now staying.now sure.items }
-    requires constants { All (HasConstantsBelow order.now.count) lines.now }
+    requires sure { AreSure lines.now kept.now staying.now sure.now }
     ensures each { IfOk result (λ fates. length fates.items ≡ length staying.now) }
     ensures staying { IfOk result (λ fates. (i : ℕ) → fate_at fates.items i ≡ Staying ↔ fate_at staying.now i ≡ Staying) }
-    ensures going { IfOk result (λ fates. AreGoing order.now lines.now kept.now fates.items) }
+    ensures going { IfOk result (λ fates. (order : Below) → AreGoing order lines.now kept.now fates.items) }
 {
-    let extra = extra(alloc, &sure, lines, staying)?;
-    let stands = vec![in alloc; true; sure.len()]?;
-    let ways = Ways::of(alloc, sure, &extra)?;
+    let shape = rt_shape::of(alloc, sure)?;
+    let extra = extra(alloc, &shape, lines, staying)?;
+    let mut growing = GrowingTable::of(alloc, sure, &shape, &extra)?;
     let mut fates = Vec::with_capacity(alloc, staying.len())?;
     for i in 0..staying.len() {
-        let fate = going(alloc, &ways, &stands, order, &lines[i], staying[i])?;
+        let fate = going(alloc, &mut growing, &lines[i], staying[i])?;
         fates.push(fate)?;
     }
     Ok(fates)
 }
 
-// The sides of lines of which nothing is known, as far as they exist by the lines that are given.
-fn extra(alloc: Global, sure: &[Line], lines: &[Line], fates: &[Fate]) -> Result<Vec<Dtv>, Memory>
+// The sides of `<=` lines of which nothing is known, as far as they exist by the lines of the shape.
+fn extra(alloc: Global, shape: &Shape, lines: &[Line], fates: &[Fate]) -> Result<Vec<Dtv>, Memory>
     requires { length fates.now ≤ length lines.now }
-    ensures { IfOk result (λ extra. AreThere sure.now extra.items) }
+    ensures { IfOk result (λ extra. (sure : List Given) → IsShapeOf sure shape.now → AreThere sure extra.items) }
 {
-    let shape = rt_shape::of(alloc, sure)?;
     let mut extra = Vec::new(alloc);
     for i in 0..fates.len() {
         if fates[i] == Fate::Open {
-            add_sides(&shape, &mut extra, &lines[i])?;
+            add_sides(shape, &mut extra, &lines[i])?;
         }
     }
     Ok(extra)
 }
 
-// Adds the sides of a `<=` line or a bound that exist.
+// Adds the sides of a `<=` line that exist.
 fn add_sides(shape: &Shape, extra: &mut Vec<Dtv>, line: &Line) -> Result<(), Memory>
     ensures { OnOk result ((lines : List Given) → IsShapeOf lines shape.now → AreThere lines extra.old.items →
         AreThere lines extra.new.items) }
 {
     match line {
-        Line::Var(_) | Line::Same(_, _) => Ok(()),
+        Line::Var(_) | Line::Same(_, _) | Line::Low(_, _) | Line::Up(_, _) => Ok(()),
         Line::Sub(x, y) => {
             add_side(shape, extra, x)?;
             add_side(shape, extra, y)
         }
-        Line::Low(_, x) | Line::Up(x, _) => add_side(shape, extra, x),
     }
 }
 
@@ -235,31 +215,26 @@ fn add_side(shape: &Shape, extra: &mut Vec<Dtv>, x: &Dtv) -> Result<(), Memory>
     Ok(())
 }
 
-// The line goes, where nothing was known of it and ways between the variables of lines that are given lead along it.
-fn going(
-    alloc: Global,
-    ways: &Ways,
-    stands: &[bool],
-    order: &Order,
-    line: &Line,
-    fate: Fate,
-) -> Result<Fate, Memory>
-    requires named { (l : Given) (x : Variable) → Contains ways.now.lines l → HasSide l x → Contains ways.now.named x }
-    requires each { length stands.now ≡ length ways.now.lines }
-    requires constants { All (HasConstantsBelow order.now.count) ways.now.lines }
-    requires constant { HasConstantsBelow order.now.count line.now }
+// What becomes of a line where it is known whether it stays, and the table tells of lines that are kept or stay and of those
+// before it. If it is a `<=` line of which neither is known, it is added to the table.
+fn going(alloc: Global, growing: &mut GrowingTable, line: &Line, fate: Fate) -> Result<Fate, Memory>
+    requires { (told : List Given) × Tells told growing.old }
     ensures stays { IfOk result (λ now. now ≡ Staying ↔ fate ≡ Staying) }
-    ensures goes { IfOk result (λ now. now ≡ Going → Derivable order.now ways.now.lines line.now) }
+    ensures goes { IfOk result (λ now. now ≡ Going → (order : Below) (told : List Given) → Tells told growing.old →
+        Derivable order told line.now) }
+    ensures added { OnOk result ((told : List Given) → Tells told growing.old → IsAdded told line.now growing.new) }
 {
-    match fate {
-        Fate::Stays => Ok(Fate::Stays),
-        Fate::Goes | Fate::Open => {
-            match led(alloc, ways, stands, order, stands.len(), line)? {
-                Led::Yes => Ok(Fate::Goes),
-                Led::No | Led::Open => Ok(Fate::Open),
-            }
-        }
+    if fate == Fate::Stays {
+        return Ok(Fate::Stays);
     }
+    let Line::Sub(x, y) = line else {
+        return Ok(Fate::Open);
+    };
+    if growing.has(x, y) {
+        return Ok(Fate::Goes);
+    }
+    growing.add(alloc, line)?;
+    Ok(Fate::Open)
 }
 
 // Whether ways of lines that stand, but for the one at the index, lead along the line.

@@ -6,7 +6,8 @@ ghost use Rattle.rt_lines.specs.declared.variable.Dtv.{Dtv as Variable};
 ghost use Rattle.rt_lines.specs.Orders.{Below};
 ghost use Rattle.rt_rules.specs.Rules.{HasSide};
 ghost use Rattle.rt_named.specs.Naming.{named as named_by};
-ghost use Rattle.rt_outline.specs.Lines.{standing};
+ghost use Rattle.rt_outline.specs.Lines.{AreNumbers, standing};
+ghost use Rattle.rt_outline.specs.Lines.{HasBelow as HasVariableBelow};
 ghost use Rattle.rt_sat.specs.declared.state.Edge.{Edge as Arrow};
 ghost use Rattle.rt_sat.specs.Numbered.{AreWithin};
 ghost use Rattle.rt_sat.specs.Tables.{AreThere, HasBelow};
@@ -20,10 +21,10 @@ use rt_sat::{Edge, Table, saturated};
 use std::alloc::Global;
 use std::marker::Model;
 
-// Arcs between the variables that lines and others name, those of the lines and pushed ones. They lead from one to another
-// wherever some of the lines say that it lies below the other, and only where all lines say it.
+/// Arcs between the variables that lines and others name, those of the lines and pushed ones. They lead from one to another
+/// wherever some of the lines say that it lies below the other, and only where all lines say it.
 #[derive(Drop)]
-pub(crate) struct Ways {
+pub struct Ways {
     lines: Vec<Line>,
     named: Named,
     arcs: Vec<Sequence<Arc>>,
@@ -42,8 +43,8 @@ impl Model for Ways {
 }
 
 impl Ways {
-    // The arcs of the lines, between the variables that they and others name, which exist.
-    pub(crate) fn of(alloc: Global, lines: Vec<Line>, extra: &[Dtv]) -> Result<Ways, Memory>
+    /// The arcs of the lines, between the variables that they and others name, which exist. The error is want of memory.
+    pub fn of(alloc: Global, lines: Vec<Line>, extra: &[Dtv]) -> Result<Ways, Memory>
         requires { AreThere lines.items extra.now }
         ensures { IfOk result (λ ways. ways ≡ record { lines = lines.items; named = named_by lines.items extra.now }) }
     {
@@ -54,8 +55,8 @@ impl Ways {
         Ok(Ways { lines, named, arcs })
     }
 
-    // The lines.
-    pub(crate) fn lines(&self) -> &[Line]
+    /// The lines.
+    pub fn lines(&self) -> &[Line]
         ensures { result.now ≡ self.now.lines }
     {
         &self.lines
@@ -73,6 +74,22 @@ impl Ways {
         ensures { result.now ≡ self.now.named }
     {
         &self.named
+    }
+
+    /// Whether one of the variables lies below one of the others by the lines. All are named. The error is want of memory.
+    pub fn leads(&self, alloc: Global, from: &[Dtv], to: &[Dtv]) -> Result<bool, Memory>
+        requires from { (x : Variable) → Contains from.now x → Contains self.now.named x }
+        requires to { (x : Variable) → Contains to.now x → Contains self.now.named x }
+        ensures no { IfOk result (λ yes. yes ≡ false → (order : Below) →
+            HasVariableBelow order self.now.lines from.now to.now → ⊥) }
+        ensures yes { IfOk result (λ yes. yes ≡ true → (order : Below) →
+            HasVariableBelow order self.now.lines from.now to.now) }
+    {
+        let sources = numbers(alloc, &self.named, from)?;
+        let targets = numbers(alloc, &self.named, to)?;
+        let stands = vec![in alloc; true; self.lines.len()]?;
+        let yes = self.lead(alloc, &stands, &sources, &targets)?;
+        Ok(yes)
     }
 
     // Whether arcs of lines that stand, and pushed ones, lead from one of the numbers to one of the others.
@@ -93,6 +110,18 @@ impl Ways {
         let yes = may_lead(alloc, &self.arcs, stands, sources, targets)?;
         Ok(yes)
     }
+}
+
+// The numbers of named variables.
+fn numbers(alloc: Global, named: &Named, variables: &[Dtv]) -> Result<Vec<u32>, Memory>
+    requires { (x : Variable) → Contains variables.now x → Contains named.now x }
+    ensures { IfOk result (λ numbers. AreNumbers named.now variables.now numbers.items) }
+{
+    let mut numbers = Vec::with_capacity(alloc, variables.len())?;
+    for x in variables {
+        numbers.push(named.number(x))?;
+    }
+    Ok(numbers)
 }
 
 // The arcs of the lines, and of the edges that are pushed.

@@ -4,10 +4,10 @@ use Rattle.std.proofs.lemmas.List.{get_or_default}
 use Rattle.std.proofs.lemmas.Option.{IfSome_then}
 use Rattle.rt_lines.specs.declared.line.Line.{Line}
 use Rattle.rt_rules.specs.Rules.{Derivable}
-use Rattle.rt_reduce.specs.Deciding.{IsInnerFor, IsOuterFor}
+use Rattle.rt_reduce.specs.Deciding.{IsInnerFor, IsOuterFor, IsWaysFor}
 use Rattle.rt_witness.specs.Witnesses.{IsLeft}
 use Rattle.rt_reduce.proofs.Flags.{left_gone, outer_for}
-use Rattle.rt_reduce.proofs.Made.{inner_out}
+use Rattle.rt_reduce.proofs.Made.{inner_out, ways_out}
 use Rattle.rt_reduce.proofs.dropping.drop_at.Goals as goal
 
 pub is_derivable-requires-clause-outer : goal.is_derivable-requires-clause-outer
@@ -27,6 +27,14 @@ is_derivable-requires-clause-inner c =
     IfSome_then c.args.inner c.requires.inner (λ t is.
     subst (λ (ls : List Line). IsInnerFor c.args.order.now (line ∷ ls) t.now) (sym (c.deref-3.ensures.value ∙ c.remove-line.ensures.items))
     (inner_out c.args.order.now left c.args.place t.now is line c.requires.within c.remove-line.ensures.value))
+
+pub is_derivable-requires-clause-ways : goal.is_derivable-requires-clause-ways
+is_derivable-requires-clause-ways c =
+    let left = c.args.left.now.items in
+    let line = c.remove-line.result in
+    IfSome_then c.args.ways c.requires.ways (λ t are.
+    subst (λ (ls : List Line). IsWaysFor c.args.order.now (line ∷ ls) t.now) (sym (c.deref-3.ensures.value ∙ c.remove-line.ensures.items))
+    (ways_out c.args.order.now left c.args.place t.now are line c.requires.within c.remove-line.ensures.value))
 
 pub is_derivable-requires-clause-witnesses : goal.is_derivable-requires-clause-witnesses
 is_derivable-requires-clause-witnesses c =

@@ -6,12 +6,12 @@ use Rattle.std.proofs.lemmas.Option.{IfSome_then}
 use Rattle.rt_lines.specs.declared.line.Line.{Line}
 use Rattle.rt_lines.specs.Lines.{HasConstantsBelow}
 use Rattle.rt_named.specs.Naming.{named as named_by}
-use Rattle.rt_reduce.specs.Deciding.{AreStanding, AreWitnessed, IsInnerFor}
+use Rattle.rt_reduce.specs.Deciding.{AreStanding, AreWitnessed, IsInnerFor, IsWaysFor}
 use Rattle.rt_reduce.specs.Dropping.{AreFated, AreLeft, Decides, IsKeptOrGone, IsMoved, IsToldAt}
 use Rattle.rt_reduce.proofs.Fated.{fated_here, fated_next}
 use Rattle.rt_reduce.proofs.Flags.{first_standing, first_witnessed, moved_long, moved_standing}
 use Rattle.rt_reduce.proofs.Holes.{no_hole}
-use Rattle.rt_reduce.proofs.Made.{first_inner, inner_stays}
+use Rattle.rt_reduce.proofs.Made.{first_inner, first_ways, inner_stays, ways_stay}
 use Rattle.rt_reduce.proofs.Leaving.{AreLeft-next, left_below, left_long, left_stood}
 use Rattle.rt_reduce.proofs.Told.{told_left}
 use Rattle.rt_reduce.proofs.dropping.drop_from.Goals as goal
@@ -41,6 +41,7 @@ loop-alloc-init c =
           (λ t own. first_standing lines left stands from t.now own e s c.requires.within);
       witnessed = first_witnessed lines left stands from e s c.requires.within;
       inner = IfSome_then c.args.inner c.requires.inner (λ t is. first_inner c.args.order.now lines left t.now is e);
+      ways = IfSome_then c.args.ways c.requires.ways (λ t own. first_ways c.args.order.now lines left t.now own e);
     }
 
 pub drop_before-requires-clause-fated : goal.drop_before-requires-clause-fated
@@ -88,6 +89,13 @@ drop_before-requires-clause-inner c =
     let e : place ≡ (place - 1) + 1 = omega arith in
     IfSome_then c.args.inner c.loop-alloc.invariant.inner
     (λ t is. subst (λ n. IsInnerFor c.args.order.now (remove_range c.loop-alloc.left.items n c.loop-alloc.next) t.now) e is)
+
+pub drop_before-requires-clause-ways : goal.drop_before-requires-clause-ways
+drop_before-requires-clause-ways c =
+    let place = c.loop-alloc.place in
+    let e : place ≡ (place - 1) + 1 = omega arith in
+    IfSome_then c.args.ways c.loop-alloc.invariant.ways
+    (λ t are. subst (λ n. IsWaysFor c.args.order.now (remove_range c.loop-alloc.left.items n c.loop-alloc.next) t.now) e are)
 
 pub drop_before-requires-clause-told : goal.drop_before-requires-clause-told
 drop_before-requires-clause-told c =
@@ -151,6 +159,8 @@ loop-alloc-preserved c =
           (subst (AreWitnessed c.args.lines.now left stands) e inv.witnessed);
       inner = IfSome_then c.args.inner inv.inner
           (λ t is. inner_stays c.args.order.now left (place - 1) t.now is now (omega (arith, next, inv.within)) decides);
+      ways = IfSome_then c.args.ways inv.ways
+          (λ t are. ways_stay c.args.order.now left (place - 1) t.now are now (omega (arith, next, inv.within)) decides kept);
     }
 
 pub take_out-requires : goal.take_out-requires

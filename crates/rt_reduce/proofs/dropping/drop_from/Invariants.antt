@@ -3,7 +3,7 @@ use Rattle.std.specs.List.{remove_range}
 use Rattle.std.specs.Option.{IfSome}
 use Rattle.rt_lines.specs.declared.line.Line.{Line}
 use Rattle.rt_lines.specs.Lines.{HasConstantsBelow}
-use Rattle.rt_reduce.specs.Deciding.{AreStanding, AreWitnessed, IsInnerFor}
+use Rattle.rt_reduce.specs.Deciding.{AreStanding, AreWitnessed, IsInnerFor, IsWaysFor}
 use Rattle.rt_reduce.specs.Dropping.{AreFated, AreLeft}
 use Rattle.rt_reduce.proofs.dropping.drop_from.Given as goal
 
@@ -23,6 +23,7 @@ invariant-loop-alloc l = record {
   standing : IfSome l.outer (λ t. AreStanding (remove_range l.left.items l.place l.next) l.stands.items l.place t.now);
   witnessed : AreWitnessed l.lines (remove_range l.left.items l.place l.next) l.stands.items l.place;
   inner : IfSome l.inner (λ t. IsInnerFor l.order (remove_range l.left.items l.place l.next) t.now);
+  ways : IfSome l.ways (λ t. IsWaysFor l.order (remove_range l.left.items l.place l.next) t.now);
 }
 
 abbrev pub decreases-loop-alloc : goal.decreases-loop-alloc

@@ -1,12 +1,19 @@
-use Rattle.std.proofs.Common.{◌<◌, [], get_or, length, subst, sym}
-use Rattle.std.proofs.lemmas.Result.{on_ok_weaker}
+use Rattle.std.proofs.Common.{subst, sym, ◌∙◌}
+use Rattle.std.proofs.lemmas.List.Elements.{All-get_or}
+use Rattle.rt_sat.specs.Hints.{IsGroup}
+use Rattle.rt_sat.proofs.Families.{group_same}
 use Rattle.rt_sat.proofs.gathering.push_due.Goals as goal
 
-pub push_class-requires-clause-kids : goal.push_class-requires-clause-kids
-push_class-requires-clause-kids c = λ kid h. subst (λ ms. kid.parent < length (get_or ms c.args.class [])) (sym c.in_ok-close.ensures.same) (c.requires.kids kid h)
+pub push_at-requires-clause-group : goal.push_at-requires-clause-group
+push_at-requires-clause-group c =
+    group_same c.args.family.now c.loop-group.family c.group-item.result c.loop-group.invariant.same
+    (subst (IsGroup c.args.family.now) (sym c.group-item.is)
+    (All-get_or (IsGroup c.args.family.now) c.args.groups.now c.loop-group.group-index c.group-item.result c.loop-group-test.true c.requires.groups))
 
-pub push_class-requires-clause-family : goal.push_class-requires-clause-family
-push_class-requires-clause-family c = c.in_ok-close.ensures.family (length c.args.frame.now.named) c.requires.family
-
-pub returns-clause-told : goal.returns-clause-told
-returns-clause-told c = on_ok_weaker c.push_class.result (λ told lines before. told lines (c.in_ok-close.ensures.told c.args.frame.now.named c.args.frame.now.flips.items lines before)) c.push_class.ensures.told
+pub loop-group-preserved : goal.loop-group-preserved
+loop-group-preserved c = record {
+  same = c.in_ok-push_at.ensures.same ∙ c.loop-group.invariant.same;
+  family = c.in_ok-push_at.ensures.family;
+  told = λ lines before. c.in_ok-push_at.ensures.told lines (c.loop-group.invariant.told lines before);
+  next = c.in_ok-push_at.ensures.next ∙ c.loop-group.invariant.next;
+}

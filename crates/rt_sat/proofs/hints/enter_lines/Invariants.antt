@@ -10,6 +10,8 @@ invariant-loop-edge l = record {
   same : AreSameMembers l.fn.family l.family;
   family : (count : ℕ) → IsFamily count l.fn.family → IsFamily count l.family;
   told : (known : List Dtv) (flips : List Bool) → IsToldFamily known flips l.lines l.fn.family → IsToldFamily known flips l.lines l.family;
+  among : (known : List Dtv) (flips : List Bool) (edges : List Edge) → ((e : Edge) → Contains l.lines e → Contains edges e) →
+      IsToldFamily known flips edges l.fn.family → IsToldFamily known flips edges l.family;
   walked : (edges : List Edge) → ((e : Edge) → Contains l.lines e → Contains edges e) → AreWalked l.fn.family edges →
       AreWalked l.family edges;
 }

@@ -1,18 +1,18 @@
 use Rattle.std.proofs.Common.{◌≡◌, length, subst, sym, ap, ◌∙◌}
-use Rattle.rt_sat.specs.Hints.{AreKidsOf, IsFamily}
-use Rattle.rt_sat.proofs.Families.{kids_same}
+use Rattle.rt_sat.specs.Hints.{AreGroups, IsFamily}
+use Rattle.rt_sat.proofs.Families.{groups_same}
 use Rattle.rt_sat.proofs.hints.hints.Goals as goal
 
-pub kids-requires : goal.kids-requires
-kids-requires c = (length c.deref.result.now, c.in_ok-enter_lines.ensures.family (length c.deref.result.now) c.in_ok-family.ensures.family)
+pub groups-requires : goal.groups-requires
+groups-requires c = (length c.deref.result.now, c.in_ok-enter_lines.ensures.family (length c.deref.result.now) c.in_ok-family.ensures.family)
 
 pub spread-requires-clause-family : goal.spread-requires-clause-family
 spread-requires-clause-family c =
     subst (λ n. IsFamily n c.enter_lines.new.family) (ap length c.deref.ensures.value ∙ c.requires.nodes) (c.in_ok-enter_lines.ensures.family (length c.deref.result.now) c.in_ok-family.ensures.family)
 
-pub pushed-requires-clause-kids : goal.pushed-requires-clause-kids
-pushed-requires-clause-kids c = kids_same c.enter_lines.new.family c.spread.new.family c.deref-4.result.now c.in_ok-spread.ensures.same
-    (subst (AreKidsOf c.enter_lines.new.family) (sym c.deref-4.ensures.value) c.in_ok-kids.ensures)
+pub pushed-requires-clause-groups : goal.pushed-requires-clause-groups
+pushed-requires-clause-groups c = groups_same c.enter_lines.new.family c.spread.new.family c.deref-4.result.now c.in_ok-spread.ensures.same
+    (subst (AreGroups c.enter_lines.new.family) (sym c.deref-4.ensures.value) c.in_ok-groups.ensures)
 
 pub returns-clause-told : goal.returns-clause-told
 returns-clause-told c =

@@ -5,8 +5,8 @@ use Rattle.rt_sure.proofs.fate.staying.Given as goal
 
 abbrev pub invariant-loop-i : goal.invariant-loop-i
 invariant-loop-i l = record {
-  flags : l.stands.items ≡ replicate (length l.lines) true;
+  flags : l.stands.items ≡ replicate (length l.ways.lines) true;
   each : length l.fates.items ≡ l.i;
-  staying : AreStaying l.order l.lines l.fates.items;
+  staying : AreStaying l.order l.ways.lines l.fates.items;
   others : (j : ℕ) → IsOpenOr Stays (fate_at l.fates.items j);
 }

@@ -1,12 +1,12 @@
 use Rattle.std.proofs.Common.{◌≡◌, List, length}
 use Rattle.rt_sat.specs.declared.state.Edge.{Edge}
 use Rattle.rt_sat.specs.Hints.{AreSameMembers, IsFamily, IsToldFamily}
-use Rattle.rt_sat.proofs.gathering.push_class.Given as goal
+use Rattle.rt_sat.proofs.gathering.push_due.Given as goal
 
-abbrev pub invariant-loop-kid : goal.invariant-loop-kid
-invariant-loop-kid l = record {
+abbrev pub invariant-loop-group : goal.invariant-loop-group
+invariant-loop-group l = record {
   same : AreSameMembers l.fn.family l.family;
   family : IsFamily (length l.frame.named) l.family;
   told : (lines : List Edge) → IsToldFamily l.frame.named l.frame.flips.items lines l.fn.family → IsToldFamily l.frame.named l.frame.flips.items lines l.family;
-  due : length l.due.items ≡ length l.fn.due.items;
+  next : length l.next.items ≡ length l.fn.next.items;
 }

@@ -1,0 +1,164 @@
+// What lines tell, in tables of bytes to which lines can be added.
+ghost use Rattle.std.specs.Prelude.{◌≡◌, ℕ, List, Contains, true, length, IfOk, OnOk};
+ghost use Rattle.rt_sat.specs.declared.state.Edge.{Edge as Arrow};
+ghost use Rattle.rt_sat.specs.Hints.{AreGroups, IsFamily, IsTold, IsToldFamily};
+ghost use Rattle.rt_sat.specs.Numbered.{AreDistinct};
+ghost use Rattle.rt_lines.specs.declared.line.Line.{Line as Given};
+ghost use Rattle.rt_lines.specs.declared.line.Line.TheVariants.{Sub as Subtype};
+ghost use Rattle.rt_lines.specs.Orders.{Below};
+ghost use Rattle.rt_lines.specs.declared.variable.Dtv.{Dtv as Variable};
+ghost use Rattle.rt_named.specs.Naming.{named as named_by};
+ghost use Rattle.rt_rules.specs.Rules.{Derivable, HasSide};
+ghost use Rattle.rt_shape.specs.Shapes.{IsShapeOf};
+ghost use Rattle.rt_sat.specs.Increments.{named_of, IsAdded, Tells};
+ghost use Rattle.rt_sat.specs.Tables.{place, AreThere};
+
+use crate::entering::line_edges;
+use crate::family::Family;
+use crate::gathering::{Group, spread, spread_from};
+use crate::hints::{enter_lines, groups};
+use crate::pushing::Frame;
+use crate::state::{Edge, State};
+use crate::table::{Begun, begin};
+use rt_base::Memory;
+use rt_lines::{Dtv, Line};
+use rt_shape::Shape;
+use std::alloc::Global;
+use std::slice;
+
+/// What lines tell of the variables that they and others name, as far as tables of bytes find it. Lines can be added.
+#[derive(Drop)]
+pub struct GrowingTable {
+    frame: Frame,
+    family: Family,
+    groups: Vec<Group>,
+}
+
+impl GrowingTable {
+    /// What the lines tell of the variables that they and others name, which exist. The error is want of memory.
+    pub fn of(
+        alloc: Global,
+        lines: &[Line],
+        shape: &Shape,
+        extra: &[Dtv],
+    ) -> Result<GrowingTable, Memory>
+        requires shape { IsShapeOf lines.now shape.now }
+        requires there { AreThere lines.now extra.now }
+        ensures named { IfOk result (λ growing. named_of growing ≡ named_by lines.now extra.now) }
+        ensures tells { IfOk result (λ growing. Tells lines.now growing) }
+    {
+        let begun = begin(alloc, lines, shape, extra)?;
+        let Begun { frame, first } = begun;
+        let used = vec![in alloc; true; frame.named.len()]?;
+        let mut family = Family::of(alloc, &frame.nodes, &used)?;
+        enter_lines(alloc, &mut family, &first)?;
+        let groups = groups(alloc, &frame, &family)?;
+        spread(alloc, &frame, &groups, &mut family)?;
+        Ok(GrowingTable {
+            frame,
+            family,
+            groups,
+        })
+    }
+
+    /// Whether it is found that the first variable lies below the second. Where it isn't, nothing is said.
+    pub fn has(&self, x: &Dtv, y: &Dtv) -> bool
+        requires { (lines : List Given) × Tells lines self.now }
+        ensures { result ≡ true → (order : Below) (lines : List Given) → Tells lines self.now →
+            Derivable order lines (Subtype x.now y.now) }
+    {
+        let Some(lower) = self.frame.named.index(x) else {
+            return false;
+        };
+        let Some(upper) = self.frame.named.index(y) else {
+            return false;
+        };
+        self.has_way(forth(lower), forth(upper))
+    }
+
+    // Whether a way of count nought is found from one state to another.
+    fn has_way(&self, from: State, to: State) -> bool
+        requires { (count : ℕ) × IsFamily count self.now.family }
+        ensures { result ≡ true → (lines : List Arrow) →
+            IsToldFamily self.now.frame.named self.now.frame.flips.items lines self.now.family →
+            IsTold self.now.frame.named self.now.frame.flips.items lines from to 0 }
+    {
+        let Some(left) = self.family.home(from) else {
+            return false;
+        };
+        let Some(right) = self.family.home(to) else {
+            return false;
+        };
+        if left.class != right.class {
+            return false;
+        }
+        self.family.grids[left.class].row(left.index)[right.index] == 0
+    }
+
+    /// Adds a line, if its sides are named: of ways between other variables nothing is found. The error is want of memory.
+    pub fn add(&mut self, alloc: Global, line: &Line) -> Result<(), Memory>
+        requires { (lines : List Given) × Tells lines self.old }
+        ensures named { OnOk result (named_of self.new ≡ named_of self.old) }
+        ensures added { OnOk result ((lines : List Given) → Tells lines self.old → IsAdded lines line.now self.new) }
+    {
+        if !self.has_sides(line) {
+            return Ok(());
+        }
+        let edges = line_edges(alloc, &self.frame.named, slice::from_ref(line))?;
+        self.enter(alloc, &edges)?;
+        Ok(())
+    }
+
+    // Whether the sides of a line are named.
+    fn has_sides(&self, line: &Line) -> bool
+        ensures { result ≡ true → (x : Variable) → HasSide line.now x → Contains (named_of self.now) x }
+    {
+        for side in line.sides() {
+            if self.frame.named.index(side).is_none() {
+                return false;
+            }
+        }
+        true
+    }
+
+    // Adds what edges of lines, and what is pushed from ways along them, tell.
+    fn enter(&mut self, alloc: Global, edges: &[Edge]) -> Result<(), Memory>
+        requires distinct { AreDistinct self.old.frame.named }
+        requires family { IsFamily (length self.old.frame.named) self.old.family }
+        requires groups { AreGroups self.old.family self.old.groups.items }
+        ensures frame { OnOk result (self.new.frame ≡ self.old.frame) }
+        ensures family { OnOk result (IsFamily (length self.old.frame.named) self.new.family) }
+        ensures groups { OnOk result (AreGroups self.new.family self.new.groups.items) }
+        ensures told { OnOk result ((lines : List Arrow) → ((e : Arrow) → Contains edges.now e → Contains lines e) →
+            IsToldFamily self.old.frame.named self.old.frame.flips.items lines self.old.family →
+            IsToldFamily self.old.frame.named self.old.frame.flips.items lines self.new.family) }
+    {
+        enter_lines(alloc, &mut self.family, edges)?;
+        let due = self.due(alloc, edges)?;
+        spread_from(alloc, &self.frame, &self.groups, &mut self.family, due)
+    }
+
+    // A flag for each class, set for those of the edges' starts.
+    fn due(&self, alloc: Global, edges: &[Edge]) -> Result<Vec<bool>, Memory>
+        requires { (count : ℕ) × IsFamily count self.now.family }
+        ensures { IfOk result (λ due. length due.items ≡ length self.now.family.members.items) }
+    {
+        let mut due = vec![in alloc; false; self.family.members.len()]?;
+        for edge in edges {
+            if let Some(home) = self.family.home(edge.from) {
+                due[home.class] = true;
+            }
+        }
+        Ok(due)
+    }
+}
+
+// The state of a variable that keeps the order.
+fn forth(variable: u32) -> State
+    ensures { result ≡ place variable }
+{
+    State {
+        variable,
+        contra: false,
+    }
+}
