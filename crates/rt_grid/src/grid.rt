@@ -94,6 +94,18 @@ impl Grid {
         self.steps[place].items()
     }
 
+    /// When something was last noted. Nothing is promised of this number: effort alone rests on it.
+    pub fn clock(&self) -> u64 {
+        self.clock
+    }
+
+    /// Whether the row of a place changed after a time. Nothing is promised of this: effort alone rests on it.
+    pub fn has_changed(&self, place: usize, since: u64) -> bool
+        requires { place < size_of self.now }
+    {
+        self.changed[place] > since
+    }
+
     /// Adds a step, if no way is known that is as short. Whether it was added. The error is want of memory.
     pub fn add(&mut self, alloc: Global, from: usize, to: usize, count: u8) -> Result<bool, Memory>
         requires from { from < size_of self.old }

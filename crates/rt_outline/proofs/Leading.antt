@@ -20,7 +20,7 @@ use Rattle.rt_outline.specs.Lines.{IsNumber, AreNumbers, IsLineArc, AreLineArcs,
 use Rattle.rt_outline.specs.Resting.{AreBelowSome}
 
 -- a line whose flag is set stands
-standing_in : (lines : List Line) (stands : List Bool) (i : ℕ) (l : Line) → slice_get lines i ≡ Some l → get_or stands i false ≡ true → Contains (standing lines stands) l
+pub standing_in : (lines : List Line) (stands : List Bool) (i : ℕ) (l : Line) → slice_get lines i ≡ Some l → get_or stands i false ≡ true → Contains (standing lines stands) l
 standing_in [] flags i l e f = absurd (let h : i < 0 = slice_get_within [] i l e in omega arith)
 standing_in (k ∷ lines) [] i l e f = absurd (cc)
 standing_in (k ∷ lines) (true ∷ flags) zero l e f = let g : k ≡ l = cc in subst (Contains (k ∷ standing lines flags)) g (Contains-here k (standing lines flags))

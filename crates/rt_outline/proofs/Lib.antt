@@ -19,3 +19,4 @@ pub mod Built
 pub mod Gathered
 pub mod Behind
 pub mod Rested
+pub mod Bounded

@@ -10,3 +10,4 @@ pub mod Equal
 pub mod Hubs
 pub mod Accesses
 pub mod Resting
+pub mod Bounds

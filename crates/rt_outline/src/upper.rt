@@ -1,7 +1,9 @@
 // Outer arcs.
-ghost use Rattle.std.specs.Prelude.{◌≡◌, ◌∷◌, [], Contains, IfOk, length};
+ghost use Rattle.std.specs.Prelude.{◌≡◌, ◌∷◌, ◌<◌, [], All, Contains, IfOk, length};
 ghost use Rattle.rt_lines.specs.declared.variable.Dtv.{Dtv as Variable};
+ghost use Rattle.rt_lines.specs.Lines.{HasConstantsBelow};
 ghost use Rattle.rt_lines.specs.Orders.{Below};
+ghost use Rattle.rt_bridge.specs.Bounds.{HasLow, HasUp};
 ghost use Rattle.rt_named.specs.Naming.{named};
 ghost use Rattle.rt_outline.specs.Built.{AreNamed, AreOuterArcs, HasHubs, IsHubbed};
 ghost use Rattle.rt_outline.specs.Equal.{AreOuterEquals};
@@ -9,6 +11,7 @@ ghost use Rattle.rt_outline.specs.Frames.{AreDistinct, IsFrame};
 ghost use Rattle.rt_outline.specs.Lines.{HasBelow, standing};
 ghost use Rattle.rt_outline.specs.declared.led.Led.TheVariants.{No as Never, Yes as Always};
 
+use crate::bounds::{Bound, above, below, lows, ups};
 use crate::classes::classes;
 use crate::closing::close;
 use crate::entering::{enter_lines, enter_pointers, numbers};
@@ -19,7 +22,7 @@ use crate::led::Led;
 use crate::lower::copied;
 use crate::resting::{Ground, tell};
 use rt_base::Memory;
-use rt_lines::{Dtv, Line};
+use rt_lines::{Dtv, Line, Order};
 use rt_named::Named;
 use rt_named::nodes::{flips, nodes};
 use std::alloc::Global;
@@ -32,10 +35,15 @@ pub struct Upper {
     lines: Vec<Line>,
     named: Named,
     frame: Frame,
+    // The bounds of the lines.
+    lows: Vec<Bound>,
+    ups: Vec<Bound>,
 }
 
 impl Model for Upper {
     ghost use Rattle.std.specs.Prelude.{◌≤◌, length};
+    ghost use Rattle.rt_lines.specs.declared.line.Line.TheVariants.{Low as LowerBound};
+    ghost use Rattle.rt_outline.specs.Bounds.{AreBounds, upper_bound};
     ghost use Rattle.rt_outline.specs.Lines.{AreLineArcs, Lined};
     ghost use Rattle.rt_outline.specs.Enclosing.{IsOuter};
     ghost use Rattle.rt_outline.specs.Frames.{IsFrame};
@@ -47,7 +55,9 @@ impl Model for Upper {
     ghost invariant = { λ t. IsOuter t.lines.items t.named t.frame.arcs.items ×
         AreLineArcs t.lines.items (length t.lines.items) t.named t.frame.arcs.items ×
         IsFrame t.frame.origins.items t.frame.steps.entries t.frame.arcs.items t.frame.back.items ×
-        (length t.named ≤ length t.frame.origins.items) };
+        (length t.named ≤ length t.frame.origins.items) ×
+        AreBounds LowerBound t.lines.items (length t.lines.items) t.named t.lows.items ×
+        AreBounds upper_bound t.lines.items (length t.lines.items) t.named t.ups.items };
 }
 
 impl Upper {
@@ -57,11 +67,15 @@ impl Upper {
     {
         let named = Named::of(alloc, lines, extra)?;
         let frame = framed(alloc, lines, &named)?;
+        let lows = lows(alloc, &named, lines)?;
+        let ups = ups(alloc, &named, lines)?;
         let lines = copied(alloc, lines)?;
         Ok(Upper {
             lines,
             named,
             frame,
+            lows,
+            ups,
         })
     }
 
@@ -87,24 +101,68 @@ impl Upper {
         Ok(led)
     }
 
-    /// Whether the first variable lies below one of the others by the lines that stand, those whose flags are set. All are
-    /// named. The error is want of memory.
-    pub fn leads(
+    /// Whether the constant is a lower bound of the variable by the lines that stand, those whose flags are set: whether the
+    /// variable of a lower bound at or above it among them lies below the variable, which is named. The error is want of memory.
+    pub fn led_low(
         &self,
         alloc: Global,
         stands: &[bool],
-        from: &Dtv,
-        to: &[Dtv],
+        order: &Order,
+        k: u16,
+        x: &Dtv,
     ) -> Result<Led, Memory>
-        requires from { Contains self.now.named from.now }
-        requires to { (x : Variable) → Contains to.now x → Contains self.now.named x }
-        ensures no { IfOk result (λ led. led ≡ Never → (order : Below) →
-            HasBelow order (standing self.now.lines stands.now) (from.now ∷ []) to.now → ⊥) }
-        ensures yes { IfOk result (λ led. led ≡ Always → (order : Below) →
-            HasBelow order (standing self.now.lines stands.now) (from.now ∷ []) to.now) }
+        requires constants { All (HasConstantsBelow order.now.count) (standing self.now.lines stands.now) }
+        requires constant { k < order.now.count }
+        requires variable { Contains self.now.named x.now }
+        ensures no { IfOk result (λ led. led ≡ Never →
+            HasLow order.now (standing self.now.lines stands.now) k x.now → ⊥) }
+        ensures yes { IfOk result (λ led. led ≡ Always →
+            HasLow order.now (standing self.now.lines stands.now) k x.now) }
     {
-        let source = self.named.number(from);
-        let targets = numbers(alloc, &self.named, to)?;
+        let sources = above(alloc, &self.lows, stands, order, k)?;
+        if sources.is_empty() {
+            return Ok(Led::No);
+        }
+        let target = self.named.number(x);
+        if sources.contains(&target) {
+            return Ok(Led::Yes);
+        }
+        let ground = Ground {
+            named: &self.named,
+            arcs: &self.frame.arcs,
+            back: &self.frame.back,
+            stands,
+        };
+        let led = tell(alloc, &ground, &sources, &[target])?;
+        Ok(led)
+    }
+
+    /// Whether the constant is an upper bound of the variable by the lines that stand, those whose flags are set: whether the
+    /// variable, which is named, lies below that of an upper bound at or below it among them. The error is want of memory.
+    pub fn led_up(
+        &self,
+        alloc: Global,
+        stands: &[bool],
+        order: &Order,
+        x: &Dtv,
+        k: u16,
+    ) -> Result<Led, Memory>
+        requires constants { All (HasConstantsBelow order.now.count) (standing self.now.lines stands.now) }
+        requires constant { k < order.now.count }
+        requires variable { Contains self.now.named x.now }
+        ensures no { IfOk result (λ led. led ≡ Never →
+            HasUp order.now (standing self.now.lines stands.now) x.now k → ⊥) }
+        ensures yes { IfOk result (λ led. led ≡ Always →
+            HasUp order.now (standing self.now.lines stands.now) x.now k) }
+    {
+        let targets = below(alloc, &self.ups, stands, order, k)?;
+        if targets.is_empty() {
+            return Ok(Led::No);
+        }
+        let source = self.named.number(x);
+        if targets.contains(&source) {
+            return Ok(Led::Yes);
+        }
         let ground = Ground {
             named: &self.named,
             arcs: &self.frame.arcs,

@@ -1,19 +1,16 @@
 -- What sides of lines, and arcs from outside, tell of a line.
-use Rattle.std.proofs.Common.{◌≡◌, ℕ, ◌+◌, ◌<◌, ◌≤◌, ◌⊎◌, inl, inr, List, [], ◌∷◌, true, All, Contains, length, take}
+use Rattle.std.proofs.Common.{◌≡◌, ℕ, ◌+◌, ◌<◌, ◌≤◌, ◌⊎◌, inl, inr, List, [], ◌∷◌, All, Contains, length, take}
 use Rattle.std.proofs.Common.{get_or, refl, sym, subst}
-use Rattle.std.specs.List.{list_any}
 use Rattle.std.proofs.lemmas.List.{take_all}
-use Rattle.rt_base.proofs.Lists.{Contains-none, Contains-here, Contains-cons_cases, list_any-at}
+use Rattle.rt_base.proofs.Lists.{Contains-none, Contains-here, Contains-cons_cases}
 use Rattle.rt_lines.specs.declared.variable.Dtv.{Dtv}
 use Rattle.rt_lines.specs.declared.line.Line.{Line}
 use Rattle.rt_lines.specs.declared.line.Line.TheVariants.{Var, Sub, Low, Up}
-use Rattle.rt_lines.specs.Equality.{variable_eq}
 use Rattle.rt_lines.specs.Lines.{HasConstantsBelow}
 use Rattle.rt_lines.specs.Orders.{Below, IsAtOrBelow}
 use Rattle.rt_lines.specs.OrderFacts.{IsOrder}
-use Rattle.rt_lines.proofs.Equal.{variable_equal}
 use Rattle.rt_rules.specs.Rules.{HasSide, Derivable}
-use Rattle.rt_rules.specs.Rules.Derivable.{named, sub_self}
+use Rattle.rt_rules.specs.Rules.Derivable.{named}
 use Rattle.rt_rules.proofs.Covering.{front}
 use Rattle.rt_shape.specs.Shapes.{IsNamed}
 use Rattle.rt_bridge.specs.Bounds.{HasLow, HasUp}
@@ -83,27 +80,21 @@ tells_below order lines x y from led e denies affirms = record {
         subst (λ z. Derivable order lines (Sub z y)) (sym (only_one x u from e c))
         (subst (λ z. Derivable order lines (Sub u z)) (sym (only_one y v (y ∷ []) refl d)) h)
 
-found_in : (xs : List Dtv) (x : Dtv) → list_any (λ y. variable_eq y x) xs ≡ true → Contains xs x
-found_in xs x e =
-    let r : (y : Dtv) × Contains xs y × (variable_eq y x ≡ true) = list_any-at (λ y. variable_eq y x) xs e in
-    subst (Contains xs) (variable_equal r.0 x r.2) r.1
-
 module _ (order : Below) (lines : List Line) (is : IsOrder order) (few : All (HasConstantsBelow order.count) lines) (k : ℕ) (x : Dtv) where
+  pub tells_low : (led : Led) → (led ≡ No → HasLow order lines k x → ⊥) → (led ≡ Yes → HasLow order lines k x) → Tells order lines (Low k x) led
+  tells_low led denies affirms = record {
+    no = λ e d. denies e ((low_law order lines k x is few).0 d);
+    yes = λ e. low_from order lines k x (affirms e);
+  }
+
+  pub tells_up : (led : Led) → k < order.count → (led ≡ No → HasUp order lines x k → ⊥) → (led ≡ Yes → HasUp order lines x k) →
+      Tells order lines (Up x k) led
+  tells_up led less denies affirms = record {
+    no = λ e d. denies e ((up_law order lines x k is few less).0 d);
+    yes = λ e. up_from order lines x k (affirms e);
+  }
+
   module _ (from : List Dtv) (are : AreAbove order lines k from) where
-    pub low_none : from ≡ [] → Tells order lines (Low k x) No
-    low_none e = tells_no order lines (Low k x) (λ d. by ((low_law order lines k x is few).0 d))
-      where
-        by : HasLow order lines k x → ⊥
-        by h = Contains-none h.variable (subst (λ zs. Contains zs h.variable) e (are.all h.bound h.variable h.stands h.at))
-
-    pub low_self : list_any (λ y. variable_eq y x) from ≡ true → Tells order lines (Low k x) Yes
-    low_self e = tells_yes order lines (Low k x) (by (are.only x (found_in from x e)))
-      where
-        by : (bound : ℕ) × Contains lines (Low bound x) × IsAtOrBelow order k bound → Derivable order lines (Low k x)
-        by (bound, c, at) =
-            let self : Derivable order lines (Sub x x) = sub_self (named (Low bound x) c refl) in
-            low_from order lines k x (record { bound = bound; variable = x; stands = c; at = at; below = self })
-
     pub low_tells : (some : List Line) (led : Led) → lines ≡ some → Denies some from (x ∷ []) led → Affirms some from (x ∷ []) led →
         Tells order lines (Low k x) led
     low_tells some led e denies affirms = record {
@@ -126,20 +117,6 @@ module _ (order : Below) (lines : List Line) (is : IsOrder order) (few : All (Ha
             })
 
   module _ (less : k < order.count) (to : List Dtv) (are : AreBelow order lines k to) where
-    pub up_none : to ≡ [] → Tells order lines (Up x k) No
-    up_none e = tells_no order lines (Up x k) (λ d. by ((up_law order lines x k is few less).0 d))
-      where
-        by : HasUp order lines x k → ⊥
-        by h = Contains-none h.variable (subst (λ zs. Contains zs h.variable) e (are.all h.bound h.variable h.stands h.at))
-
-    pub up_self : list_any (λ y. variable_eq y x) to ≡ true → Tells order lines (Up x k) Yes
-    up_self e = tells_yes order lines (Up x k) (by (are.only x (found_in to x e)))
-      where
-        by : (bound : ℕ) × Contains lines (Up x bound) × IsAtOrBelow order bound k → Derivable order lines (Up x k)
-        by (bound, c, at) =
-            let self : Derivable order lines (Sub x x) = sub_self (named (Up x bound) c refl) in
-            up_from order lines x k (record { bound = bound; variable = x; stands = c; at = at; above = self })
-
     pub up_tells : (some : List Line) (led : Led) → lines ≡ some → Denies some (x ∷ []) to led → Affirms some (x ∷ []) to led →
         Tells order lines (Up x k) led
     up_tells some led e denies affirms = record {

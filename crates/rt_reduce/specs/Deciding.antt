@@ -1,8 +1,9 @@
 -- What is told of a line without saturating the others.
-use Rattle.std.specs.Prelude.{◌≡◌, ℕ, ◌<◌, List, [], Bool, true, false, Contains, slice_index_or}
+use Rattle.std.specs.Prelude.{◌≡◌, ℕ, ◌<◌, List, [], All, Bool, true, false, Contains, slice_index_or}
 use Rattle.rt_lines.specs.declared.variable.Dtv.{Dtv}
 use Rattle.rt_lines.specs.declared.line.Line.{Line}
 use Rattle.rt_lines.specs.declared.line.Line.TheVariants.{Low, Up}
+use Rattle.rt_lines.specs.Lines.{HasConstantsBelow}
 use Rattle.rt_lines.specs.Orders.{Below, IsAtOrBelow}
 use Rattle.rt_rules.specs.Rules.{HasSide, Derivable}
 use Rattle.rt_named.specs.Naming.{named as named_by}
@@ -36,6 +37,11 @@ pub record IsOuterFor (left : List Line) (stands : List Bool) (line : Line) (out
   pub left_are : left ≡ standing outer.lines stands
   pub sides : (l : Line) (x : Dtv) → Contains left l → HasSide l x → Contains outer.named x
   pub line_sides : (x : Dtv) → HasSide line x → Contains outer.named x
+
+-- arcs between variables among which the sides of a line are, and constants of the lines that stand are below the order's count
+pub record IsAskable (order : Below) (stands : List Bool) (line : Line) (outer : Lined) : Type 0 where
+  pub sides : (x : Dtv) → HasSide line x → Contains outer.named x
+  pub constants : All (HasConstantsBelow order.count) (standing outer.lines stands)
 
 -- arcs of lines that what is left derives, between variables among which those of what is left are
 pub record IsInnerFor (order : Below) (left : List Line) (inner : Lined) : Type 0 where

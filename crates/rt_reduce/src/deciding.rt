@@ -1,15 +1,15 @@
 // Whether a line is derivable from others, which are some of the lines of arcs from outside.
 ghost use Rattle.std.specs.Prelude.{◌≡◌, ◌∷◌, ◌↔◌, ◌<◌, List, All, Contains, IsTrue, true, IfOk, IfSome};
 ghost use Rattle.rt_lines.specs.declared.line.Line.{Line as Given};
+ghost use Rattle.rt_lines.specs.declared.variable.Dtv.{Dtv as Variable};
 ghost use Rattle.rt_lines.specs.declared.line.Line.TheVariants.{Low as LowerBound, Sub as Subtype, Up as UpperBound, Var as Exists};
 ghost use Rattle.rt_lines.specs.Lines.{HasConstantsBelow};
 ghost use Rattle.rt_lines.specs.Orders.{Below};
-ghost use Rattle.rt_rules.specs.Rules.{Derivable};
+ghost use Rattle.rt_rules.specs.Rules.{Derivable, HasSide};
 ghost use Rattle.rt_outline.specs.Lines.{standing};
 ghost use Rattle.rt_witness.specs.Witnesses.{IsLeft, IsWitnesses};
-ghost use Rattle.rt_reduce.specs.Deciding.{IsInnerFor, IsOuterFor, IsUpperWith, IsWaysFor, Tells};
+ghost use Rattle.rt_reduce.specs.Deciding.{IsAskable, IsInnerFor, IsUpperWith, IsWaysFor, Tells};
 
-use crate::bounds::{lows, ups};
 use crate::derivable::derives_line;
 use crate::dropping::is_flow;
 use crate::early::{decided, is_told};
@@ -24,12 +24,10 @@ use rt_witness::Witnesses;
 use std::alloc::Global;
 use std::slice;
 
-// Whether the line is derivable from the lines left: by arcs from outside and by which lines name which variables, where these
-// tell, else, if it is a bound, by ways that were made before, else by arcs from inside that were made before, else by what is
-// left.
-pub fn is_derivable(
+// Whether the line is derivable from the lines left, where arcs from outside and which lines name which variables leave it
+// open: if it is a bound, by ways that were made before, else by arcs from inside that were made before, else by what is left.
+pub fn is_derivable_open(
     alloc: Global,
-    outer: Option<&Upper>,
     inner: Option<&Lower>,
     ways: Option<&Ways>,
     witnesses: &Witnesses,
@@ -39,7 +37,6 @@ pub fn is_derivable(
     line: &Line,
     effort: &mut Effort,
 ) -> Result<bool, Memory>
-    requires outer { IfSome outer (λ t. IsOuterFor left.now stands.now line.now t.now) }
     requires inner { IfSome inner (λ t. IsInnerFor order.now (line.now ∷ left.now) t.now) }
     requires ways { IfSome ways (λ t. IsWaysFor order.now (line.now ∷ left.now) t.now) }
     requires witnesses { (lines : List Given) × IsWitnesses lines witnesses.now × IsLeft lines stands.now left.now }
@@ -47,11 +44,6 @@ pub fn is_derivable(
     requires constant { HasConstantsBelow order.now.count line.now }
     ensures { IfOk result (λ yes. IsTrue yes ↔ Derivable order.now left.now line.now) }
 {
-    match told(alloc, outer, witnesses, stands, left, order, line)? {
-        Led::No => return Ok(false),
-        Led::Yes => return Ok(true),
-        Led::Open => {}
-    }
     if let Some(yes) = decided(alloc, ways, witnesses, stands, left, order, line)? {
         return Ok(yes);
     }
@@ -112,7 +104,7 @@ fn saturates(
     ensures { IfOk result (λ yes. IsTrue yes ↔ Derivable order.now left.now line.now) }
 {
     if is_flow(line) {
-        effort.add_saturation();
+        effort.add_saturation(left.len());
     }
     derives_line(alloc, left, order, line)
 }
@@ -139,7 +131,7 @@ fn told_alone(alloc: Global, left: &[Line], order: &Order, line: &Line) -> Resul
 {
     let outer = upper_with(alloc, left, line)?;
     let stands = vec![in alloc; true; left.len()]?;
-    let led = told_by(alloc, &outer, &stands, left, order, line)?;
+    let led = told_by(alloc, &outer, &stands, order, line)?;
     Ok(led)
 }
 
@@ -153,44 +145,30 @@ fn upper_with(alloc: Global, lines: &[Line], line: &Line) -> Result<Upper, Memor
     Ok(outer)
 }
 
-// Whether the line is derivable from the lines left, as far as their sides and arcs from outside tell.
-fn told(
+// Whether the line is derivable from the lines that stand, as far as their sides and arcs from outside tell. It needs no list of
+// these lines.
+pub fn told(
     alloc: Global,
     outer: Option<&Upper>,
     witnesses: &Witnesses,
     stands: &[bool],
-    left: &[Line],
     order: &Order,
     line: &Line,
 ) -> Result<Led, Memory>
-    requires outer { IfSome outer (λ t. IsOuterFor left.now stands.now line.now t.now) }
-    requires witnesses { (lines : List Given) × IsWitnesses lines witnesses.now × IsLeft lines stands.now left.now }
-    requires constants { All (HasConstantsBelow order.now.count) left.now }
+    requires outer { IfSome outer (λ t. IsAskable order.now stands.now line.now t.now) }
     requires constant { HasConstantsBelow order.now.count line.now }
-    ensures { IfOk result (Tells order.now left.now line.now) }
+    ensures { IfOk result (λ led. (left : List Given) → IfSome outer.entry (λ t. left ≡ standing t.now.lines stands.now) →
+        (lines : List Given) → IsWitnesses lines witnesses.now → IsLeft lines stands.now left →
+        Tells order.now left line.now led) }
 {
     if let Line::Var(x) = line {
         return Ok(told_named(witnesses, stands, x));
     }
-    match outer {
-        Some(outer) => told_by(alloc, outer, stands, left, order, line),
-        None => Ok(Led::Open),
-    }
-}
-
-// Whether the line says that a variable is there, and which lines that stand name which variables tells that it isn't.
-pub(crate) fn is_missing(witnesses: &Witnesses, stands: &[bool], line: &Line) -> bool
-    ensures { result ≡ true → (order : Below) (lines left : List Given) → IsWitnesses lines witnesses.now →
-        IsLeft lines stands.now left →
-        Derivable order left line.now → ⊥ }
-{
-    let Line::Var(x) = line else {
-        return false;
+    let Some(outer) = outer else {
+        return Ok(Led::Open);
     };
-    match told_named(witnesses, stands, x) {
-        Led::No => true,
-        Led::Yes | Led::Open => false,
-    }
+    let led = told_by(alloc, outer, stands, order, line)?;
+    Ok(led)
 }
 
 // Whether the line says that a variable is there, and a line that stands names it.
@@ -223,26 +201,25 @@ pub(crate) fn told_named(witnesses: &Witnesses, stands: &[bool], x: &Dtv) -> Led
     }
 }
 
-// Whether the line is derivable from the lines left, as far as arcs from outside tell.
+// Whether the line is derivable from the lines that stand, as far as arcs from outside tell.
 fn told_by(
     alloc: Global,
     outer: &Upper,
     stands: &[bool],
-    left: &[Line],
     order: &Order,
     line: &Line,
 ) -> Result<Led, Memory>
-    requires outer { IsOuterFor left.now stands.now line.now outer.now }
-    requires constants { All (HasConstantsBelow order.now.count) left.now }
+    requires sides { (x : Variable) → HasSide line.now x → Contains outer.now.named x }
+    requires constants { All (HasConstantsBelow order.now.count) (standing outer.now.lines stands.now) }
     requires constant { HasConstantsBelow order.now.count line.now }
-    ensures { IfOk result (Tells order.now left.now line.now) }
+    ensures { IfOk result (Tells order.now (standing outer.now.lines stands.now) line.now) }
 {
     match line {
         Line::Var(_) => Ok(Led::Open),
         Line::Same(_, _) => Ok(Led::Open),
         Line::Sub(x, y) => told_below(alloc, outer, stands, x, y),
-        Line::Low(k, x) => told_low(alloc, outer, stands, left, order, *k, x),
-        Line::Up(x, k) => told_up(alloc, outer, stands, left, order, x, *k),
+        Line::Low(k, x) => told_low(alloc, outer, stands, order, *k, x),
+        Line::Up(x, k) => told_up(alloc, outer, stands, order, x, *k),
     }
 }
 
@@ -263,58 +240,42 @@ fn told_below(
     Ok(led)
 }
 
-// Whether the constant is a lower bound of the variable, as far as arcs from outside tell.
+// Whether the constant is a lower bound of the variable by the lines that stand, as far as arcs from outside tell.
 fn told_low(
     alloc: Global,
     outer: &Upper,
     stands: &[bool],
-    left: &[Line],
     order: &Order,
     k: u16,
     x: &Dtv,
 ) -> Result<Led, Memory>
-    requires outer { IsOuterFor left.now stands.now (LowerBound k x.now) outer.now }
-    requires constants { All (HasConstantsBelow order.now.count) left.now }
+    requires variable { Contains outer.now.named x.now }
+    requires constants { All (HasConstantsBelow order.now.count) (standing outer.now.lines stands.now) }
     requires constant { k < order.now.count }
-    ensures { IfOk result (Tells order.now left.now (LowerBound k x.now)) }
+    ensures { IfOk result (Tells order.now (standing outer.now.lines stands.now) (LowerBound k x.now)) }
 {
     // The call says that the order is transitive.
     order.count();
-    let from = lows(alloc, left, order, k)?;
-    if from.is_empty() {
-        return Ok(Led::No);
-    }
-    if from.contains(x) {
-        return Ok(Led::Yes);
-    }
-    let led = outer.led(alloc, stands, &from, x)?;
+    let led = outer.led_low(alloc, stands, order, k, x)?;
     Ok(led)
 }
 
-// Whether the constant is an upper bound of the variable, as far as arcs from outside tell.
+// Whether the constant is an upper bound of the variable by the lines that stand, as far as arcs from outside tell.
 fn told_up(
     alloc: Global,
     outer: &Upper,
     stands: &[bool],
-    left: &[Line],
     order: &Order,
     x: &Dtv,
     k: u16,
 ) -> Result<Led, Memory>
-    requires outer { IsOuterFor left.now stands.now (UpperBound x.now k) outer.now }
-    requires constants { All (HasConstantsBelow order.now.count) left.now }
+    requires variable { Contains outer.now.named x.now }
+    requires constants { All (HasConstantsBelow order.now.count) (standing outer.now.lines stands.now) }
     requires constant { k < order.now.count }
-    ensures { IfOk result (Tells order.now left.now (UpperBound x.now k)) }
+    ensures { IfOk result (Tells order.now (standing outer.now.lines stands.now) (UpperBound x.now k)) }
 {
     // The call says that the order is transitive.
     order.count();
-    let to = ups(alloc, left, order, k)?;
-    if to.is_empty() {
-        return Ok(Led::No);
-    }
-    if to.contains(x) {
-        return Ok(Led::Yes);
-    }
-    let led = outer.leads(alloc, stands, x, &to)?;
+    let led = outer.led_up(alloc, stands, order, x, k)?;
     Ok(led)
 }

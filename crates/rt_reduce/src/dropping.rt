@@ -14,11 +14,11 @@ ghost use Rattle.rt_sure.specs.declared.fate.Fate.TheVariants.{Stays as Staying}
 ghost use Rattle.rt_reduce.specs.Dropping.{AreFated, AreLeft, AreTold, Decides, IsFatedAt, IsKeptOrGone, IsMoved, IsSpared, IsToldAt};
 
 use crate::copying::copies;
-use crate::deciding::{is_derivable, is_missing, is_spare};
+use crate::deciding::{is_derivable_open, is_spare, told};
 use crate::effort::Effort;
 use rt_base::{Memory, Sequence};
 use rt_lines::{Line, Lines, Order};
-use rt_outline::{Lower, Upper};
+use rt_outline::{Led, Lower, Upper};
 use rt_sure::{Fate, Ways};
 use rt_witness::Witnesses;
 use std::alloc::Global;
@@ -26,17 +26,22 @@ use std::alloc::Global;
 /// What stays of the lines when, from the last to the first, each line goes that the lines before it and those that stayed
 /// behind it derive with the order of constants. One of which `rt_earlier` tells that the lines before it derive it goes at
 /// once. Another one that arcs from outside don't give isn't derivable; else arcs from inside of all lines tell, which are made
-/// once, or arcs from inside and from outside of what is left, or it is saturated. Once questions have cost much, the lines that
-/// are left take the place of all: arcs from outside are made of them, and ways, which decide each bound, and `rt_sure` tells
-/// beforehand what becomes of lines. The error is want of memory.
-pub fn drop_derivable(alloc: Global, lines: &[Line], order: &Order) -> Result<Lines, Memory>
+/// once, or arcs from inside and from outside of what is left, or it is saturated. Once questions have cost much, be it about
+/// these lines or before them, the lines that are left take the place of all: arcs from outside are made of them, and ways,
+/// which decide each bound, and `rt_sure` tells beforehand what becomes of lines. The error is want of memory.
+pub fn drop_derivable(
+    alloc: Global,
+    lines: &[Line],
+    order: &Order,
+    effort: &mut Effort,
+) -> Result<Lines, Memory>
     requires { All (HasConstantsBelow order.now.count) lines.now }
     ensures drops { IfOk result (λ left. Drops order.now [] lines.now left) }
     ensures stood { IfOk result (λ left. (l : Given) → Contains left l → Contains lines.now l) }
 {
     let told = rt_earlier::told(alloc, lines)?;
-    let rest = drop_by(alloc, lines, lines.len(), None, &told, &[], order)?;
-    let left = drop_rest(alloc, rest, &told, order)?;
+    let rest = drop_first(alloc, lines, &told, order, effort)?;
+    let left = drop_rest(alloc, rest, &told, order, effort)?;
     Ok(Sequence::from_vec(left))
 }
 
@@ -49,9 +54,50 @@ struct Rest {
     place: usize,
 }
 
+// What is left when lines go from the end, up to the first question about a `<=` line or a bound that would come when questions
+// have cost much, which they may have before. Which lines follow from those before them is given.
+fn drop_first(
+    alloc: Global,
+    lines: &[Line],
+    told: &[bool],
+    order: &Order,
+    effort: &mut Effort,
+) -> Result<Rest, Memory>
+    requires each { length lines.now ≤ length told.now }
+    requires told { AreTold lines.now told.now }
+    requires constants { All (HasConstantsBelow order.now.count) lines.now }
+    ensures left { IfOk result (λ rest. (all : List Given) → AreLeft order.now all (length lines.now) lines.now →
+        AreLeft order.now all rest.place rest.left.items) }
+    ensures stood { IfOk result (λ rest. (l : Given) → Contains rest.left.items l → Contains lines.now l) }
+{
+    if !effort.is_large() {
+        return drop_by(alloc, lines, lines.len(), None, told, &[], order, effort);
+    }
+    let witnesses = Witnesses::of(alloc, lines)?;
+    drop_from(
+        alloc,
+        lines,
+        lines.len(),
+        None,
+        None,
+        None,
+        told,
+        &[],
+        &witnesses,
+        order,
+        effort,
+    )
+}
+
 // What stays when the lines that weren't asked about yet are asked about, too. Which of them follow from those before them is
 // given, and what becomes of them in any case is found out first.
-fn drop_rest(alloc: Global, rest: Rest, told: &[bool], order: &Order) -> Result<Vec<Line>, Memory>
+fn drop_rest(
+    alloc: Global,
+    rest: Rest,
+    told: &[bool],
+    order: &Order,
+    effort: &mut Effort,
+) -> Result<Vec<Line>, Memory>
     requires within { rest.place ≤ length rest.left.items }
     requires each { rest.place ≤ length told.now }
     requires told { AreTold rest.left.items (take rest.place told.now) }
@@ -74,6 +120,7 @@ fn drop_rest(alloc: Global, rest: Rest, told: &[bool], order: &Order) -> Result<
         &told[..place],
         &fates,
         order,
+        effort,
     )?;
     Ok(rest.left)
 }
@@ -127,6 +174,7 @@ fn drop_by(
     told: &[bool],
     fates: &[Fate],
     order: &Order,
+    effort: &mut Effort,
 ) -> Result<Rest, Memory>
     requires within { from ≤ length lines.now }
     requires ways { IfSome ways (λ t. IsOwnOuter lines.now t.now) }
@@ -153,6 +201,7 @@ fn drop_by(
         fates,
         &witnesses,
         order,
+        effort,
     )
 }
 
@@ -168,6 +217,7 @@ fn drop_from(
     fates: &[Fate],
     witnesses: &Witnesses,
     order: &Order,
+    effort: &mut Effort,
 ) -> Result<Rest, Memory>
     requires within { from ≤ length lines.now }
     requires outer { IfSome outer (λ t. IsOwnOuter lines.now t.now) }
@@ -188,8 +238,7 @@ fn drop_from(
     let mut place = from;
     // The lines from the place to this one went, and weren't taken out yet.
     let mut next = place;
-    let mut effort = Effort::none();
-    while goes_on(place, fates, &effort) {
+    while goes_on(place, lines, fates, effort) {
         place -= 1;
         next = drop_before(
             alloc,
@@ -204,19 +253,20 @@ fn drop_from(
             order,
             place,
             next,
-            &mut effort,
+            effort,
         )?;
     }
     take_out(&mut left, place, next);
     Ok(Rest { left, place })
 }
 
-// Whether there is a line before the place, and it is next: where nothing is known of what becomes of lines, it isn't any more
-// when questions have cost much.
-fn goes_on(place: usize, fates: &[Fate], effort: &Effort) -> bool
+// Whether there is a line before the place, and it is next: where nothing is known of what becomes of lines, a `<=` line or a
+// bound isn't any more when questions have cost much.
+fn goes_on(place: usize, lines: &[Line], fates: &[Fate], effort: &Effort) -> bool
+    requires { place ≤ length lines.now }
     ensures { MatchBool result (0 < place) (0 < length fates.now → place ≡ 0) }
 {
-    place > 0 && (!fates.is_empty() || !effort.is_large())
+    place > 0 && (!fates.is_empty() || !effort.is_large() || !is_flow(&lines[place - 1]))
 }
 
 // What becomes of the line at the place, as far as it is known.
@@ -380,8 +430,8 @@ fn goes(witnesses: &Witnesses, stands: &mut Vec<bool>, line: &Line, place: usize
     false
 }
 
-// Takes out the line at the place, if the others derive it. A line that says that a variable is there isn't moved where which
-// lines name which variables tell that it stays.
+// Takes out the line at the place, if the others derive it. It is asked about where it stands, and isn't moved where arcs from
+// outside or which lines name which variables tell that it stays.
 fn drop_at(
     alloc: Global,
     outer: Option<&Upper>,
@@ -407,13 +457,20 @@ fn drop_at(
     ensures moved { OnOk result (IsMoved left.old.items stands.old.items place left.new.items stands.new.items) }
 {
     stands[place] = false;
-    if is_missing(witnesses, stands, &left[place]) {
-        stands[place] = true;
-        return Ok(());
+    match told(alloc, outer, witnesses, stands, order, &left[place])? {
+        Led::No => {
+            stands[place] = true;
+            return Ok(());
+        }
+        Led::Yes => {
+            left.remove(place);
+            return Ok(());
+        }
+        Led::Open => {}
     }
     let line = left.remove(place);
-    let derived = is_derivable(
-        alloc, outer, inner, ways, witnesses, stands, left, order, &line, effort,
+    let derived = is_derivable_open(
+        alloc, inner, ways, witnesses, stands, left, order, &line, effort,
     )?;
     if derived {
         return Ok(());

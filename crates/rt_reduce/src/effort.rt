@@ -1,27 +1,29 @@
 // What questions cost.
 
-// From so many on it pays to find out beforehand what becomes of lines.
-const LARGE: usize = 2;
+// From so many lines on, those of a list once for each question that it was saturated for, it pays to find out beforehand what
+// becomes of lines.
+const LARGE: usize = 500;
 
-// For how many questions about `<=` lines and bounds what is left of a list was saturated.
+/// What it cost to ask whether lines derive others, over the rounds of a reduction.
 #[derive(Drop)]
-pub(crate) struct Effort {
-    questions: usize,
+pub struct Effort {
+    // How many lines were saturated, for questions about `<=` lines and bounds.
+    lines: usize,
 }
 
 impl Effort {
-    // None so far.
-    pub(crate) fn none() -> Effort {
-        Effort { questions: 0 }
+    /// Nothing so far.
+    pub fn none() -> Effort {
+        Effort { lines: 0 }
     }
 
-    // What is left is saturated for another one.
-    pub(crate) fn add_saturation(&mut self) {
-        self.questions = self.questions.saturating_add(1);
+    // So many lines are saturated for a question.
+    pub(crate) fn add_saturation(&mut self, lines: usize) {
+        self.lines = self.lines.saturating_add(lines);
     }
 
-    // Whether the questions have cost much.
+    // Whether questions have cost much.
     pub(crate) fn is_large(&self) -> bool {
-        self.questions >= LARGE
+        self.lines >= LARGE
     }
 }

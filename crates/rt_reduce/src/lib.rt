@@ -21,6 +21,7 @@ mod settling;
 
 pub use before::comes_before;
 pub use dropping::drop_derivable;
+pub use effort::Effort;
 pub use merging::merge_equal;
 pub use reducing::reduce;
 pub use rounds::round;

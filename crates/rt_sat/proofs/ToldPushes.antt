@@ -2,9 +2,11 @@
 use Rattle.std.proofs.Common.{◌≡◌, ℕ, ◌+◌, ◌*◌, ◌/◌, ◌%◌, ◌<◌, ◌≤◌, ◌⊎◌, inl, inr, Bool, not, true, false, List, [], ◌∷◌, ◌++◌, Contains, length, get_or, set, refl, sym, ap, subst, ◌∙◌, arith}
 use Rattle.std.specs.Prelude.{nat_eq}
 use Rattle.std.specs.Bool.{beq}
-use Rattle.std.proofs.lemmas.List.{get_or_read}
-use Rattle.std.proofs.lemmas.List.Elements.{Contains-get_or, Contains-push_cases}
+use Rattle.std.proofs.lemmas.List.{get_or_default, get_or_read}
+use Rattle.std.proofs.lemmas.List.Elements.{Contains-push_cases}
 use Rattle.rt_lines.specs.declared.label.Label.{Label}
+use Rattle.rt_lines.specs.declared.label.Label.TheVariants.{In}
+use Rattle.rt_lines.specs.declared.label.Loc.TheVariants.{Arg}
 use Rattle.rt_lines.specs.declared.label.Variance.{Variance}
 use Rattle.rt_lines.specs.declared.label.Variance.TheVariants.{Co, Contra}
 use Rattle.rt_lines.specs.declared.variable.Dtv.{Dtv}
@@ -19,12 +21,12 @@ use Rattle.rt_grid.specs.Tables.Made.{told}
 use Rattle.rt_grid.proofs.Holding.{add_holds, holds_by, made_chain, made_ways, says_holds, says_ways}
 use Rattle.rt_sat.specs.declared.family.Family.{Family}
 use Rattle.rt_sat.specs.declared.family.Home.{Home}
-use Rattle.rt_sat.specs.declared.gathering.Kid.{Kid}
+use Rattle.rt_sat.specs.declared.gathering.End.{End}
 use Rattle.rt_sat.specs.declared.state.State.{State}
 use Rattle.rt_sat.specs.declared.state.Edge.{Edge}
 use Rattle.rt_sat.specs.Counts.{digit_of}
 use Rattle.rt_sat.specs.Deciding.{is_among}
-use Rattle.rt_sat.specs.Hints.{bit_of, grid_of, members_of, no_table, state_at, AreKids, AreToldSteps, IsHome, IsTold, IsToldAt, IsToldFamily, IsToldRow, SaysOr}
+use Rattle.rt_sat.specs.Hints.{bit_of, grid_of, members_of, no_table, state_at, AreEnds, AreSameMembers, AreToldSteps, IsEnd, IsFamily, IsHome, IsTold, IsToldAt, IsToldFamily, IsToldRow, SaysOr}
 use Rattle.rt_sat.specs.Numbered.{at_number, is_contra, sign_of, state_of}
 use Rattle.rt_sat.specs.Pushes.{flip_at, IsChildOf, PushBy}
 use Rattle.rt_sat.proofs.Closed.{child_state, named_child, parent_state, push_of, there_child}
@@ -47,8 +49,37 @@ state_placed members p b = λ k. record { variable = get_or members (half_of p b
 pub list_read : {X : Type 0} (xs : List (List X)) (i : ℕ) (items x : List X) → i < length xs → items ≡ x → x ≡ get_or xs i x → items ≡ get_or xs i []
 list_read xs i items x less is read = is ∙ get_or_read xs i x less read []
 
-pub kid_read : (members : List ℕ) (kids : List Kid) (i : ℕ) → AreKids members kids → i < length kids → (get_or kids i (record { parent = 0; variable = 0 })).parent < length members
-kid_read members kids i are less = are (get_or kids i (record { parent = 0; variable = 0 })) (Contains-get_or kids i (record { parent = 0; variable = 0 }) less)
+-- a state stands where it stood, and an end is one, where the classes have the same members
+home_same : (count : ℕ) (old new : Family) (state : State) (home : Home) → AreSameMembers old new → IsFamily count old → IsFamily count new → IsHome old state home → IsHome new state home
+home_same count old new state home same before after stands =
+    let less : home.class < length new.members.items = subst (λ (xs : List (List ℕ)). home.class < length xs) (sym same) stands.class in
+    record {
+      class = less;
+      place = subst (λ n. home.index < n) (before.sizes home.class stands.class ∙ ap (λ (xs : List (List ℕ)). 2 * length (get_or xs home.class [])) (sym same) ∙ sym (after.sizes home.class less)) stands.place;
+      is = ap (λ (xs : List (List ℕ)). state_at (get_or xs home.class []) home.index) same ∙ stands.is;
+    }
+
+ends_same : (known : List Dtv) (flips : List Bool) (members : List ℕ) (count : ℕ) (old new : Family) (ends : List End) → AreSameMembers old new → IsFamily count old → IsFamily count new → AreEnds known flips members old ends → AreEnds known flips members new ends
+ends_same known flips members count old new ends same before after are end c =
+    let is : IsEnd known flips members old end = are end c in
+    record { inside = is.inside; parent = is.parent; child = is.child; home = home_same count old new end.child end.home same before after is.home; flip = is.flip }
+
+-- what was read of ends, that stay what they are where the classes have the same members
+pub ends_kept : (known : List Dtv) (flips : List Bool) (members now : List ℕ) (count : ℕ) (old new : Family) (ends items : List End) → now ≡ members → items ≡ ends → AreSameMembers old new → IsFamily count old → IsFamily count new →
+    AreEnds known flips now old ends → AreEnds known flips members new items
+ends_kept known flips members now count old new ends items each read same before after are =
+    subst (AreEnds known flips members new) (sym read) (ends_same known flips members count old new ends same before after (subst (λ xs. AreEnds known flips xs old ends) each are))
+
+-- what stands where no end does
+abbrev pub no_end : End
+no_end = record { place = 0; parent = record { variable = 0; contra = false }; child = record { variable = 0; contra = false }; letter = In (Arg 0); home = record { class = 0; index = 0 }; flip = false; matters = false }
+
+-- an end more
+pub ends_more : (known : List Dtv) (flips : List Bool) (members : List ℕ) (into : Family) (ends more : List End) (end : End) → AreEnds known flips members into ends → IsEnd known flips members into end → more ≡ ends ++ end ∷ [] → AreEnds known flips members into more
+ends_more known flips members into ends more end are here e other c = elim (Contains-push_cases ends end other (subst (λ xs. Contains xs other) e c)) [
+  | inl h ↦ are other h
+  | inr f ↦ subst (IsEnd known flips members into) f here
+]
 
 pub digit_small : (b : Bool) → digit_of b < 2
 digit_small true = omega arith
@@ -111,19 +142,19 @@ module _ (known : List Dtv) (flips : List Bool) (lines : List Edge) where
       (push (named_child known L flips frame child parent l left) (named_child known L flips frame end other m right) (there_child known L flips frame child parent l left) (there_child known L flips frame end other m right) placed
       (push_of known L flips frame parent.variable l m d (sign_of child.contra) (sign_of end.contra) k left.above by)))
 
-  -- a count of a row is told of the state at a member's place
-  pub row_told : (s : State) (members row : List ℕ) (p way : ℕ) (b : Bool) → IsToldRow known flips lines s members row → 2 * p + digit_of b < length row → way ≡ count_at row (2 * p + digit_of b) → way < 255 →
-      IsTold known flips lines s (record { variable = get_or members p 0; contra = b }) way
-  row_told s members row p way b are less e few =
-      subst (λ t. IsTold known flips lines s t way) (state_placed members p b)
-      (subst (IsTold known flips lines s (state_at members (2 * p + digit_of b))) (sym e) (are (2 * p + digit_of b) less (subst (λ n. n < 255) e few)))
-
-  -- the row of a member's place is told of its state
-  pub told_row : (family : Family) (class p : ℕ) (b : Bool) (row : List ℕ) → class < length family.members.items → IsToldFamily known flips lines family → row ≡ row_of (grid_of family class).rows (2 * p + digit_of b) →
-      IsToldRow known flips lines (record { variable = get_or (members_of family class) p 0; contra = b }) (members_of family class) row
-  told_row family class p b row less are e =
-      subst (λ s. IsToldRow known flips lines s (members_of family class) row) (state_placed (members_of family class) p b)
-      (subst (IsToldRow known flips lines (state_at (members_of family class) (2 * p + digit_of b)) (members_of family class)) (sym e) (λ j long few. (are class less).rows (2 * p + digit_of b) j few))
+  -- what is pushed from the count of a row between the parents of ends is told
+  pub end_told : (members row : List ℕ) (into : Family) (source target : End) (way k : ℕ) → IsEnd known flips members into source → IsEnd known flips members into target → target.home.class ≡ source.home.class → IsToldRow known flips lines source.parent members row →
+      target.place < length row → way ≡ get_or row target.place 0 → way < 255 → PushBy source.flip source.letter target.letter way (sign_of source.child.contra) (sign_of target.child.contra) k →
+      IsTold known flips lines source.child (state_at (members_of into source.home.class) target.home.index) k
+  end_told members row into source target way k from to class are less read few by =
+      let e : way ≡ count_at row target.place = read ∙ get_or_default row target.place 0 255 less in
+      let there : IsTold known flips lines source.parent target.parent way =
+      subst (λ t. IsTold known flips lines source.parent t way) (sym to.parent)
+      (subst (IsTold known flips lines source.parent (state_at members target.place)) (sym e) (are target.place less (subst (λ n. n < 255) e few))) in
+      let pushed : PushBy (flip_at flips source.parent.variable) source.letter target.letter way (sign_of source.child.contra) (sign_of target.child.contra) k =
+      subst (λ f. PushBy f source.letter target.letter way (sign_of source.child.contra) (sign_of target.child.contra) k) from.flip by in
+      subst (λ s. IsTold known flips lines source.child s k) (sym (ap (λ n. state_at (members_of into n) target.home.index) (sym class) ∙ to.home.is))
+      (told_push source.child source.parent target.child target.parent source.letter target.letter way k there from.child to.child pushed)
 
   -- a step more that is told
   pub steps_more : (child : State) (family : Family) (class : ℕ) (steps more : List Step) (step : Step) → AreToldSteps known flips lines child family class steps → IsTold known flips lines child (state_at (members_of family class) step.to) step.count → more ≡ steps ++ step ∷ [] →
@@ -153,10 +184,10 @@ module _ (known : List Dtv) (flips : List Bool) (lines : List Edge) where
       (subst (Holds (IsToldAt known flips lines (members_of old home.class))) (sym (get_or_read old.grids.items home.class was less read no_table)) (before home.class at.class))
       (λ s h. are s (subst (λ xs. Contains xs s) these h)) holds) before
 
-  -- what was read of the row of a member's place is told of its state
-  pub told_read : (family : Family) (class p place : ℕ) (b : Bool) (members row : List ℕ) (grid : Table) → class < length family.members.items → length family.grids.items ≡ length family.members.items → members ≡ members_of family class → grid ≡ get_or family.grids.items class grid →
-      place ≡ 2 * p + digit_of b → row ≡ row_of grid.rows place → IsToldFamily known flips lines family → IsToldRow known flips lines (record { variable = get_or members p 0; contra = b }) members row
-  told_read family class p place b members row grid less each same read at is are =
+  -- what was read of the row of a place is told of its state
+  pub told_read : (family : Family) (class place : ℕ) (row : List ℕ) (grid : Table) → class < length family.members.items → length family.grids.items ≡ length family.members.items → grid ≡ get_or family.grids.items class grid → row ≡ row_of grid.rows place →
+      IsToldFamily known flips lines family → IsToldRow known flips lines (state_at (members_of family class) place) (members_of family class) row
+  told_read family class place row grid less each read is are =
       let long : class < length family.grids.items = subst (λ n. class < n) (sym each) less in
-      let rows : row ≡ row_of (grid_of family class).rows (2 * p + digit_of b) = is ∙ ap (λ (g : Table). row_of g.rows place) (get_or_read family.grids.items class grid long read no_table) ∙ ap (row_of (grid_of family class).rows) at in
-      subst (λ xs. IsToldRow known flips lines (record { variable = get_or xs p 0; contra = b }) xs row) (sym same) (told_row family class p b row less are rows)
+      let rows : row ≡ row_of (grid_of family class).rows place = is ∙ ap (λ (g : Table). row_of g.rows place) (get_or_read family.grids.items class grid long read no_table) in
+      subst (IsToldRow known flips lines (state_at (members_of family class) place) (members_of family class)) (sym rows) (λ j long few. (are class less).rows place j few)

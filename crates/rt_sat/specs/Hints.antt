@@ -12,9 +12,10 @@ use Rattle.rt_sat.specs.declared.family.Family.{Family}
 use Rattle.rt_sat.specs.declared.family.Home.{Home}
 use Rattle.rt_sat.specs.declared.gathering.Kid.{Kid}
 use Rattle.rt_sat.specs.declared.gathering.Group.{Group}
+use Rattle.rt_sat.specs.declared.gathering.End.{End}
 use Rattle.rt_sat.specs.Deciding.{is_among}
 use Rattle.rt_sat.specs.Numbered.{state_of}
-use Rattle.rt_sat.specs.Pushes.{AreSound, IsInFrame}
+use Rattle.rt_sat.specs.Pushes.{flip_at, AreSound, IsChildOf, IsInFrame}
 
 -- the count between the states is a counted judgement, wherever the edges of lines are
 abbrev pub IsTold : List Dtv → List Bool → List Edge → State → State → ℕ → Type 0
@@ -106,6 +107,25 @@ AreToldSteps known flips lines state family class steps = (s : Step) → Contain
 
 abbrev pub AreInClass : Family → ℕ → List Step → Type 0
 AreInClass family class steps = (s : Step) → Contains steps s → s.to < size_of (grid_of family class)
+
+-- the state has a letter more than the one at a place of a class, and stands in a class of a family
+pub record IsEnd (known : List Dtv) (flips : List Bool) (members : List ℕ) (into : Family) (end : End) : Type 0 where
+  pub inside : end.place < 2 * length members
+  pub parent : end.parent ≡ state_at members end.place
+  pub child : IsChildOf known end.child end.parent end.letter
+  pub home : IsHome into end.child end.home
+  pub flip : end.flip ≡ flip_at flips end.parent.variable
+
+abbrev pub AreEnds : List Dtv → List Bool → List ℕ → Family → List End → Type 0
+AreEnds known flips members into ends = (end : End) → Contains ends end → IsEnd known flips members into end
+
+-- the parent's place is one of a row, and the state's, if it stands in the class, one of what is known there
+pub record IsInRows (row : List ℕ) (class : ℕ) (known : List ℕ) (end : End) : Type 0 where
+  pub parent : end.place < length row
+  pub home : end.home.class ≡ class → end.home.index < length known
+
+abbrev pub AreInRows : List ℕ → ℕ → List ℕ → List End → Type 0
+AreInRows row class known ends = (end : End) → Contains ends end → IsInRows row class known end
 
 -- the variable has a letter more than a member of a class
 pub record IsKid (family : Family) (number : ℕ) (kid : Kid) : Type 0 where

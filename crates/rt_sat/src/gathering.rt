@@ -1,17 +1,19 @@
 // Pushes from ways that tables of bytes tell.
-ghost use Rattle.std.specs.Prelude.{◌≡◌, ◌*◌, ◌+◌, ◌%◌, ◌<◌, ◌≤◌, ℕ, Bool, List, Contains, Some, None, IfOk, IfSome, OnOk};
-ghost use Rattle.std.specs.Prelude.{length, slice_index_or};
+ghost use Rattle.std.specs.Prelude.{◌≡◌, ◌+◌, ◌%◌, ◌<◌, ◌≤◌, ℕ, Bool, List, Contains, Some, None, IfOk, IfSome, OnOk};
+ghost use Rattle.std.specs.Prelude.{length};
 ghost use Rattle.rt_grid.specs.declared.grid.Step.{Step as Pace};
 ghost use Rattle.rt_grid.specs.Tables.{size_of, Holds, Made, SaysWith};
 ghost use Rattle.rt_lines.specs.declared.label.Label.{Label as Letter};
 ghost use Rattle.rt_lines.specs.declared.variable.Dtv.{Dtv as Variable};
+ghost use Rattle.rt_sat.specs.declared.family.Family.{Family as Classes};
 ghost use Rattle.rt_sat.specs.declared.state.State.{State as Place};
 ghost use Rattle.rt_sat.specs.declared.state.Edge.{Edge as Arrow};
 ghost use Rattle.rt_sat.specs.Counts.{digit_of};
-ghost use Rattle.rt_sat.specs.Hints.{bit_of, grid_of, members_of, state_at, AreGroups, AreInClass, AreKids, AreSameMembers, AreToldSteps};
-ghost use Rattle.rt_sat.specs.Hints.{IsFamily, IsGroup, IsHome, IsTold, IsToldFamily, IsToldRow, SaysOr};
+ghost use Rattle.rt_sat.specs.Hints.{bit_of, grid_of, members_of, state_at, AreEnds, AreGroups, AreInClass, AreInRows, AreKids};
+ghost use Rattle.rt_sat.specs.Hints.{AreSameMembers, AreToldSteps, IsEnd, IsFamily, IsGroup, IsHome, IsInRows, IsTold, IsToldFamily};
+ghost use Rattle.rt_sat.specs.Hints.{IsToldRow, SaysOr};
 ghost use Rattle.rt_sat.specs.Numbered.{sign_of, AreDistinct};
-ghost use Rattle.rt_sat.specs.Pushes.{flip_at, IsChildOf, PushBy};
+ghost use Rattle.rt_sat.specs.Pushes.{IsChildOf, PushBy};
 
 use crate::family::{Family, Home, place};
 use crate::pushing::{Frame, flag, is_pointer, sign, turns};
@@ -47,14 +49,16 @@ pub(crate) struct Group {
     pub(crate) kids: Sequence<Kid>,
 }
 
-// A child to which its parent's ways are pushed.
+// The state of a variable with a letter more than a member's state, to which what is known of the latter is pushed.
 #[derive(Clone, Copy)]
-struct Source {
+struct End {
+    // The place of the parent's state in its class.
+    place: usize,
     parent: State,
     child: State,
     // The letter that the child has more.
     letter: Label,
-    // Where the child stands.
+    // Where the child stands, in the family that is pushed to.
     home: Home,
     // Whether the parent can be read and written through.
     flip: bool,
@@ -78,16 +82,19 @@ pub(crate) fn spread(
         IsToldFamily frame.now.named frame.now.flips.items lines family.new) }
 {
     let due = vec![in alloc; true; family.members.len()]?;
-    spread_from(alloc, frame, groups, family, due)
+    let since = vec![in alloc; 0u64; family.members.len()]?;
+    spread_from(alloc, frame, groups, family, due, since)
 }
 
-// Pushes within a family from the classes that are due, until nothing is added.
+// Pushes within a family from the classes that are due, until nothing is added. Of a class those rows alone are pushed that
+// changed since it was pushed from last, of which there are the clocks: no promise rests on these.
 pub(crate) fn spread_from(
     alloc: Global,
     frame: &Frame,
     groups: &[Group],
     family: &mut Family,
     due: Vec<bool>,
+    since: Vec<u64>,
 ) -> Result<(), Memory>
     requires distinct { AreDistinct frame.now.named }
     requires family { IsFamily (length frame.now.named) family.old }
@@ -99,6 +106,7 @@ pub(crate) fn spread_from(
         IsToldFamily frame.now.named frame.now.flips.items lines family.new) }
 {
     let mut due = due;
+    let mut since = since;
     for pass in 0..PASSES {
         let mut next = vec![in alloc; false; due.len()]?;
         sweep_due(
@@ -108,13 +116,24 @@ pub(crate) fn spread_from(
             pass % BETWEEN == BETWEEN - 1,
             &mut next,
         )?;
-        push_due(alloc, frame, groups, family, &due, &mut next)?;
+        let clocks = clocks(alloc, family)?;
+        push_due(alloc, frame, groups, family, &due, &since, &mut next)?;
         if !next.contains(&true) {
             return Ok(());
         }
         due = next;
+        since = clocks;
     }
     Ok(())
+}
+
+// For each class when something was last noted of its ways.
+pub(crate) fn clocks(alloc: Global, family: &Family) -> Result<Vec<u64>, Memory> {
+    let mut clocks = Vec::with_capacity(alloc, family.grids.len())?;
+    for grid in &family.grids {
+        clocks.push(grid.clock())?;
+    }
+    Ok(clocks)
 }
 
 // Takes in what the steps of the classes lead to that are due, and flags those in which a way became shorter.
@@ -189,13 +208,15 @@ fn sweep_class(
     family.sweep(alloc, class)
 }
 
-// Pushes once from each class that is due, and flags those to which something was added.
+// Pushes once from each class that is due, as far as its rows changed since its clock, and flags those to which something was
+// added.
 fn push_due(
     alloc: Global,
     frame: &Frame,
     groups: &[Group],
     family: &mut Family,
     due: &[bool],
+    since: &[u64],
     next: &mut Vec<bool>,
 ) -> Result<(), Memory>
     requires distinct { AreDistinct frame.now.named }
@@ -209,42 +230,28 @@ fn push_due(
         IsToldFamily frame.now.named frame.now.flips.items lines family.new) }
 {
     for group in groups {
-        push_at(alloc, frame, group, family, due, next)?;
+        if let Some(since) = clock_of(due, since, group.class) {
+            push_group(alloc, frame, group, family, since, next)?;
+        }
     }
     Ok(())
 }
 
-// Pushes from the ways of a class to the variables of a group, within its family, if the class is due.
-fn push_at(
-    alloc: Global,
-    frame: &Frame,
-    group: &Group,
-    family: &mut Family,
-    due: &[bool],
-    next: &mut Vec<bool>,
-) -> Result<(), Memory>
-    requires distinct { AreDistinct frame.now.named }
-    requires family { IsFamily (length frame.now.named) family.old }
-    requires group { IsGroup family.old group.now }
-    requires next { length next.old.items ≡ length family.old.members.items }
-    ensures next { OnOk result (length next.new.items ≡ length next.old.items) }
-    ensures same { OnOk result (AreSameMembers family.old family.new) }
-    ensures family { OnOk result (IsFamily (length frame.now.named) family.new) }
-    ensures told { OnOk result ((lines : List Arrow) → IsToldFamily frame.now.named frame.now.flips.items lines family.old →
-        IsToldFamily frame.now.named frame.now.flips.items lines family.new) }
-{
-    match due.get(group.class) {
-        Some(true) => push_group(alloc, frame, group, family, next),
-        Some(false) | None => Ok(()),
+// The clock of a class's last push, if the class is due.
+fn clock_of(due: &[bool], since: &[u64], class: usize) -> Option<u64> {
+    match due.get(class) {
+        Some(true) => Some(*since.get(class)?),
+        Some(false) | None => None,
     }
 }
 
-// Pushes from the ways of a class to the variables of a group, within its family.
+// Pushes from the rows of a class that changed since to the variables of a group, within its family.
 fn push_group(
     alloc: Global,
     frame: &Frame,
     group: &Group,
     family: &mut Family,
+    since: u64,
     next: &mut Vec<bool>,
 ) -> Result<(), Memory>
     requires distinct { AreDistinct frame.now.named }
@@ -257,65 +264,41 @@ fn push_group(
     ensures told { OnOk result ((lines : List Arrow) → IsToldFamily frame.now.named frame.now.flips.items lines family.old →
         IsToldFamily frame.now.named frame.now.flips.items lines family.new) }
 {
-    let members = family.members[group.class].items().to_vec(alloc)?;
-    let kids = group.kids.items();
-    for kid in kids {
-        push_within(
-            alloc,
-            frame,
-            &members,
-            kids,
-            *kid,
-            false,
-            family,
-            group.class,
-            next,
-        )?;
-        push_within(
-            alloc,
-            frame,
-            &members,
-            kids,
-            *kid,
-            true,
-            family,
-            group.class,
-            next,
-        )?;
+    let members = family.members[group.class].items();
+    let ends = ends(alloc, frame, members, group.kids.items(), family)?;
+    for source in &ends {
+        if family.grids[group.class].has_changed(source.place, since) {
+            push_within(alloc, &ends, source, family, group.class, next)?;
+        }
     }
     Ok(())
 }
 
-// Pushes from the ways of a member's state within its family, and flags the class to which something was added.
+// Pushes from the row of an end's parent within its family, and flags the class to which something was added.
 fn push_within(
     alloc: Global,
-    frame: &Frame,
-    members: &[u32],
-    kids: &[Kid],
-    kid: Kid,
-    contra: bool,
+    ends: &[End],
+    source: &End,
     family: &mut Family,
     class: usize,
     next: &mut Vec<bool>,
 ) -> Result<(), Memory>
-    requires distinct { AreDistinct frame.now.named }
-    requires family { IsFamily (length frame.now.named) family.old }
+    requires family { (count : ℕ) × IsFamily count family.old }
     requires class { class < length family.old.members.items }
-    requires members { members.now ≡ members_of family.old class }
-    requires kids { AreKids members.now kids.now }
-    requires kid { kid.parent < length members.now }
+    requires ends { (known : List Variable) × (flips : List Bool) ×
+        AreEnds known flips (members_of family.old class) family.old ends.now }
+    requires source { Contains ends.now source.now }
     requires next { length next.old.items ≡ length family.old.members.items }
     ensures next { OnOk result (length next.new.items ≡ length next.old.items) }
     ensures same { OnOk result (AreSameMembers family.old family.new) }
-    ensures family { OnOk result (IsFamily (length frame.now.named) family.new) }
-    ensures told { OnOk result ((lines : List Arrow) → IsToldFamily frame.now.named frame.now.flips.items lines family.old →
-        IsToldFamily frame.now.named frame.now.flips.items lines family.new) }
+    ensures family { OnOk result ((count : ℕ) → IsFamily count family.old → IsFamily count family.new) }
+    ensures told { OnOk result ((known : List Variable) (flips : List Bool) (lines : List Arrow) →
+        AreEnds known flips (members_of family.old class) family.old ends.now → IsToldFamily known flips lines family.old →
+        IsToldFamily known flips lines family.new) }
 {
-    let row = family.grids[class]
-        .row(place(kid.parent, contra))
-        .to_vec(alloc)?;
-    if let Some(changed) = push_kid(alloc, frame, members, kids, kid, contra, &row, family)? {
-        next[changed] = true;
+    let found = found_at(alloc, ends, source, family, class, family)?;
+    if put(alloc, family, source.home, &found)? {
+        next[source.home.class] = true;
     }
     Ok(())
 }
@@ -338,94 +321,105 @@ pub(crate) fn push_apart(
         IsToldFamily frame.now.named frame.now.flips.items lines into.old →
         IsToldFamily frame.now.named frame.now.flips.items lines into.new) }
 {
-    let kids = group.kids.items();
-    for kid in kids {
-        push_beyond(alloc, frame, kids, *kid, false, family, group.class, into)?;
-        push_beyond(alloc, frame, kids, *kid, true, family, group.class, into)?;
+    let members = family.members[group.class].items();
+    let ends = ends(alloc, frame, members, group.kids.items(), into)?;
+    for source in &ends {
+        let found = found_at(alloc, &ends, source, family, group.class, into)?;
+        put(alloc, into, source.home, &found)?;
     }
     Ok(())
 }
 
-// Pushes from the ways of a member's state into another family.
-fn push_beyond(
+// The steps that are pushed from the row of an end's parent, in a class of a family, to where the end stands.
+fn found_at(
     alloc: Global,
-    frame: &Frame,
-    kids: &[Kid],
-    kid: Kid,
-    contra: bool,
+    ends: &[End],
+    source: &End,
     family: &Family,
     class: usize,
-    into: &mut Family,
-) -> Result<(), Memory>
-    requires distinct { AreDistinct frame.now.named }
-    requires family { IsFamily (length frame.now.named) family.now }
+    into: &Family,
+) -> Result<Vec<Step>, Memory>
+    requires family { (count : ℕ) × IsFamily count family.now }
     requires class { class < length family.now.members.items }
-    requires kids { AreKids (members_of family.now class) kids.now }
-    requires kid { kid.parent < length (members_of family.now class) }
-    requires into { IsFamily (length frame.now.named) into.old }
-    ensures same { OnOk result (AreSameMembers into.old into.new) }
-    ensures family { OnOk result (IsFamily (length frame.now.named) into.new) }
-    ensures told { OnOk result ((lines : List Arrow) → IsToldFamily frame.now.named frame.now.flips.items lines family.now →
-        IsToldFamily frame.now.named frame.now.flips.items lines into.old →
-        IsToldFamily frame.now.named frame.now.flips.items lines into.new) }
+    requires into { (count : ℕ) × IsFamily count into.now }
+    requires ends { (known : List Variable) × (flips : List Bool) ×
+        AreEnds known flips (members_of family.now class) into.now ends.now }
+    requires source { Contains ends.now source.now }
+    ensures inside { IfOk result (λ found. AreInClass into.now source.now.home.class found.items) }
+    ensures told { IfOk result (λ found. (known : List Variable) (flips : List Bool) (lines : List Arrow) →
+        AreEnds known flips (members_of family.now class) into.now ends.now → IsToldFamily known flips lines family.now →
+        AreToldSteps known flips lines source.now.child into.now source.now.home.class found.items) }
 {
-    let members = family.members[class].items();
-    let row = family.grids[class].row(place(kid.parent, contra));
-    push_kid(alloc, frame, members, kids, kid, contra, row, into)?;
-    Ok(())
+    let row = family.grids[class].row(source.place);
+    let known = into.grids[source.home.class].row(source.home.index);
+    let found = gathered(alloc, ends, row, source, known)?;
+    Ok(found)
 }
 
-// Pushes from the ways of a state, whose counts are given, to a variable with a letter more. The class to which something was
-// added.
-fn push_kid(
+// Adds steps from a place of a class. Whether one was added.
+fn put(alloc: Global, into: &mut Family, home: Home, found: &[Step]) -> Result<bool, Memory>
+    requires into { (count : ℕ) × IsFamily count into.old }
+    requires class { home.class < length into.old.members.items }
+    requires place { home.index < size_of (grid_of into.old home.class) }
+    requires found { AreInClass into.old home.class found.now }
+    ensures same { OnOk result (AreSameMembers into.old into.new) }
+    ensures family { OnOk result ((count : ℕ) → IsFamily count into.old → IsFamily count into.new) }
+    ensures told { OnOk result ((known : List Variable) (flips : List Bool) (lines : List Arrow) (child : Place) →
+        IsHome into.old child home → AreToldSteps known flips lines child into.old home.class found.now →
+        IsToldFamily known flips lines into.old → IsToldFamily known flips lines into.new) }
+{
+    let added = enter(alloc, &mut into.grids[home.class], home.index, found)?;
+    Ok(added)
+}
+
+// The states of variables with a letter more than members' states, as far as they stand in a class of a family.
+fn ends(
     alloc: Global,
     frame: &Frame,
     members: &[u32],
     kids: &[Kid],
-    kid: Kid,
-    contra: bool,
-    row: &[u8],
-    into: &mut Family,
-) -> Result<Option<usize>, Memory>
+    into: &Family,
+) -> Result<Vec<End>, Memory>
     requires distinct { AreDistinct frame.now.named }
     requires members { length members.now ≤ 6000 }
-    requires inside { (v : ℕ) → Contains members.now v → v < length frame.now.named }
-    requires row { length row.now ≡ 2 * length members.now }
     requires kids { AreKids members.now kids.now }
+    requires into { (count : ℕ) × IsFamily count into.now }
+    ensures { IfOk result (λ ends. AreEnds frame.now.named frame.now.flips.items members.now into.now ends.items) }
+{
+    let mut ends = Vec::new(alloc);
+    for kid in kids {
+        for turned in 0..2 {
+            if let Some(end) = end_of(frame, members, *kid, turned == 1, into) {
+                ends.push(end)?;
+            }
+        }
+    }
+    Ok(ends)
+}
+
+// The state of a variable with a letter more than a member's state, if it stands in a class of a family.
+fn end_of(frame: &Frame, members: &[u32], kid: Kid, contra: bool, into: &Family) -> Option<End>
+    requires distinct { AreDistinct frame.now.named }
+    requires members { length members.now ≤ 6000 }
     requires kid { kid.parent < length members.now }
-    requires into { IsFamily (length frame.now.named) into.old }
-    ensures class { IfOk result (λ added. IfSome added (λ class. class < length into.old.members.items)) }
-    ensures same { OnOk result (AreSameMembers into.old into.new) }
-    ensures family { OnOk result (IsFamily (length frame.now.named) into.new) }
-    ensures told { OnOk result ((lines : List Arrow) →
-        IsToldRow frame.now.named frame.now.flips.items lines
-        (record { variable = slice_index_or members.now kid.parent 0; contra = contra }) members.now row.now →
-        IsToldFamily frame.now.named frame.now.flips.items lines into.old →
-        IsToldFamily frame.now.named frame.now.flips.items lines into.new) }
+    requires into { (count : ℕ) × IsFamily count into.now }
+    ensures { IfSome result (IsEnd frame.now.named frame.now.flips.items members.now into.now) }
 {
     let parent = State {
         variable: members[kid.parent],
         contra,
     };
-    let Some((child, letter)) = child_of(frame, parent, kid.variable) else {
-        return Ok(None);
-    };
-    let Some(home) = into.home(child) else {
-        return Ok(None);
-    };
-    let source = Source {
+    let (child, letter) = child_of(frame, parent, kid.variable)?;
+    let home = into.home(child)?;
+    Some(End {
+        place: place(kid.parent, contra),
         parent,
         child,
         letter,
         home,
         flip: flag(&frame.flips, parent.variable),
         matters: flag(&frame.matters, child.variable),
-    };
-    let found = gathered(alloc, frame, members, kids, row, &source, into)?;
-    if enter(alloc, &mut into.grids[home.class], home.index, &found)? {
-        return Ok(Some(home.class));
-    }
-    Ok(None)
+    })
 }
 
 // The state of a variable, if that has a letter more than a state's, and the letter.
@@ -454,136 +448,60 @@ pub(crate) fn child_of(frame: &Frame, parent: State, number: u32) -> Option<(Sta
     }
 }
 
-// The steps that are pushed from the counts of a parent's ways to a child of it, as far as they are less than what is known.
+// The steps that are pushed from the row of an end's parent to the end, as far as they are less than what is known.
 fn gathered(
     alloc: Global,
-    frame: &Frame,
-    members: &[u32],
-    kids: &[Kid],
+    ends: &[End],
     row: &[u8],
-    source: &Source,
-    into: &Family,
+    source: &End,
+    known: &[u8],
 ) -> Result<Vec<Step>, Memory>
-    requires distinct { AreDistinct frame.now.named }
-    requires members { length members.now ≤ 6000 }
-    requires inside { (v : ℕ) → Contains members.now v → v < length frame.now.named }
-    requires row { length row.now ≡ 2 * length members.now }
-    requires kids { AreKids members.now kids.now }
-    requires child { IsChildOf frame.now.named source.now.child source.now.parent source.now.letter }
-    requires flip { source.now.flip ≡ flip_at frame.now.flips.items source.now.parent.variable }
-    requires into { IsFamily (length frame.now.named) into.now }
-    requires home { IsHome into.now source.now.child source.now.home }
-    ensures inside { IfOk result (λ found. AreInClass into.now source.now.home.class found.items) }
-    ensures told { IfOk result (λ found. (lines : List Arrow) →
-        IsToldRow frame.now.named frame.now.flips.items lines source.now.parent members.now row.now →
-        AreToldSteps frame.now.named frame.now.flips.items lines source.now.child into.now source.now.home.class found.items) }
+    requires { AreInRows row.now source.now.home.class known.now ends.now }
+    ensures inside { IfOk result (λ found. (s : Pace) → Contains found.items s → s.to < length known.now) }
+    ensures told { IfOk result (λ found. (known : List Variable) (flips : List Bool) (lines : List Arrow) (members : List ℕ)
+        (into : Classes) → AreEnds known flips members into ends.now → IsEnd known flips members into source.now →
+        IsToldRow known flips lines source.now.parent members row.now →
+        AreToldSteps known flips lines source.now.child into source.now.home.class found.items) }
 {
-    let known = into.grids[source.home.class].row(source.home.index);
     let mut found = Vec::new(alloc);
-    for kid in kids {
-        for turned in 0..2 {
-            gather(
-                frame,
-                members,
-                row,
-                source,
-                into,
-                known,
-                *kid,
-                turned == 1,
-                &mut found,
-            )?;
+    for target in ends {
+        if let Some(step) = pushed_step(row, source, target, known) {
+            found.push(step)?;
         }
     }
     Ok(found)
 }
 
-// Adds the step that is pushed from the count of ways to a member's state, if it is less than what is known.
-fn gather(
-    frame: &Frame,
-    members: &[u32],
-    row: &[u8],
-    source: &Source,
-    into: &Family,
-    known: &[u8],
-    kid: Kid,
-    contra: bool,
-    found: &mut Vec<Step>,
-) -> Result<(), Memory>
-    requires distinct { AreDistinct frame.now.named }
-    requires members { length members.now ≤ 6000 }
-    requires inside { (v : ℕ) → Contains members.now v → v < length frame.now.named }
-    requires row { length row.now ≡ 2 * length members.now }
-    requires kid { kid.parent < length members.now }
-    requires child { IsChildOf frame.now.named source.now.child source.now.parent source.now.letter }
-    requires flip { source.now.flip ≡ flip_at frame.now.flips.items source.now.parent.variable }
-    requires into { IsFamily (length frame.now.named) into.now }
-    requires known { length known.now ≡ size_of (grid_of into.now source.now.home.class) }
-    ensures inside { OnOk result (AreInClass into.now source.now.home.class found.old.items →
-        AreInClass into.now source.now.home.class found.new.items) }
-    ensures told { OnOk result ((lines : List Arrow) →
-        IsToldRow frame.now.named frame.now.flips.items lines source.now.parent members.now row.now →
-        AreToldSteps frame.now.named frame.now.flips.items lines source.now.child into.now source.now.home.class found.old.items →
-        AreToldSteps frame.now.named frame.now.flips.items lines source.now.child into.now source.now.home.class found.new.items) }
+// The step that is pushed from the count of ways between the parents of ends, if it is less than what is known.
+fn pushed_step(row: &[u8], source: &End, target: &End, known: &[u8]) -> Option<Step>
+    requires { IsInRows row.now source.now.home.class known.now target.now }
+    ensures inside { IfSome result (λ s. s.to < length known.now) }
+    ensures told { IfSome result (λ s. (known : List Variable) (flips : List Bool) (lines : List Arrow) (members : List ℕ)
+        (into : Classes) → IsEnd known flips members into source.now → IsEnd known flips members into target.now →
+        IsToldRow known flips lines source.now.parent members row.now →
+        IsTold known flips lines source.now.child (state_at (members_of into source.now.home.class) s.to) s.count) }
 {
-    if let Some(step) = pushed_step(frame, members, row, source, into, known, kid, contra) {
-        found.push(step)?;
-    }
-    Ok(())
-}
-
-// The step that is pushed from the count of ways to a member's state, if it is less than what is known.
-fn pushed_step(
-    frame: &Frame,
-    members: &[u32],
-    row: &[u8],
-    source: &Source,
-    into: &Family,
-    known: &[u8],
-    kid: Kid,
-    contra: bool,
-) -> Option<Step>
-    requires distinct { AreDistinct frame.now.named }
-    requires members { length members.now ≤ 6000 }
-    requires inside { (v : ℕ) → Contains members.now v → v < length frame.now.named }
-    requires row { length row.now ≡ 2 * length members.now }
-    requires kid { kid.parent < length members.now }
-    requires child { IsChildOf frame.now.named source.now.child source.now.parent source.now.letter }
-    requires flip { source.now.flip ≡ flip_at frame.now.flips.items source.now.parent.variable }
-    requires into { IsFamily (length frame.now.named) into.now }
-    requires known { length known.now ≡ size_of (grid_of into.now source.now.home.class) }
-    ensures inside { IfSome result (λ s. s.to < size_of (grid_of into.now source.now.home.class)) }
-    ensures told { IfSome result (λ s. (lines : List Arrow) →
-        IsToldRow frame.now.named frame.now.flips.items lines source.now.parent members.now row.now →
-        IsTold frame.now.named frame.now.flips.items lines source.now.child
-        (state_at (members_of into.now source.now.home.class) s.to) s.count) }
-{
-    let way = row[place(kid.parent, contra)];
-    if way == NONE {
+    let way = row[target.place];
+    if way == NONE || target.home.class != source.home.class {
         return None;
     }
-    let other = State {
-        variable: members[kid.parent],
-        contra,
-    };
-    let (end, letter) = child_of(frame, other, kid.variable)?;
+    let least = known[target.home.index];
+    if least == 0 {
+        return None;
+    }
     let count = between(
         source.flip,
         source.letter,
-        letter,
+        target.letter,
         way,
         source.child.contra,
-        end.contra,
+        target.child.contra,
     )?;
-    if count > 0 && !source.matters {
-        return None;
-    }
-    let target = into.home(end)?;
-    if target.class != source.home.class || count >= known[target.index] {
+    if count >= least || (count > 0 && !source.matters) {
         return None;
     }
     Some(Step {
-        to: target.index,
+        to: target.home.index,
         count,
     })
 }

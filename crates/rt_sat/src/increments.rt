@@ -15,7 +15,7 @@ ghost use Rattle.rt_sat.specs.Tables.{place, AreThere};
 
 use crate::entering::line_edges;
 use crate::family::Family;
-use crate::gathering::{Group, spread, spread_from};
+use crate::gathering::{Group, clocks, spread, spread_from};
 use crate::hints::{enter_lines, groups};
 use crate::pushing::Frame;
 use crate::state::{Edge, State};
@@ -133,9 +133,17 @@ impl GrowingTable {
             IsToldFamily self.old.frame.named self.old.frame.flips.items lines self.old.family →
             IsToldFamily self.old.frame.named self.old.frame.flips.items lines self.new.family) }
     {
+        let since = clocks(alloc, &self.family)?;
         enter_lines(alloc, &mut self.family, edges)?;
         let due = self.due(alloc, edges)?;
-        spread_from(alloc, &self.frame, &self.groups, &mut self.family, due)
+        spread_from(
+            alloc,
+            &self.frame,
+            &self.groups,
+            &mut self.family,
+            due,
+            since,
+        )
     }
 
     // A flag for each class, set for those of the edges' starts.

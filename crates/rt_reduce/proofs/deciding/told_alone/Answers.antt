@@ -1,8 +1,27 @@
-use Rattle.std.proofs.Common.{rules}
+use Rattle.std.proofs.Common.{rules, All, List, subst, sym}
+use Rattle.rt_lines.specs.declared.line.Line.{Line}
+use Rattle.rt_lines.specs.Lines.{HasConstantsBelow}
+use Rattle.rt_reduce.specs.Deciding.{IsOuterFor, Tells}
 use Rattle.rt_reduce.proofs.Anew.{all_stand}
 use Rattle.rt_reduce.proofs.deciding.told_alone.Goals as goal
 
-pub told_by-requires-clause-outer : goal.told_by-requires-clause-outer
-told_by-requires-clause-outer c =
+pub told_by-requires-clause-sides : goal.told_by-requires-clause-sides
+told_by-requires-clause-sides c =
+    (all_stand c.args.left.now c.args.line.now c.in_ok-stands.stands.items c.deref.result.now c.in_ok-outer.outer
+    (c.in_ok-stands.ensures.items_if_clones_equal (search rules)) c.deref.ensures.value c.in_ok-outer.ensures).line_sides
+
+pub told_by-requires-clause-constants : goal.told_by-requires-clause-constants
+told_by-requires-clause-constants c =
+    let is : IsOuterFor c.args.left.now c.deref.result.now c.args.line.now c.in_ok-outer.outer =
     all_stand c.args.left.now c.args.line.now c.in_ok-stands.stands.items c.deref.result.now c.in_ok-outer.outer
     (c.in_ok-stands.ensures.items_if_clones_equal (search rules)) c.deref.ensures.value c.in_ok-outer.ensures
+    in
+    subst (λ (ls : List Line). All (HasConstantsBelow c.args.order.now.count) ls) is.left_are c.requires.constants
+
+pub returns : goal.returns
+returns c =
+    let is : IsOuterFor c.args.left.now c.deref.result.now c.args.line.now c.in_ok-outer.outer =
+    all_stand c.args.left.now c.args.line.now c.in_ok-stands.stands.items c.deref.result.now c.in_ok-outer.outer
+    (c.in_ok-stands.ensures.items_if_clones_equal (search rules)) c.deref.ensures.value c.in_ok-outer.ensures
+    in
+    subst (λ (ls : List Line). Tells c.args.order.now ls c.args.line.now c.in_ok-led.led) (sym is.left_are) c.in_ok-led.ensures

@@ -1,43 +1,52 @@
-use Rattle.std.proofs.Common.{◌≡◌, List, ◌∷◌, Bool, inr, refl, sym, subst, ◌∙◌}
+use Rattle.std.proofs.Common.{◌≡◌, All, List, ◌∷◌, Bool, inl, inr, refl, sym, subst, ◌∙◌}
 use Rattle.std.specs.List.{remove}
 use Rattle.std.proofs.lemmas.List.{get_or_default}
 use Rattle.std.proofs.lemmas.Option.{IfSome_then}
 use Rattle.rt_lines.specs.declared.line.Line.{Line}
+use Rattle.rt_lines.specs.Lines.{HasConstantsBelow}
 use Rattle.rt_rules.specs.Rules.{Derivable}
-use Rattle.rt_reduce.specs.Deciding.{IsInnerFor, IsOuterFor, IsWaysFor}
+use Rattle.rt_outline.specs.Lines.{standing}
+use Rattle.rt_reduce.specs.Deciding.{IsInnerFor, IsOuterFor, IsWaysFor, Tells}
 use Rattle.rt_witness.specs.Witnesses.{IsLeft}
-use Rattle.rt_reduce.proofs.Flags.{left_gone, outer_for}
+use Rattle.rt_reduce.proofs.Flags.{left_gone, outer_for, standing_gone}
 use Rattle.rt_reduce.proofs.Made.{inner_out, ways_out}
+use Rattle.rt_reduce.proofs.Places.{All-removed}
 use Rattle.rt_reduce.proofs.dropping.drop_at.Goals as goal
 
-pub is_derivable-requires-clause-outer : goal.is_derivable-requires-clause-outer
-is_derivable-requires-clause-outer c =
+pub told-requires-clause-outer : goal.told-requires-clause-outer
+told-requires-clause-outer c =
     let left = c.args.left.now.items in
     let stands = c.args.stands.now.items in
-    let line = c.remove-line.result in
+    let line = c.index.result.now in
     IfSome_then c.args.outer c.requires.standing (λ t are.
-    subst (λ (ls : List Line). IsOuterFor ls c.deref-2.result.now line t.now) (sym (c.deref-3.ensures.value ∙ c.remove-line.ensures.items))
-    (subst (λ (fs : List Bool). IsOuterFor (remove left c.args.place) fs line t.now) (sym c.deref-2.ensures.value)
-    (outer_for left stands c.args.place t.now are line (c.args.place, c.requires.within, sym c.remove-line.ensures.value))))
+    let at : IsOuterFor (remove left c.args.place) c.deref.result.now line t.now =
+    subst (λ (fs : List Bool). IsOuterFor (remove left c.args.place) fs line t.now) (sym c.deref.ensures.value)
+    (outer_for left stands c.args.place t.now are line (c.args.place, c.requires.within, sym c.index.ensures))
+    in
+    record {
+      sides = at.line_sides;
+      constants = subst (λ (ls : List Line). All (HasConstantsBelow c.args.order.now.count) ls) at.left_are
+          (All-removed (HasConstantsBelow c.args.order.now.count) left c.args.place c.requires.constants);
+    })
 
-pub is_derivable-requires-clause-inner : goal.is_derivable-requires-clause-inner
-is_derivable-requires-clause-inner c =
+pub is_derivable_open-requires-clause-inner : goal.is_derivable_open-requires-clause-inner
+is_derivable_open-requires-clause-inner c =
     let left = c.args.left.now.items in
     let line = c.remove-line.result in
     IfSome_then c.args.inner c.requires.inner (λ t is.
     subst (λ (ls : List Line). IsInnerFor c.args.order.now (line ∷ ls) t.now) (sym (c.deref-3.ensures.value ∙ c.remove-line.ensures.items))
     (inner_out c.args.order.now left c.args.place t.now is line c.requires.within c.remove-line.ensures.value))
 
-pub is_derivable-requires-clause-ways : goal.is_derivable-requires-clause-ways
-is_derivable-requires-clause-ways c =
+pub is_derivable_open-requires-clause-ways : goal.is_derivable_open-requires-clause-ways
+is_derivable_open-requires-clause-ways c =
     let left = c.args.left.now.items in
     let line = c.remove-line.result in
     IfSome_then c.args.ways c.requires.ways (λ t are.
     subst (λ (ls : List Line). IsWaysFor c.args.order.now (line ∷ ls) t.now) (sym (c.deref-3.ensures.value ∙ c.remove-line.ensures.items))
     (ways_out c.args.order.now left c.args.place t.now are line c.requires.within c.remove-line.ensures.value))
 
-pub is_derivable-requires-clause-witnesses : goal.is_derivable-requires-clause-witnesses
-is_derivable-requires-clause-witnesses c =
+pub is_derivable_open-requires-clause-witnesses : goal.is_derivable_open-requires-clause-witnesses
+is_derivable_open-requires-clause-witnesses c =
     let left = c.args.left.now.items in
     let stands = c.args.stands.now.items in
     let (lines, is, are) = c.requires.witnesses in (
@@ -48,8 +57,8 @@ is_derivable-requires-clause-witnesses c =
           (left_gone lines left stands c.args.place are)),
     )
 
-pub returns-then-is_missing-clause-decides : goal.returns-then-is_missing-clause-decides
-returns-then-is_missing-clause-decides c = λ l e.
+pub returns-in-No-clause-decides : goal.returns-in-No-clause-decides
+returns-in-No-clause-decides c = λ l e.
     let left = c.args.left.now.items in
     let stands = c.args.stands.now.items in
     let (lines, is, are) = c.requires.witnesses in
@@ -57,11 +66,38 @@ returns-then-is_missing-clause-decides c = λ l e.
     subst (λ (fs : List Bool). IsLeft lines fs (remove left c.args.place)) (sym c.deref.ensures.value)
     (left_gone lines left stands c.args.place are)
     in
+    let tells : Tells c.args.order.now (remove left c.args.place) c.index.result.now c.in_ok-told.field-0 =
+    c.in_ok-told.ensures (remove left c.args.place)
+    (IfSome_then c.args.outer c.requires.standing (λ t at.
+    subst (λ (fs : List Bool). remove left c.args.place ≡ standing t.now.lines fs) (sym c.deref.ensures.value)
+    (standing_gone left stands c.args.place t.now at).left_are))
+    lines is flags
+    in
     let same : l ≡ c.index.result.now =
     e ∙ get_or_default left c.args.place l c.index.result.now c.requires.within ∙ sym c.index.ensures
     in
-    inr (
-      λ d. c.is_missing.ensures c.if-is_missing.true c.args.order.now lines (remove left c.args.place) is flags
-          (subst (λ (k : Line). Derivable c.args.order.now (remove left c.args.place) k) same d),
-      refl,
+    inr (λ d. tells.no c.in-No.is (subst (λ (k : Line). Derivable c.args.order.now (remove left c.args.place) k) same d), refl)
+
+pub returns-in-Yes-clause-decides : goal.returns-in-Yes-clause-decides
+returns-in-Yes-clause-decides c = λ l e.
+    let left = c.args.left.now.items in
+    let stands = c.args.stands.now.items in
+    let (lines, is, are) = c.requires.witnesses in
+    let flags : IsLeft lines c.deref.result.now (remove left c.args.place) =
+    subst (λ (fs : List Bool). IsLeft lines fs (remove left c.args.place)) (sym c.deref.ensures.value)
+    (left_gone lines left stands c.args.place are)
+    in
+    let tells : Tells c.args.order.now (remove left c.args.place) c.index.result.now c.in_ok-told.field-0 =
+    c.in_ok-told.ensures (remove left c.args.place)
+    (IfSome_then c.args.outer c.requires.standing (λ t at.
+    subst (λ (fs : List Bool). remove left c.args.place ≡ standing t.now.lines fs) (sym c.deref.ensures.value)
+    (standing_gone left stands c.args.place t.now at).left_are))
+    lines is flags
+    in
+    let same : l ≡ c.index.result.now =
+    e ∙ get_or_default left c.args.place l c.index.result.now c.requires.within ∙ sym c.index.ensures
+    in
+    inl (
+      subst (λ (k : Line). Derivable c.args.order.now (remove left c.args.place) k) (sym same) (tells.yes c.in-Yes.is),
+      c.remove.ensures.items,
     )

@@ -1,11 +1,32 @@
-use Rattle.rt_sat.proofs.ToldPushes.{kid_read}
+use Rattle.std.proofs.Common.{◌<◌, Contains, get_or, inl, inr, length, subst, sym}
+use Rattle.std.proofs.lemmas.List.Elements.{Contains-get_or, Contains-push_cases}
+use Rattle.rt_grid.specs.declared.grid.Step.{Step}
+use Rattle.rt_sat.specs.Hints.{AreToldSteps}
+use Rattle.rt_sat.proofs.ToldPushes.{no_end, steps_more}
 use Rattle.rt_sat.proofs.gathering.gathered.Goals as goal
+use Rattle.rt_sat.proofs.gathering.gathered.Goals.{in-Some+in_ok-push, in_default}
 
-pub gather-requires-clause-kid : goal.gather-requires-clause-kid
-gather-requires-clause-kid c = kid_read c.args.members.now c.args.kids.now c.loop-kid.kid-index c.requires.kids c.loop-kid-test.true
+pub pushed_step-requires : goal.pushed_step-requires
+pushed_step-requires c =
+    c.requires (get_or c.args.ends.now c.loop-target.target-index no_end) (Contains-get_or c.args.ends.now c.loop-target.target-index no_end c.loop-target-test.true)
 
-pub loop-turned-preserved : goal.loop-turned-preserved
-loop-turned-preserved c = record {
-  inside = c.in_ok-gather.ensures.inside c.loop-turned.invariant.inside;
-  told = λ lines row. c.in_ok-gather.ensures.told lines row (c.loop-turned.invariant.told lines row);
-}
+pub loop-target-preserved : goal.loop-target-preserved
+loop-target-preserved c =
+    let source = c.args.source.now in
+    elim c.match-pushed_step.branch [
+      | in-Some+in_ok-push w ↦ record {
+        inside = λ s h. elim (Contains-push_cases c.loop-target.found.items w.in-Some.step s (subst (λ xs. Contains xs s) w.in_ok-push.ensures.items (subst (λ found. Contains found.items s) w.found-is h))) [
+          | inl old ↦ c.loop-target.invariant.inside s old
+          | inr same ↦ subst (λ (t : Step). t.to < length c.args.known.now) same w.in-Some.ensures.inside
+        ];
+        told = λ known flips lines members into are from row.
+            subst (λ found. AreToldSteps known flips lines source.child into source.home.class found.items) (sym w.found-is)
+            (steps_more known flips lines source.child into source.home.class c.loop-target.found.items w.push.new.self.items w.in-Some.step (c.loop-target.invariant.told known flips lines members into are from row)
+            (w.in-Some.ensures.told known flips lines members into from (are (get_or c.args.ends.now c.loop-target.target-index no_end) (Contains-get_or c.args.ends.now c.loop-target.target-index no_end c.loop-target-test.true)) row) w.in_ok-push.ensures.items);
+      }
+      | in_default w ↦ record {
+        inside = λ s h. c.loop-target.invariant.inside s (subst (λ found. Contains found.items s) w.found-is h);
+        told = λ known flips lines members into are from row.
+            subst (λ found. AreToldSteps known flips lines source.child into source.home.class found.items) (sym w.found-is) (c.loop-target.invariant.told known flips lines members into are from row);
+      }
+    ]

@@ -1,18 +1,14 @@
-use Rattle.std.proofs.Common.{List}
+use Rattle.std.proofs.Common.{◌<◌, ℕ, Bool, Contains, List, length}
+use Rattle.rt_grid.specs.declared.grid.Step.{Step}
+use Rattle.rt_lines.specs.declared.variable.Dtv.{Dtv}
+use Rattle.rt_sat.specs.declared.family.Family.{Family}
 use Rattle.rt_sat.specs.declared.state.Edge.{Edge}
-use Rattle.rt_sat.specs.Hints.{AreInClass, AreToldSteps, IsToldRow}
+use Rattle.rt_sat.specs.Hints.{AreEnds, AreToldSteps, IsEnd, IsToldRow}
 use Rattle.rt_sat.proofs.gathering.gathered.Given as goal
 
-abbrev pub invariant-loop-kid : goal.invariant-loop-kid
-invariant-loop-kid l = record {
-  inside : AreInClass l.into l.source.home.class l.found.items;
-  told : (lines : List Edge) → IsToldRow l.frame.named l.frame.flips.items lines l.source.parent l.members l.row →
-      AreToldSteps l.frame.named l.frame.flips.items lines l.source.child l.into l.source.home.class l.found.items;
-}
-
-abbrev pub invariant-loop-turned : goal.invariant-loop-turned
-invariant-loop-turned l = record {
-  inside : AreInClass l.into l.source.home.class l.found.items;
-  told : (lines : List Edge) → IsToldRow l.frame.named l.frame.flips.items lines l.source.parent l.members l.row →
-      AreToldSteps l.frame.named l.frame.flips.items lines l.source.child l.into l.source.home.class l.found.items;
+abbrev pub invariant-loop-target : goal.invariant-loop-target
+invariant-loop-target l = record {
+  inside : (s : Step) → Contains l.found.items s → s.to < length l.known;
+  told : (known : List Dtv) (flips : List Bool) (lines : List Edge) (members : List ℕ) (into : Family) → AreEnds known flips members into l.ends → IsEnd known flips members into l.source → IsToldRow known flips lines l.source.parent members l.row →
+      AreToldSteps known flips lines l.source.child into l.source.home.class l.found.items;
 }

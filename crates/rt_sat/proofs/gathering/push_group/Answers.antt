@@ -1,34 +1,68 @@
-use Rattle.std.proofs.Common.{◌≡◌, ◌<◌, Contains, length, get_or, subst, sym, ◌∙◌}
-use Rattle.rt_sat.specs.Hints.{members_of, AreKids}
-use Rattle.rt_sat.proofs.ToldPushes.{kid_read, list_read}
+use Rattle.std.proofs.Common.{◌≡◌, ◌<◌, ◌*◌, ℕ, List, [], Contains, ap, get_or, length, subst, sym, ◌∙◌}
+use Rattle.std.proofs.lemmas.List.{get_or_read}
+use Rattle.std.proofs.lemmas.List.Elements.{Contains-get_or}
+use Rattle.rt_grid.specs.Tables.{size_of}
+use Rattle.rt_sat.specs.declared.family.Family.{Family}
+use Rattle.rt_sat.specs.Hints.{grid_of, members_of, no_table, AreEnds, IsEnd, IsFamily, IsToldFamily}
+use Rattle.rt_sat.proofs.ToldPushes.{ends_kept, list_read, no_end}
 use Rattle.rt_sat.proofs.gathering.push_group.Goals as goal
+use Rattle.rt_sat.proofs.gathering.push_group.Goals.{then-has_changed+in_ok-push_within, else-has_changed}
 
-pub push_within-requires-clause-kids : goal.push_within-requires-clause-kids
-push_within-requires-clause-kids c =
-    let members : c.deref.result.now ≡ members_of c.args.family.now c.args.group.now.class = c.deref.ensures.value ∙ c.in_ok-members.ensures.items_if_clones_equal (λ x y e. e) ∙ list_read c.args.family.now.members.items c.args.group.now.class c.items.result.now c.index.result.now c.requires.group.class c.items.ensures c.index.ensures in
-    λ kid h. subst (λ xs. kid.parent < length xs) (sym members) (c.requires.group.are kid (subst (λ xs. Contains xs kid) c.items-kids.ensures h))
+pub ends-requires-clause-kids : goal.ends-requires-clause-kids
+ends-requires-clause-kids c =
+    let members : c.items-members.result.now ≡ members_of c.args.family.now c.args.group.now.class = list_read c.args.family.now.members.items c.args.group.now.class c.items-members.result.now c.index.result.now c.requires.group.class c.items-members.ensures c.index.ensures in
+    λ kid h. subst (λ xs. kid.parent < length xs) (sym members) (c.requires.group.are kid (subst (λ xs. Contains xs kid) c.items.ensures h))
 
-pub push_within-requires-clause-kid : goal.push_within-requires-clause-kid
-push_within-requires-clause-kid c =
-    let members : c.deref.result.now ≡ members_of c.args.family.now c.args.group.now.class = c.deref.ensures.value ∙ c.in_ok-members.ensures.items_if_clones_equal (λ x y e. e) ∙ list_read c.args.family.now.members.items c.args.group.now.class c.items.result.now c.index.result.now c.requires.group.class c.items.ensures c.index.ensures in
-    subst (λ xs. (get_or c.items-kids.result.now c.loop-kid.kid-index (record { parent = 0; variable = 0 })).parent < length xs) (sym members)
-    (kid_read (members_of c.args.family.now c.args.group.now.class) c.items-kids.result.now c.loop-kid.kid-index (subst (AreKids (members_of c.args.family.now c.args.group.now.class)) (sym c.items-kids.ensures) c.requires.group.are) c.loop-kid-test.true)
+pub has_changed-requires : goal.has_changed-requires
+has_changed-requires c =
+    let known = c.args.frame.now.named in
+    let flips = c.args.frame.now.flips.items in
+    let class = c.args.group.now.class in
+    let members : c.items-members.result.now ≡ members_of c.args.family.now class = list_read c.args.family.now.members.items class c.items-members.result.now c.index.result.now c.requires.group.class c.items-members.ensures c.index.ensures in
+    let are : AreEnds known flips (members_of c.args.family.now class) c.loop-source.family c.deref-source-items.result.now = ends_kept known flips (members_of c.args.family.now class) c.items-members.result.now (length known) c.args.family.now c.loop-source.family c.in_ok-ends.ends.items c.deref-source-items.result.now
+    members c.deref-source-items.ensures.value c.loop-source.invariant.same c.requires.family c.loop-source.invariant.family c.in_ok-ends.ensures in
+    let end = get_or c.deref-source-items.result.now c.loop-source.source-index no_end in
+    let at : IsEnd known flips (members_of c.args.family.now class) c.loop-source.family end = are end (Contains-get_or c.deref-source-items.result.now c.loop-source.source-index no_end c.loop-source-test.true) in
+    let now = c.loop-source.family in
+    let is = c.loop-source.invariant.family in
+    let few : class < length now.members.items = subst (λ (xs : List (List ℕ)). class < length xs) (sym c.loop-source.invariant.same) c.requires.group.class in
+    let less : class < length now.grids.items = subst (λ n. class < n) (sym is.each) few in
+    let same : c.index-in-loop-source.result.now ≡ grid_of now class = get_or_read now.grids.items class c.index-in-loop-source.result.now less c.index-in-loop-source.ensures no_table in
+    let size : size_of c.index-in-loop-source.result.now ≡ 2 * length (members_of c.args.family.now class) =
+    ap size_of same ∙ is.sizes class few ∙ ap (λ (xs : List (List ℕ)). 2 * length (get_or xs class [])) c.loop-source.invariant.same in
+    subst (λ n. end.place < n) (sym size) at.inside
 
-pub push_within-requires-in-loop-kid-clause-kids : goal.push_within-requires-in-loop-kid-clause-kids
-push_within-requires-in-loop-kid-clause-kids c =
-    let members : c.deref-in-loop-kid.result.now ≡ members_of c.args.family.now c.args.group.now.class = c.deref-in-loop-kid.ensures.value ∙ c.in_ok-members.ensures.items_if_clones_equal (λ x y e. e) ∙ list_read c.args.family.now.members.items c.args.group.now.class c.items.result.now c.index.result.now c.requires.group.class c.items.ensures c.index.ensures in
-    λ kid h. subst (λ xs. kid.parent < length xs) (sym members) (c.requires.group.are kid (subst (λ xs. Contains xs kid) c.items-kids.ensures h))
+pub push_within-requires-clause-ends : goal.push_within-requires-clause-ends
+push_within-requires-clause-ends c =
+    let known = c.args.frame.now.named in
+    let flips = c.args.frame.now.flips.items in
+    let class = c.args.group.now.class in
+    let members : c.items-members.result.now ≡ members_of c.args.family.now class = list_read c.args.family.now.members.items class c.items-members.result.now c.index.result.now c.requires.group.class c.items-members.ensures c.index.ensures in
+    let are : AreEnds known flips (members_of c.args.family.now class) c.loop-source.family c.deref.result.now = ends_kept known flips (members_of c.args.family.now class) c.items-members.result.now (length known) c.args.family.now c.loop-source.family c.in_ok-ends.ends.items c.deref.result.now
+    members c.deref.ensures.value c.loop-source.invariant.same c.requires.family c.loop-source.invariant.family c.in_ok-ends.ensures in
+    (known, flips, subst (λ (xs : List (List ℕ)). AreEnds known flips (get_or xs class []) c.loop-source.family c.deref.result.now) (sym c.loop-source.invariant.same) are)
 
-pub push_within-requires-in-loop-kid-clause-kid : goal.push_within-requires-in-loop-kid-clause-kid
-push_within-requires-in-loop-kid-clause-kid c =
-    let members : c.deref-in-loop-kid.result.now ≡ members_of c.args.family.now c.args.group.now.class = c.deref-in-loop-kid.ensures.value ∙ c.in_ok-members.ensures.items_if_clones_equal (λ x y e. e) ∙ list_read c.args.family.now.members.items c.args.group.now.class c.items.result.now c.index.result.now c.requires.group.class c.items.ensures c.index.ensures in
-    subst (λ xs. (get_or c.items-kids.result.now c.loop-kid.kid-index (record { parent = 0; variable = 0 })).parent < length xs) (sym members)
-    (kid_read (members_of c.args.family.now c.args.group.now.class) c.items-kids.result.now c.loop-kid.kid-index (subst (AreKids (members_of c.args.family.now c.args.group.now.class)) (sym c.items-kids.ensures) c.requires.group.are) c.loop-kid-test.true)
-
-pub loop-kid-preserved : goal.loop-kid-preserved
-loop-kid-preserved c = record {
-  same = c.in_ok-push_within-2.ensures.same ∙ c.in_ok-push_within.ensures.same ∙ c.loop-kid.invariant.same;
-  family = c.in_ok-push_within-2.ensures.family;
-  told = λ lines before. c.in_ok-push_within-2.ensures.told lines (c.in_ok-push_within.ensures.told lines (c.loop-kid.invariant.told lines before));
-  next = c.in_ok-push_within-2.ensures.next ∙ c.in_ok-push_within.ensures.next ∙ c.loop-kid.invariant.next;
-}
+pub loop-source-preserved : goal.loop-source-preserved
+loop-source-preserved c =
+    let known = c.args.frame.now.named in
+    let flips = c.args.frame.now.flips.items in
+    let class = c.args.group.now.class in
+    let members : c.items-members.result.now ≡ members_of c.args.family.now class = list_read c.args.family.now.members.items class c.items-members.result.now c.index.result.now c.requires.group.class c.items-members.ensures c.index.ensures in
+    elim c.if-has_changed.branch [
+      | then-has_changed+in_ok-push_within w ↦
+          let are : AreEnds known flips (members_of c.loop-source.family class) c.loop-source.family w.deref.result.now = subst (λ (xs : List (List ℕ)). AreEnds known flips (get_or xs class []) c.loop-source.family w.deref.result.now) (sym c.loop-source.invariant.same)
+          (ends_kept known flips (members_of c.args.family.now class) c.items-members.result.now (length known) c.args.family.now c.loop-source.family c.in_ok-ends.ends.items w.deref.result.now
+          members w.deref.ensures.value c.loop-source.invariant.same c.requires.family c.loop-source.invariant.family c.in_ok-ends.ensures) in
+          record {
+            same = ap (λ (f : Family). f.members.items) w.family-is ∙ w.in_ok-push_within.ensures.same ∙ c.loop-source.invariant.same;
+            family = subst (IsFamily (length known)) (sym w.family-is) (w.in_ok-push_within.ensures.family (length known) c.loop-source.invariant.family);
+            told = λ lines before. subst (IsToldFamily known flips lines) (sym w.family-is) (w.in_ok-push_within.ensures.told known flips lines are (c.loop-source.invariant.told lines before));
+            next = ap (λ next. length next.items) w.next-is ∙ w.in_ok-push_within.ensures.next ∙ c.loop-source.invariant.next;
+          }
+      | else-has_changed w ↦ record {
+        same = ap (λ (f : Family). f.members.items) w.family-is ∙ c.loop-source.invariant.same;
+        family = subst (IsFamily (length known)) (sym w.family-is) c.loop-source.invariant.family;
+        told = λ lines before. subst (IsToldFamily known flips lines) (sym w.family-is) (c.loop-source.invariant.told lines before);
+        next = ap (λ next. length next.items) w.next-is ∙ c.loop-source.invariant.next;
+      }
+    ]

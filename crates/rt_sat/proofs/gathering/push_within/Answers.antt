@@ -1,11 +1,16 @@
-use Rattle.std.proofs.Common.{Contains, subst, ◌∙◌}
-use Rattle.rt_sat.proofs.ToldPushes.{told_read}
+use Rattle.std.proofs.Common.{Contains, subst, arith}
 use Rattle.rt_sat.proofs.gathering.push_within.Goals as goal
 
-pub push_kid-requires-clause-inside : goal.push_kid-requires-clause-inside
-push_kid-requires-clause-inside c = λ v h. c.requires.family.inside c.args.class v (subst (λ xs. Contains xs v) c.requires.members h)
+pub put-requires-clause-class : goal.put-requires-clause-class
+put-requires-clause-class c = (c.requires.ends.2 c.args.source.now c.requires.source).home.class
+
+pub put-requires-clause-found : goal.put-requires-clause-found
+put-requires-clause-found c = λ s h. c.in_ok-found.ensures.inside s (subst (λ xs. Contains xs s) c.deref.ensures.value h)
+
+pub index_mut-requires : goal.index_mut-requires
+index_mut-requires c = omega (arith, c.requires.next, (c.requires.ends.2 c.args.source.now c.requires.source).home.class)
 
 pub returns-clause-told : goal.returns-clause-told
-returns-clause-told c = λ lines before. c.in_ok-changed.ensures.told lines
-    (told_read c.args.frame.now.named c.args.frame.now.flips.items lines c.args.family.now c.args.class c.args.kid.parent c.place.result c.args.contra c.args.members.now c.deref.result.now c.index.result.now
-    c.requires.class c.requires.family.each c.requires.members c.index.ensures c.place.ensures (c.deref.ensures.value ∙ c.in_ok-row.ensures.items_if_clones_equal (λ x y e. e) ∙ c.row.ensures.row) before) before
+returns-clause-told c = λ known flips lines are before.
+    c.in_ok-put.ensures.told known flips lines c.args.source.now.child (are c.args.source.now c.requires.source).home
+    (λ s h. c.in_ok-found.ensures.told known flips lines are before s (subst (λ xs. Contains xs s) c.deref.ensures.value h)) before

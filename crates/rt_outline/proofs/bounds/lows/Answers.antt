@@ -1,0 +1,16 @@
+use Rattle.std.proofs.Common.{◌≡◌, Some, sym, ap, ◌∙◌}
+use Rattle.std.specs.Prelude.{slice_get}
+use Rattle.std.proofs.lemmas.Option.{slice_get-get_or}
+use Rattle.rt_lines.specs.declared.line.Line.TheVariants.{Low}
+use Rattle.rt_outline.proofs.Bounded.{bounds_more}
+use Rattle.rt_outline.proofs.bounds.lows.Goals as goal
+
+pub loop-i-preserved : goal.loop-i-preserved
+loop-i-preserved c =
+    let lines = c.args.lines.now in
+    let i = c.loop-i.i in
+    let here : slice_get lines i ≡ Some c.index-lines-i.result =
+    slice_get-get_or lines i c.index-lines-i.result c.loop-i-test.true ∙ ap Some (sym c.index-lines-i.is)
+    in
+    bounds_more Low lines c.args.named.now i c.index-lines-i.result c.loop-i.bounds.items c.enter_low.new.bounds.items here
+    c.in_ok-enter_low.ensures c.loop-i.invariant

@@ -1,0 +1,5 @@
+use Rattle.rt_outline.specs.Bounds.{AreBounds, upper_bound}
+use Rattle.rt_outline.proofs.bounds.ups.Given as goal
+
+abbrev pub invariant-loop-i : goal.invariant-loop-i
+invariant-loop-i l = AreBounds upper_bound l.lines l.i l.named l.bounds.items
