@@ -9,7 +9,7 @@ use std::{fs, rt};
 // How many bytes one read asks for at most.
 const PIECE: usize = 65_536;
 
-/// The files of the system. What they hold is not told; each read that fails is counted, whatever its name.
+/// The files of the system. What they hold is not said; each read that fails is counted, whatever its name.
 #[derive(Drop)]
 pub struct HostFiles<'a, R: rt::Files> {
     system: &'a R,

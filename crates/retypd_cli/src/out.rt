@@ -4,7 +4,7 @@ ghost use Rattle.std.specs.Prelude.{None};
 use rt_io::{Sink, SinkFault};
 use std::io::Write;
 
-/// A stream of the system that takes a text in pieces. What was written is not told; each put that fails is counted.
+/// A stream of the system that takes a text in pieces. What was written is not said; each put that fails is counted.
 #[derive(Drop)]
 pub struct HostOut<W: Write> {
     stream: W,

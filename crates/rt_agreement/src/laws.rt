@@ -8,7 +8,7 @@ pub fn one_real()
 {}
 
 /// The rows of a procedure name only objects of its own frame, and only those that it has: some line speaks of the
-/// offset at which each begins. This is of a frame that is right, and of calls that are told by what a register holds
+/// offset at which each begins. This is of a frame that is right, and of calls that are stated by what a register holds
 /// only where they jump there plainly, and by a scheme only where the callee takes the argument registers that are
 /// passed to the scheme.
 pub fn objects_taken()

@@ -32,7 +32,7 @@ impl<T> Sequence<T> {
         }
     }
 
-    /// Adds an item at the end. After want of memory the list is as it was.
+    /// Adds an item at the end. When out of memory, the list is as it was.
     pub fn push(&mut self, item: T) -> Result<(), AllocError>
     where
         T: Drop,

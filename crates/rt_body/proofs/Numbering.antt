@@ -13,7 +13,7 @@ use Rattle.rt_link.specs.declared.place.Place.{Place}
 use Rattle.rt_link.specs.Effects.{is_place}
 use Rattle.rt_proc.specs.declared.site.Site.{Site}
 use Rattle.rt_flow.specs.Bodies.{Body}
-use Rattle.rt_proc.specs.Order.{AreRising, place_cmp}
+use Rattle.rt_proc.specs.Order.{AreAscending, place_cmp}
 use Rattle.rt_proc.specs.Sites.{number_of}
 use Rattle.rt_proc.proofs.Numbered.{found, missed}
 use Rattle.rt_proc.proofs.PlaceLaws.{is_place-laws}
@@ -28,11 +28,11 @@ number_is places p = is_position_or_len (λ (xs : List Place). number_of xs p) (
     step : (q : Place) (qs : List Place) → number_of (q ∷ qs) p ≡ cond (is_place p q) 0 (1 + number_of qs p)
     step q qs = ap (λ b. cond b 0 (number_of qs p + 1)) (is_place-laws.symm q p) ∙ ap (λ n. cond (is_place p q) 0 n) (omega arith)
 
-pub number_found : (places : List Place) (p : Place) (i : ℕ) → AreRising places → i < length places → HoldsAt (λ q. place_cmp q p ≡ Equal) places i → i ≡ number_at places p
-number_found places p i rising within at = (found places p i rising within at).number ∙ number_is places p
+pub number_found : (places : List Place) (p : Place) (i : ℕ) → AreAscending places → i < length places → HoldsAt (λ q. place_cmp q p ≡ Equal) places i → i ≡ number_at places p
+number_found places p i ascending within at = (found places p i ascending within at).number ∙ number_is places p
 
-pub number_missed : (places : List Place) (p : Place) (i : ℕ) → AreRising places → IsBinarySearchResult (λ q. place_cmp q p) places (Err i) → length places ≡ number_at places p
-number_missed places p i rising answer = (missed places p i rising answer).number ∙ number_is places p
+pub number_missed : (places : List Place) (p : Place) (i : ℕ) → AreAscending places → IsBinarySearchResult (λ q. place_cmp q p) places (Err i) → length places ≡ number_at places p
+number_missed places p i ascending answer = (missed places p i ascending answer).number ∙ number_is places p
 
 -- the number of one of the places is below their count
 pub number_within : (places : List Place) (p : Place) → Contains places p → number_at places p < length places

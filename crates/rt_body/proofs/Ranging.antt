@@ -39,7 +39,7 @@ pub procs_lem : IsLawOfSteps → IsLawOfCallees → IsLawOfProcs
 procs_lem steps callees object ends procs linkable are k d less =
     let proc = get_or procs k d in
     record {
-      rising = (are.each k d less).rising;
+      ascending = (are.each k d less).ascending;
       closed = steps object ends procs are k d less;
       in_range = λ j e within. kind_in_range object (length procs) (get_or proc.sites j e).kind (callees object ends procs linkable are k d less j e within).0;
     }

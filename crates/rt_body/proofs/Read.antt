@@ -27,7 +27,7 @@ use Rattle.rt_body.specs.declared.body.Body.{Body}
 use Rattle.rt_body.specs.Actions.{actions_of, defined_by, site_action}
 use Rattle.rt_body.specs.Readable.{IsReadable}
 use Rattle.rt_body.specs.Readings.{number_at, edges_from, definitions_from, flow_body, register_body, action_at, op_at}
-use Rattle.rt_body.specs.Parts.{AreParts}
+use Rattle.rt_body.specs.Inside.Parts.{AreParts}
 use Rattle.rt_body.specs.Right.{IsReading}
 use Rattle.rt_body.specs.Told.{reading_of, use_value, definition_value}
 use Rattle.rt_body.proofs.Asked.{use_within, use_beyond, definition_within, definition_beyond, reaching_within_body, reaching_beyond}

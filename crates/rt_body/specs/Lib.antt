@@ -6,4 +6,4 @@ pub mod Readings
 pub mod Right
 pub mod Told
 pub mod Readable
-pub mod Parts
+pub mod Inside

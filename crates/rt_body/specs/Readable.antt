@@ -8,7 +8,7 @@ use Rattle.rt_proc.specs.declared.site.Kind.{Kind}
 use Rattle.rt_proc.specs.declared.site.Kind.TheVariants as kind
 use Rattle.rt_proc.specs.declared.site.Site.{Site}
 use Rattle.rt_proc.specs.Laws.{IsClosed}
-use Rattle.rt_proc.specs.Order.{AreRising}
+use Rattle.rt_proc.specs.Order.{AreAscending}
 use Rattle.rt_proc.specs.Procs.{places_of, AreProcs}
 use Rattle.rt_track.specs.Placed.{NamesRegisters}
 use Rattle.rt_body.specs.declared.action.Action.{Action}
@@ -23,7 +23,7 @@ IsKindInRange kind.Stop = Unit {0}
 
 -- its sites rise by their places, the entry and each step lead to one of them, and what they are is in range
 pub record IsReadable (proc : Proc) : Type 0 where
-  pub rising : AreRising (places_of proc.sites)
+  pub ascending : AreAscending (places_of proc.sites)
   pub closed : IsClosed proc
   pub in_range : All (λ (site : Site). IsKindInRange site.kind) proc.sites
 

@@ -145,7 +145,7 @@ fn add_all(registers: &mut Sequence<u8>, more: &[u8]) -> Result<(), Memory>
 }
 
 impl Action {
-    /// The registers that a site defines, which a call may name twice. The error is want of memory.
+    /// The registers that a site defines, which a call may name twice. The error is out of memory.
     pub fn defined(&self, alloc: Global) -> Result<Sequence<u8>, Memory>
         ensures { IfOk result (λ registers. registers ≡ defined_by self.now) }
     {

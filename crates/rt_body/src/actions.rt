@@ -186,7 +186,7 @@ fn site_action(links: &Links, symbols: &Symbols, site: &Site) -> Action
     kind_action(symbols, link, site.kind)
 }
 
-/// What sites do, in their order. The error is want of memory.
+/// What sites do, in their order. The error is out of memory.
 pub(crate) fn actions(
     alloc: Global,
     links: &Links,

@@ -44,7 +44,7 @@ impl Body {
     ghost use Rattle.rt_body.specs.Right.{IsReading};
     ghost use Rattle.rt_body.specs.Told.{reading_of, sites_in, IsDefWithin};
 
-    /// The body of a procedure of an object, by the object's links and symbols. The error is want of memory; 2^32 sites or more
+    /// The body of a procedure of an object, by the object's links and symbols. The error is out of memory; 2^32 sites or more
     /// are more than there is memory for.
     ///
     /// Time and memory are those of [`rt_flow::reaching`] and [`rt_track::track`], and besides linear in sites and edges, but for
@@ -103,7 +103,7 @@ impl Body {
         self.values.of(site, register)
     }
 
-    /// The definitions of a register that reach a site: Entry first, then sites rising. It takes no memory.
+    /// The definitions of a register that reach a site: Entry first, then sites ascending. It takes no memory.
     pub fn reaching(&self, site: u32, register: u8) -> &[Def]
         requires site { site < sites_in self.now }
         ensures value { result.now ≡ (reading_of self.now).reaching site register }
@@ -112,7 +112,7 @@ impl Body {
         self.reach.defs(site, i64::from(register))
     }
 
-    /// The sites and edges of the body as a graph, without definitions. The error is want of memory.
+    /// The sites and edges of the body as a graph, without definitions. The error is out of memory.
     pub fn graph(&self, alloc: Global) -> Result<Graph, Memory>
         ensures { IfOk result (λ graph. graph ≡ record (reading_of self.now).body { defs = [] }) }
     {

@@ -10,7 +10,7 @@ use rt_base::Memory;
 use rt_flow::{Graph, Reach, reaching};
 use std::alloc::Global;
 
-/// The graph of so many sites with these edges, without definitions. The error is want of memory.
+/// The graph of so many sites with these edges, without definitions. The error is out of memory.
 pub(crate) fn graph_of(
     alloc: Global,
     sites: u32,
@@ -52,7 +52,7 @@ fn define(alloc: Global, graph: &mut Graph, actions: &[Action]) -> Result<(), Me
     Ok(())
 }
 
-/// Which definitions of registers reach sites with these actions and edges. The error is want of memory.
+/// Which definitions of registers reach sites with these actions and edges. The error is out of memory.
 pub(crate) fn reach_of(
     alloc: Global,
     actions: &[Action],

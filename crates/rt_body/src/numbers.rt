@@ -1,6 +1,6 @@
 // The numbers of sites, and the edges between them.
 ghost use Rattle.std.specs.Prelude.{◌≡◌, ◌<◌, ◌^◌, ◌++◌, [], IfOk, OnOk, length, map};
-ghost use Rattle.rt_proc.specs.Order.{AreRising};
+ghost use Rattle.rt_proc.specs.Order.{AreAscending};
 ghost use Rattle.rt_proc.specs.Procs.{places_of};
 ghost use Rattle.rt_body.specs.Readings.{edges_from, number_at};
 
@@ -8,7 +8,7 @@ use rt_base::{Memory, Sequence};
 use rt_proc::{Place, Site};
 use std::alloc::Global;
 
-/// The places of sites, in their order. The error is want of memory.
+/// The places of sites, in their order. The error is out of memory.
 pub(crate) fn places_of(alloc: Global, sites: &[Site]) -> Result<Vec<Place>, Memory>
     ensures { IfOk result (λ places. places.items ≡ places_of sites.now) }
 {
@@ -19,9 +19,9 @@ pub(crate) fn places_of(alloc: Global, sites: &[Site]) -> Result<Vec<Place>, Mem
     Ok(places)
 }
 
-/// The number of a place among rising ones, and how many there are where it is none of them.
+/// The number of a place among ascending ones, and how many there are where it is none of them.
 pub(crate) fn number_at(places: &[Place], place: Place) -> u32
-    requires rising { AreRising places.now }
+    requires ascending { AreAscending places.now }
     requires few { length places.now < 2 ^ 32 }
     ensures { result ≡ number_at places.now place }
 {
@@ -38,7 +38,7 @@ fn add_edges(
     from: u32,
     next: &[Place],
 ) -> Result<(), Memory>
-    requires rising { AreRising places.now }
+    requires ascending { AreAscending places.now }
     requires few { length places.now < 2 ^ 32 }
     ensures { OnOk result (edges.new ≡ edges.old ++ map (λ to. (from, number_at places.now to)) next.now) }
 {
@@ -48,13 +48,13 @@ fn add_edges(
     Ok(())
 }
 
-/// The edges from sites to those that they step to. The error is want of memory.
+/// The edges from sites to those that they step to. The error is out of memory.
 pub(crate) fn edges(
     alloc: Global,
     places: &[Place],
     sites: &[Site],
 ) -> Result<Sequence<(u32, u32)>, Memory>
-    requires rising { AreRising places.now }
+    requires ascending { AreAscending places.now }
     requires few { length places.now < 2 ^ 32 }
     requires each { length places.now ≡ length sites.now }
     ensures { IfOk result (λ edges. edges ≡ edges_from places.now 0 sites.now) }

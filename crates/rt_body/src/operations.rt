@@ -43,7 +43,7 @@ fn set_defined(alloc: Global, ops: &mut Ops, site: u32, action: Action) -> Resul
     }
 }
 
-/// What the definitions of registers by actions compute. The error is want of memory.
+/// What the definitions of registers by actions compute. The error is out of memory.
 pub(crate) fn operations(alloc: Global, actions: &[Action]) -> Result<Ops, Memory>
     requires few { length actions.now < 2 ^ 32 }
     requires registers { All HasOpRegisters actions.now }

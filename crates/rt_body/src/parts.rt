@@ -2,7 +2,7 @@
 ghost use Rattle.std.specs.Prelude.{◌<◌, ◌^◌, IfOk, length};
 ghost use Rattle.rt_link.specs.Links.{AreLinksOf};
 ghost use Rattle.rt_body.specs.Lowest.{AreSymbolsOf};
-ghost use Rattle.rt_body.specs.Parts.{AreParts};
+ghost use Rattle.rt_body.specs.Inside.Parts.{AreParts};
 ghost use Rattle.rt_body.specs.Readable.{IsReadable};
 
 use crate::action::Action;
@@ -15,7 +15,7 @@ use rt_link::Links;
 use rt_proc::Proc;
 use std::alloc::{AllocError, Global};
 
-/// What the sites of a procedure do, the number of its entry, and its edges. The error is want of memory.
+/// What the sites of a procedure do, the number of its entry, and its edges. The error is out of memory.
 pub(crate) fn parts(
     alloc: Global,
     object: &Object,

@@ -18,7 +18,7 @@ same_groups : (count : ℕ) (Edge Other : ℕ → ℕ → Type 0) (groups : List
 same_groups count Edge Other groups on back are = record {
   nodes = are.nodes;
   full = are.full;
-  rising = are.rising;
+  ascending = are.ascending;
   together = λ j k a b c d. let one = are.together j k a b c d in (λ e. are_together Edge Other on a b (one.0 e), λ t. one.1 (are_together Other Edge back a b t));
   may = λ k less a b c e. are.may k less a b c (back a b e);
   least = λ k j le less may. are.least k j le less (λ a b c e. may a b c (on a b e));

@@ -56,7 +56,7 @@ fn add_sites(graph: &mut Graph, caller: u32, sites: &[Site]) -> Result<(), Memor
 }
 
 /// The graph of the procedures in which an edge leads from each one to those that it calls or goes on in for good. The
-/// error is want of memory, which also comes where 32 bits don't number the procedures.
+/// error is out of memory, which also comes where 32 bits don't number the procedures.
 pub(crate) fn call_graph(alloc: Global, procs: &Procs) -> Result<Graph, Memory>
     ensures { IfOk result (IsCallGraph procs.now) }
 {

@@ -16,7 +16,7 @@ use std::alloc::Global;
 /// may come next, the one with the least member comes first. Members rise.
 ///
 /// A callee that is none of the procedures counts for nothing. Time is linear in the procedures and their sites, but for a
-/// logarithm for each group. The error is want of memory, which also comes where 32 bits don't number the procedures.
+/// logarithm for each group. The error is out of memory, which also comes where 32 bits don't number the procedures.
 pub fn groups_of(alloc: Global, procs: &Procs) -> Result<Groups, Memory>
     ensures { IfOk result (AreGroupsOf procs.now) }
 {

@@ -11,7 +11,7 @@ use Rattle.rt_cdecl.specs.declared.declarations.CType.{CType}
 use Rattle.rt_cdecl.specs.Types.{IsType, IsPresent}
 use Rattle.rt_cdecl.specs.Rows.{type_text, loc_text, arg_text, more_args_text, args_text}
 use Rattle.rt_cdecl.specs.GoodDecls.{place_of, ArePlaced, IsArgument, IsLastPresent, arg_types, AreArgs}
-use Rattle.rt_cdecl.specs.Guesses.{AreDigits, StopsDigits}
+use Rattle.rt_cdecl.specs.Inside.Guesses.{AreDigits, StopsDigits}
 use Rattle.rt_cdecl.proofs.Clear.{AreDigits-decimal}
 use Rattle.rt_cdecl.proofs.PartTexts.{rest_of}
 use Rattle.rt_cdecl.proofs.OneRow.{no_void}

@@ -15,9 +15,9 @@ use Rattle.rt_cdecl.specs.declared.declarations.CType.TheVariants.{Unused, Scala
 use Rattle.rt_cdecl.specs.Types.{IsType, IsWidth, IsTypedef}
 use Rattle.rt_cdecl.specs.Rows.{Row, Typedef, Named, Opened, Gap, Member, Closed, Pair, Half, Stated, Returns, Nothing, Value, Both, carrier_text, scalar_text, typedef_text, type_text, loc_text, arg_text, more_args_text, args_text, returns_text, row_text}
 use Rattle.rt_cdecl.specs.GoodDecls.{IsArgument, ArePlaced, place_of}
-use Rattle.rt_cdecl.specs.GoodRows.{IsReturned, IsRow}
+use Rattle.rt_cdecl.specs.Inside.GoodRows.{IsReturned, IsRow}
 use Rattle.rt_texts.proofs.Clear.{AreAbove, AreAbove-append, AreAbove-less, HasNo-above}
-use Rattle.rt_cdecl.specs.Guesses.{AreDigits, is_other, StopsDigits, AreFirstDigits}
+use Rattle.rt_cdecl.specs.Inside.Guesses.{AreDigits, is_other, StopsDigits, AreFirstDigits}
 
 -- digits
 AreDigits-append : (a b : List ℕ) → AreDigits a → AreDigits b → AreDigits (a ++ b)

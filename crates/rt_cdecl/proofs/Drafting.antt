@@ -13,8 +13,8 @@ use Rattle.rt_cdecl.specs.declared.declarations.CFunction.{CFunction}
 use Rattle.rt_cdecl.specs.Types.{IsPresent}
 use Rattle.rt_cdecl.specs.Rows.{Returns, Nothing, Value, Both}
 use Rattle.rt_cdecl.specs.GoodDecls.{LeadsBelow, arg_types, named_types, struct_types, result_types, function_types, used_types, function_numbers}
-use Rattle.rt_cdecl.specs.GoodRows.{IsReturned}
-use Rattle.rt_cdecl.specs.Drafts.{Stage, Idle, InStruct, InPair, HalfRead, BothRead, PairClosed, Parts, stated_of, closed_structs, closed_stage, gapped_of, member_of, half_of, least_after, BeginsAt, MayClose, MayHalf, MayReturn, Adds, stage_types, returned_types, line_types, AreNoted}
+use Rattle.rt_cdecl.specs.Inside.GoodRows.{IsReturned}
+use Rattle.rt_cdecl.specs.Inside.Drafts.{Stage, Idle, InStruct, InPair, HalfRead, BothRead, PairClosed, Parts, stated_of, closed_structs, closed_stage, gapped_of, member_of, half_of, least_after, BeginsAt, MayClose, MayHalf, MayReturn, Adds, stage_types, returned_types, line_types, AreNoted}
 use Rattle.rt_cdecl.proofs.Runs.{least_push}
 
 -- a type that is listed

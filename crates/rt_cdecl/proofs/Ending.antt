@@ -13,9 +13,9 @@ use Rattle.rt_cdecl.specs.declared.declarations.CFunction.{CFunction}
 use Rattle.rt_cdecl.specs.Types.{IsType, IsTypedef, IsWide, IsPresent}
 use Rattle.rt_cdecl.specs.Rows.{Row, Closed, Half, Stated, Both}
 use Rattle.rt_cdecl.specs.GoodDecls.{AreArgs, ArePlaced, IsLastPresent, arg_types, named_types, place_of, function_numbers}
-use Rattle.rt_cdecl.specs.GoodRows.{IsRow}
-use Rattle.rt_cdecl.specs.Drafts.{Idle, InPair, HalfRead, BothRead, PairClosed, Parts, with_row, Fits, IsListed, least_after, stated_of, line_types}
-use Rattle.rt_cdecl.specs.Endings.{CanEnd, HasPresent, all_used, row_types}
+use Rattle.rt_cdecl.specs.Inside.GoodRows.{IsRow}
+use Rattle.rt_cdecl.specs.Inside.Drafts.{Idle, InPair, HalfRead, BothRead, PairClosed, Parts, with_row, Fits, IsListed, least_after, stated_of, line_types}
+use Rattle.rt_cdecl.specs.Inside.Endings.{CanEnd, HasPresent, all_used, row_types}
 use Rattle.rt_cdecl.proofs.Sound.{made}
 use Rattle.rt_cdecl.proofs.Runs.{least_push}
 use Rattle.rt_cdecl.proofs.Kept.{IsGood, good_with}

@@ -13,9 +13,9 @@ use Rattle.rt_cdecl.specs.declared.kinds.Counts.{Counts}
 use Rattle.rt_cdecl.specs.Types.{end_of}
 use Rattle.rt_cdecl.specs.Rows.{Named, Opened, Member, Closed, Pair}
 use Rattle.rt_cdecl.specs.GoodDecls.{IsFunction, used_types, function_numbers}
-use Rattle.rt_cdecl.specs.GoodRows.{IsRow}
-use Rattle.rt_cdecl.specs.Drafts.{Stage, Idle, InStruct, InPair, HalfRead, BothRead, PairClosed, Parts, Fits, least_after, stage_types}
-use Rattle.rt_cdecl.specs.Endings.{CanEnd, HasPresent, AreApart, AreLeft, AreCounted, HasRoom, HasRoomIn, FitStruct, FitFunctions, IsFew, all_used}
+use Rattle.rt_cdecl.specs.Inside.GoodRows.{IsRow}
+use Rattle.rt_cdecl.specs.Inside.Drafts.{Stage, Idle, InStruct, InPair, HalfRead, BothRead, PairClosed, Parts, Fits, least_after, stage_types}
+use Rattle.rt_cdecl.specs.Inside.Endings.{CanEnd, HasPresent, AreApart, AreLeft, AreCounted, HasRoom, HasRoomIn, FitStruct, FitFunctions, IsFew, all_used}
 use Rattle.rt_cdecl.proofs.Sound.{made, none_left}
 use Rattle.rt_cdecl.proofs.Kept.{IsGood, IsGoodStage}
 use Rattle.rt_cdecl.proofs.KindSets.{PartOf, part_of}

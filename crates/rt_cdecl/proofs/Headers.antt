@@ -23,14 +23,14 @@ use Rattle.rt_cdecl.specs.declared.declarations.Decls.{Decls}
 use Rattle.rt_cdecl.specs.Rows.{Row, Typedef, Named, Opened, Gap, Member, Closed, Pair, Half, Stated, Nothing, Value, Both, row_text, rows_text, typedef_text}
 use Rattle.rt_cdecl.specs.Texts.{struct_rows, function_rows, decls_rows, decls_text}
 use Rattle.rt_cdecl.specs.GoodDecls.{IsGoodDecls, IsStruct, IsFunction, used_types, struct_numbers, function_numbers}
-use Rattle.rt_cdecl.specs.GoodRows.{IsRow}
+use Rattle.rt_cdecl.specs.Inside.GoodRows.{IsRow}
 use Rattle.rt_cdecl.specs.HeaderReadings.{with_ends, IsFront, IsNoHeader, IsBadLine}
-use Rattle.rt_cdecl.specs.Endings.{CanEnd, IsReached}
-use Rattle.rt_cdecl.specs.Drafts.{Stage, Idle, Parts, no_parts, with_row, Fits, IsWhole, decls_of, Accepts}
+use Rattle.rt_cdecl.specs.Inside.Endings.{CanEnd, IsReached}
+use Rattle.rt_cdecl.specs.Inside.Drafts.{Stage, Idle, Parts, no_parts, with_row, Fits, IsWhole, decls_of, Accepts}
 use Rattle.rt_cdecl.proofs.Clear.{row_clear}
 use Rattle.rt_cdecl.proofs.OneRow.{one_row}
 use Rattle.rt_cdecl.proofs.OneDecls.{decls_rows-good}
-use Rattle.rt_cdecl.proofs.Rising.{RisesFrom-increasing}
+use Rattle.rt_cdecl.proofs.Ascending.{RisesFrom-increasing}
 use Rattle.rt_cdecl.proofs.Runs.{accept_decls, ended}
 use Rattle.rt_cdecl.proofs.Sound.{GivesSome, parts_rows, kept_start, accepted_rows, made}
 use Rattle.rt_cdecl.proofs.Kept.{IsGood, good_start, good_all}
@@ -365,7 +365,7 @@ no_header text place bad = by bad.bad
       joined = with_ends-push bad.before line more ∙ (ap (λ s. with_ends bad.before ++ s) (sym cut.joined) ∙ (bad.joined ∙ sym is));
     })
 
--- a fault of a line that isn't want of memory tells why
+-- a fault of a line that isn't out of memory tells why
 pub told_bad : {X : Type 0} (fault : TextFault) (n : ℕ) → fault ≡ BadText n → (fault ≡ Memory) ⊎ ((fault ≡ BadText 0) × X) → X
 told_bad fault n is (inl memory) = let clash : BadText n ≡ Memory = sym is ∙ memory in cc
 told_bad fault n is (inr told) = told.1

@@ -15,10 +15,10 @@ use Rattle.rt_cdecl.specs.declared.declarations.CStruct.{CStruct}
 use Rattle.rt_cdecl.specs.declared.declarations.CFunction.{CFunction}
 use Rattle.rt_cdecl.specs.Types.{end_of, IsTypedef, IsWide, IsField, IsPresent}
 use Rattle.rt_cdecl.specs.Rows.{Row, Typedef, Named, Opened, Gap, Member, Closed, Pair, Half, Stated, Nothing, Value, Both, typedef_text}
-use Rattle.rt_cdecl.specs.GoodDecls.{AreRising, LeadsBelow, FitFrom, IsStruct, AreArgs, IsFunction, arg_types, named_types, struct_types, result_types, function_types, used_types, struct_numbers, function_numbers}
-use Rattle.rt_cdecl.specs.GoodRows.{IsRow}
-use Rattle.rt_cdecl.specs.Drafts.{Stage, Idle, InStruct, InPair, HalfRead, BothRead, PairClosed, Parts, no_parts, function_of_parts, with_row, LastBefore, least_after, Fits, Accepts}
-use Rattle.rt_cdecl.proofs.Rising.{RisesFrom, RisesFrom-push}
+use Rattle.rt_cdecl.specs.GoodDecls.{AreAscending, LeadsBelow, FitFrom, IsStruct, AreArgs, IsFunction, arg_types, named_types, struct_types, result_types, function_types, used_types, struct_numbers, function_numbers}
+use Rattle.rt_cdecl.specs.Inside.GoodRows.{IsRow}
+use Rattle.rt_cdecl.specs.Inside.Drafts.{Stage, Idle, InStruct, InPair, HalfRead, BothRead, PairClosed, Parts, no_parts, function_of_parts, with_row, LastBefore, least_after, Fits, Accepts}
+use Rattle.rt_cdecl.proofs.Ascending.{RisesFrom, RisesFrom-push}
 use Rattle.rt_cdecl.proofs.Sound.{end_after, end_after-push, entries_push, made, none_left}
 
 -- a type that is listed and leads to a struct that was named
@@ -38,7 +38,7 @@ IsGoodStage ts named ss fs (PairClosed n a b) = IsNumber n × (least_after 0 (fu
 -- what was read is well formed, but that types may be listed that are not used
 pub record IsGood (parts : Parts) : Type 0 where
   pub typedefs : All IsTypedef parts.typedefs
-  pub typedefs_rise : AreRising (map typedef_text parts.typedefs)
+  pub typedefs_rise : AreAscending (map typedef_text parts.typedefs)
   pub structs : All (IsStruct parts.named) parts.structs
   pub numbered : struct_numbers parts.structs ≡ entries (λ n. n) 0 (length parts.structs)
   pub few : length parts.structs ≤ parts.named
@@ -63,7 +63,7 @@ good_start = record {
 }
 
 -- one line more of each kind
-rise_push : (ts : List CType) (t : CType) → AreRising (map typedef_text ts) → LastBefore ts t → AreRising (map typedef_text (ts ++ t ∷ []))
+rise_push : (ts : List CType) (t : CType) → AreAscending (map typedef_text ts) → LastBefore ts t → AreAscending (map typedef_text (ts ++ t ∷ []))
 rise_push [] t rise last = tt
 rise_push (a ∷ []) t rise last = (last, tt)
 rise_push (a ∷ b ∷ ts) t rise last = (rise.0, rise_push (b ∷ ts) t rise.1 last)

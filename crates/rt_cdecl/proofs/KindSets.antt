@@ -20,7 +20,7 @@ use Rattle.rt_cdecl.specs.declared.declarations.CType.TheVariants.{Unused, Scala
 use Rattle.rt_cdecl.specs.Types.{IsTypedef, IsWidth}
 use Rattle.rt_cdecl.specs.GoodDecls.{named_types, arg_types}
 use Rattle.rt_cdecl.specs.Rows.{Returns, Nothing, Value, Both, typedef_text}
-use Rattle.rt_cdecl.specs.Drafts.{LastBefore, IsAdded, Adds, kinds_of, line_types}
+use Rattle.rt_cdecl.specs.Inside.Drafts.{LastBefore, IsAdded, Adds, kinds_of, line_types}
 
 -- a name is looked up
 pub names_has : {K : Type 0} (bytes : K → List ℕ) (keys : List K) (name : List ℕ) (names : List (List ℕ)) (r : Bool) → map bytes keys ≡ names → r ≡ list_any (λ k. is_eq (slice_cmp nat_cmp name (bytes k))) keys → IsTrue r ↔ Contains names name

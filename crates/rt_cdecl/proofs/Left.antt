@@ -20,9 +20,9 @@ use Rattle.rt_cdecl.specs.declared.declarations.CType.TheVariants.{Unused, Scala
 use Rattle.rt_cdecl.specs.Types.{IsTypedef}
 use Rattle.rt_cdecl.specs.Rows.{Row, Typedef, Returns, Nothing, Value, Both}
 use Rattle.rt_cdecl.specs.GoodDecls.{named_types, used_types, arg_types}
-use Rattle.rt_cdecl.specs.Drafts.{Idle, Parts, no_parts, with_row, Fits, Adds, kinds_of, line_types, stage_types}
+use Rattle.rt_cdecl.specs.Inside.Drafts.{Idle, Parts, no_parts, with_row, Fits, Adds, kinds_of, line_types, stage_types}
 use Rattle.rt_cdecl.specs.declared.kinds.Counts.{Counts}
-use Rattle.rt_cdecl.specs.Endings.{AreApart, AreCounted, AreLeft, CanEnd, Drops, HasRoom, IsDropped, IsFew, IsReached, IsZero, HasInt, all_used, row_types}
+use Rattle.rt_cdecl.specs.Inside.Endings.{AreApart, AreCounted, AreLeft, CanEnd, Drops, HasRoom, IsDropped, IsFew, IsReached, IsZero, HasInt, all_used, row_types}
 use Rattle.rt_cdecl.proofs.Sound.{none_left}
 use Rattle.rt_cdecl.proofs.Kept.{IsGood, good_start, good_all}
 use Rattle.rt_cdecl.proofs.KindSets.{PartOf, part_of}

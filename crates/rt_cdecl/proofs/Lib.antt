@@ -6,7 +6,7 @@ mod Noting
 pub mod PartTexts
 pub mod ArgTexts
 pub mod RowGuesses
-pub mod Rising
+pub mod Ascending
 pub mod Runs
 pub mod Sound
 pub mod Kept

@@ -8,8 +8,8 @@ use Rattle.rt_cdecl.specs.declared.declarations.CFunction.{CFunction}
 use Rattle.rt_cdecl.specs.declared.declarations.Decls.{Decls}
 use Rattle.rt_cdecl.specs.Rows.{Row, Typedef, Named, Opened, Gap, Member, Closed, Pair, Half, Stated, Returns}
 use Rattle.rt_cdecl.specs.GoodDecls.{arg_types}
-use Rattle.rt_cdecl.specs.Drafts.{Stage, Idle, InStruct, InPair, Parts, with_row, Fits, IsListed, MayHalf, MayReturn, IsWhole, decls_of, stated_of, closed_structs, closed_stage, gapped_of, member_of, half_of}
-use Rattle.rt_cdecl.specs.Endings.{AreLeft}
+use Rattle.rt_cdecl.specs.Inside.Drafts.{Stage, Idle, InStruct, InPair, Parts, with_row, Fits, IsListed, MayHalf, MayReturn, IsWhole, decls_of, stated_of, closed_structs, closed_stage, gapped_of, member_of, half_of}
+use Rattle.rt_cdecl.specs.Inside.Endings.{AreLeft}
 use Rattle.rt_cdecl.proofs.Sound.{made}
 use Rattle.rt_cdecl.proofs.Left.{none_left_used}
 

@@ -15,9 +15,9 @@ use Rattle.rt_cdecl.specs.declared.kinds.Counts.{Counts}
 use Rattle.rt_cdecl.specs.Types.{bits_of, end_of, IsType, IsWide, IsPresent}
 use Rattle.rt_cdecl.specs.Rows.{Row, Typedef, Named, Opened, Gap, Member, Closed, Pair, Half, Stated, Returns, Nothing, Value, Both}
 use Rattle.rt_cdecl.specs.GoodDecls.{IsLastPresent, IsArgument, arg_types, named_types, used_types, function_numbers}
-use Rattle.rt_cdecl.specs.GoodRows.{IsRow, IsReturned}
-use Rattle.rt_cdecl.specs.Drafts.{Stage, Idle, InStruct, InPair, HalfRead, BothRead, PairClosed, Parts, with_row, Fits, Accepts, IsWhole, IsListed, least_after, MayReturn, stated_of, line_types, returned_types, stage_types}
-use Rattle.rt_cdecl.specs.Endings.{CanEnd, AreApart, AreLeft, AreCounted, HasPresent, FitStruct, FitFunctions, HasRoomIn, HasRoom, row_types}
+use Rattle.rt_cdecl.specs.Inside.GoodRows.{IsRow, IsReturned}
+use Rattle.rt_cdecl.specs.Inside.Drafts.{Stage, Idle, InStruct, InPair, HalfRead, BothRead, PairClosed, Parts, with_row, Fits, Accepts, IsWhole, IsListed, least_after, MayReturn, stated_of, line_types, returned_types, stage_types}
+use Rattle.rt_cdecl.specs.Inside.Endings.{CanEnd, AreApart, AreLeft, AreCounted, HasPresent, FitStruct, FitFunctions, HasRoomIn, HasRoom, row_types}
 use Rattle.rt_cdecl.proofs.Sound.{made, none_left}
 use Rattle.rt_cdecl.proofs.Runs.{least_push}
 use Rattle.rt_cdecl.proofs.Kept.{IsGood, IsGoodStage}

@@ -17,7 +17,7 @@ use Rattle.rt_cdecl.specs.declared.declarations.CType.{CType}
 use Rattle.rt_cdecl.specs.Types.{IsTypedef}
 use Rattle.rt_cdecl.specs.Rows.{typedef_text}
 use Rattle.rt_cdecl.specs.declared.declarations.CType.TheVariants.{Unused, Scalar, Pointer}
-use Rattle.rt_cdecl.specs.GoodDecls.{AreRising, named_types, result_types}
+use Rattle.rt_cdecl.specs.GoodDecls.{AreAscending, named_types, result_types}
 use Rattle.rt_cdecl.specs.Lines.{IsByLine, AreByLine, HaveSame, Gains}
 use Rattle.rt_cdecl.proofs.OneRow.{one_typedef}
 
@@ -67,7 +67,7 @@ all_right (x ∷ xs) ys h = all_right xs ys (All-tail IsTypedef x (xs ++ ys) h)
 -- the types of all
 pub record AreListed (types used : List CType) : Type 0 where
   pub each : All IsTypedef types
-  pub rise : AreRising (map typedef_text types)
+  pub rise : AreAscending (map typedef_text types)
   pub exact : HaveSame types used
 
 abbrev Entries : Type 0 → Type 0
@@ -148,15 +148,15 @@ module _ {Y : Type 0} where
   gains_all f xs i a b past g = subst (λ l. Gains a b (flat_map f l)) (take_all i xs past) g
 
   -- the lines rise
-  rising : (es : Entries Y) → IsStrictlySortedBy cmp (keys_of es) → All IsByLine es → AreRising (map typedef_text (values_of es))
+  ascending : (es : Entries Y) → IsStrictlySortedBy cmp (keys_of es) → All IsByLine es → AreAscending (map typedef_text (values_of es))
   unfolding IsStrictlySortedBy
-  rising [] s are = tt
-  rising (e ∷ []) s are = tt
-  rising (e ∷ f ∷ es) s are =
+  ascending [] s are = tt
+  ascending (e ∷ []) s are = tt
+  ascending (e ∷ f ∷ es) s are =
       let rest = All-tail IsByLine e (f ∷ es) are in (
         subst (λ l. slice_cmp nat_cmp (typedef_text e.1) l ≡ Less) (All-head IsByLine f es rest).line
             (subst (λ l. slice_cmp nat_cmp l f.0.items ≡ Less) (All-head IsByLine e (f ∷ es) are).line s.0.0),
-        rising (f ∷ es) s.1 rest,
+        ascending (f ∷ es) s.1 rest,
       )
 
   pub all_listed : (old new : Map Y) (types used : List CType) → Gains old new used → old.entries ≡ [] → All IsTypedef used →
@@ -166,7 +166,7 @@ module _ {Y : Type 0} where
       let now = gains.gain before good in
       let all : AreListed (values new) used = record {
         each = All-map IsTypedef (λ (e : Vec ℕ Y × CType). e.1) new.entries (All-weaker IsByLine (λ e. IsTypedef e.1) (λ e is. is.typedef) new.entries now.0);
-        rise = rising new.entries sorted now.0;
+        rise = ascending new.entries sorted now.0;
         exact = subst (λ (es : Entries Y). HaveSame (values new) (values_of es ++ used)) none now.1;
       } in
       subst (λ l. AreListed l used) (sym are) all

@@ -17,7 +17,7 @@ use Rattle.rt_cdecl.specs.Types.{bits_of, end_of, IsType, IsWide, IsPresent, IsF
 use Rattle.rt_cdecl.specs.Rows.{Row, Typedef, Named, Opened, Gap, Member, Closed, Pair, Half, Both, row_text, rows_text}
 use Rattle.rt_cdecl.specs.Texts.{gap_rows, fields_rows, struct_rows, pair_rows, returns_of, stated_row, function_rows, decls_rows}
 use Rattle.rt_cdecl.specs.GoodDecls.{IsStruct, IsFunction, IsGoodDecls, struct_numbers}
-use Rattle.rt_cdecl.specs.GoodRows.{IsReturned, IsRow}
+use Rattle.rt_cdecl.specs.Inside.GoodRows.{IsReturned, IsRow}
 use Rattle.rt_cdecl.specs.Laws.{OneHeader}
 use Rattle.rt_cdecl.proofs.Clear.{row_clear}
 use Rattle.rt_cdecl.proofs.OneRow.{one_row}

@@ -8,9 +8,9 @@ use Rattle.rt_cdecl.specs.declared.declarations.CStruct.{CStruct}
 use Rattle.rt_cdecl.specs.declared.declarations.CFunction.{CFunction}
 use Rattle.rt_cdecl.specs.Rows.{Row, Typedef, Named, Opened, Gap, Member, Closed, Pair, Half, Stated, Nothing, Value, Both}
 use Rattle.rt_cdecl.specs.GoodDecls.{used_types}
-use Rattle.rt_cdecl.specs.GoodRows.{IsRow, IsReturned}
-use Rattle.rt_cdecl.specs.Drafts.{Stage, Idle, InStruct, InPair, HalfRead, BothRead, PairClosed, Parts, with_row, Fits, Accepts, Adds, AreNoted, stage_types, gapped_of, member_of, half_of, stated_of, closed_structs, closed_stage}
-use Rattle.rt_cdecl.specs.Endings.{all_used, row_types}
+use Rattle.rt_cdecl.specs.Inside.GoodRows.{IsRow, IsReturned}
+use Rattle.rt_cdecl.specs.Inside.Drafts.{Stage, Idle, InStruct, InPair, HalfRead, BothRead, PairClosed, Parts, with_row, Fits, Accepts, Adds, AreNoted, stage_types, gapped_of, member_of, half_of, stated_of, closed_structs, closed_stage}
+use Rattle.rt_cdecl.specs.Inside.Endings.{all_used, row_types}
 use Rattle.rt_cdecl.proofs.Sound.{made}
 use Rattle.rt_cdecl.proofs.Drafting.{noted_more, noted_gap, noted_end, noted_field, noted_half, noted_function}
 

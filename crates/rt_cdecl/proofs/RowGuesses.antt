@@ -13,8 +13,8 @@ use Rattle.rt_cdecl.specs.declared.declarations.CType.TheVariants.{Unused, Scala
 use Rattle.rt_cdecl.specs.declared.declarations.CField.{CField}
 use Rattle.rt_cdecl.specs.Types.{IsType, IsWidth, IsTypedef, IsWide, IsField}
 use Rattle.rt_cdecl.specs.Rows.{Row, Typedef, Named, Opened, Gap, Member, Closed, Pair, Half, Stated, Returns, carrier_text, typedef_text, type_text, args_text, returns_text, row_text}
-use Rattle.rt_cdecl.specs.GoodRows.{IsReturned, IsRow, IsStructLine}
-use Rattle.rt_cdecl.specs.Guesses.{StopsDigits}
+use Rattle.rt_cdecl.specs.Inside.GoodRows.{IsReturned, IsRow, IsStructLine}
+use Rattle.rt_cdecl.specs.Inside.Guesses.{StopsDigits}
 use Rattle.rt_cdecl.proofs.OneRow.{clear_carrier, typedef_tail, stated_tail, group_of, byte_group, row_group, one_typedef, one_row, no_gap}
 
 -- a number before a fixed text

@@ -16,26 +16,26 @@ use Rattle.rt_cdecl.specs.declared.declarations.Decls.{Decls}
 use Rattle.rt_cdecl.specs.Types.{end_of, IsField, IsPresent}
 use Rattle.rt_cdecl.specs.Rows.{Row, Typedef, Named, Opened, Gap, Member, Closed, Stated, Both, typedef_text}
 use Rattle.rt_cdecl.specs.Texts.{gap_rows, fields_rows, struct_rows, returns_of, stated_row, function_rows, decls_rows}
-use Rattle.rt_cdecl.specs.GoodDecls.{AreRising, FitFrom, LeadsBelow, IsStruct, IsFunction, IsGoodDecls, arg_types, named_types, struct_types, result_types, function_types, used_types, struct_numbers, function_numbers}
-use Rattle.rt_cdecl.specs.Drafts.{Idle, InStruct, Parts, no_parts, function_of_parts, LastBefore, least_after, Accepts}
-use Rattle.rt_cdecl.proofs.Rising.{RisesFrom, least_after-append, rises_all}
+use Rattle.rt_cdecl.specs.GoodDecls.{AreAscending, FitFrom, LeadsBelow, IsStruct, IsFunction, IsGoodDecls, arg_types, named_types, struct_types, result_types, function_types, used_types, struct_numbers, function_numbers}
+use Rattle.rt_cdecl.specs.Inside.Drafts.{Idle, InStruct, Parts, no_parts, function_of_parts, LastBefore, least_after, Accepts}
+use Rattle.rt_cdecl.proofs.Ascending.{RisesFrom, least_after-append, rises_all}
 use Rattle.rt_cdecl.proofs.OneDecls.{nothing_or, returns_of-both, two_rows, single_rows, double_rows}
 
 -- types
 abbrev types_parts : List CType → Parts
 types_parts ts = record { typedefs = ts; named = 0; structs = []; functions = []; stage = Idle }
 
-last_before : (done : List CType) (t : CType) (todo : List CType) → AreRising (map typedef_text (done ++ t ∷ todo)) → LastBefore done t
+last_before : (done : List CType) (t : CType) (todo : List CType) → AreAscending (map typedef_text (done ++ t ∷ todo)) → LastBefore done t
 last_before [] t todo rise = tt
 last_before (x ∷ []) t todo rise = rise.0
 last_before (x ∷ y ∷ done) t todo rise = last_before (y ∷ done) t todo rise.1
 
-pub accept_types : (done todo : List CType) (rest : List Row) (last : Parts) → AreRising (map typedef_text (done ++ todo)) → Accepts (types_parts (done ++ todo)) rest last → Accepts (types_parts done) (map Typedef todo ++ rest) last
+pub accept_types : (done todo : List CType) (rest : List Row) (last : Parts) → AreAscending (map typedef_text (done ++ todo)) → Accepts (types_parts (done ++ todo)) rest last → Accepts (types_parts done) (map Typedef todo ++ rest) last
 accept_types done [] rest last rise all = subst (λ d. Accepts (types_parts d) rest last) (append-nil done) all
 accept_types done (t ∷ todo) rest last rise all =
     let same : (done ++ t ∷ []) ++ todo ≡ done ++ t ∷ todo = append_assoc done (t ∷ []) todo in (
       (refl, refl, refl, last_before done t todo rise),
-      accept_types (done ++ t ∷ []) todo rest last (subst (λ ts. AreRising (map typedef_text ts)) (sym same) rise) (subst (λ ts. Accepts (types_parts ts) rest last) (sym same) all),
+      accept_types (done ++ t ∷ []) todo rest last (subst (λ ts. AreAscending (map typedef_text ts)) (sym same) rise) (subst (λ ts. Accepts (types_parts ts) rest last) (sym same) all),
     )
 
 -- names of structs

@@ -14,7 +14,7 @@ use Rattle.rt_cdecl.specs.declared.declarations.CFunction.{CFunction}
 use Rattle.rt_cdecl.specs.Types.{end_of, IsPresent}
 use Rattle.rt_cdecl.specs.Rows.{Row, Typedef, Named, Opened, Gap, Member, Closed, Pair, Half, Stated, Nothing, Value, Both}
 use Rattle.rt_cdecl.specs.Texts.{gap_rows, fields_rows, struct_rows, returns_of, function_rows}
-use Rattle.rt_cdecl.specs.Drafts.{Stage, Idle, InStruct, InPair, HalfRead, BothRead, PairClosed, Parts, no_parts, function_of_parts, with_row, Fits, Accepts}
+use Rattle.rt_cdecl.specs.Inside.Drafts.{Stage, Idle, InStruct, InPair, HalfRead, BothRead, PairClosed, Parts, no_parts, function_of_parts, with_row, Fits, Accepts}
 use Rattle.rt_cdecl.proofs.OneDecls.{two_rows, pair_rows-two, returns_of-both}
 
 -- where fields end

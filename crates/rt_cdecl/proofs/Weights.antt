@@ -4,8 +4,8 @@ use Rattle.std.proofs.lemmas.List.Elements.{Contains-append_cases}
 use Rattle.rt_base.proofs.Lists.{Contains-none, Contains-here, Contains-there, Contains-cons_cases, Contains-middle_cases, Contains-map_source}
 use Rattle.rt_cdecl.specs.declared.declarations.CType.{CType}
 use Rattle.rt_cdecl.specs.declared.declarations.CType.TheVariants.{Unused, Scalar, Pointer}
-use Rattle.rt_cdecl.specs.Drafts.{kinds_of}
-use Rattle.rt_cdecl.specs.Endings.{AreApart}
+use Rattle.rt_cdecl.specs.Inside.Drafts.{kinds_of}
+use Rattle.rt_cdecl.specs.Inside.Endings.{AreApart}
 
 -- the weights of types together
 abbrev pub total : (CType → ℕ) → List CType → ℕ

@@ -20,10 +20,10 @@ use Rattle.rt_cdecl.specs.Types.{end_of, IsPresent, IsTypedef, IsWide, IsField}
 use Rattle.rt_cdecl.specs.Rows.{typedef_text}
 
 -- each list of bytes comes after the one before it in the order of bytes
-abbrev pub AreRising : List (List ℕ) → Type 0
-AreRising [] = Unit {0}
-AreRising (text ∷ []) = Unit {0}
-AreRising (text ∷ next ∷ texts) = (slice_cmp nat_cmp text next ≡ Less) × AreRising (next ∷ texts)
+abbrev pub AreAscending : List (List ℕ) → Type 0
+AreAscending [] = Unit {0}
+AreAscending (text ∷ []) = Unit {0}
+AreAscending (text ∷ next ∷ texts) = (slice_cmp nat_cmp text next ≡ Less) × AreAscending (next ∷ texts)
 
 -- the struct that a pointer leads to is one of so many
 abbrev pub LeadsBelow : ℕ → CType → Type 0
@@ -117,7 +117,7 @@ function_numbers functions = map (λ (f : CFunction). f.number) functions
 -- from 0, and pointers lead to these; functions rise.
 pub record IsGoodDecls (decls : Decls) : Type 0 where
   pub typedefs : All IsTypedef decls.typedefs
-  pub typedefs_rise : AreRising (map typedef_text decls.typedefs)
+  pub typedefs_rise : AreAscending (map typedef_text decls.typedefs)
   pub exact : (t : CType) → Contains decls.typedefs t ↔ Contains (used_types decls.structs decls.functions) t
   pub structs : All (IsStruct (length decls.structs)) decls.structs
   pub numbered : struct_numbers decls.structs ≡ entries (λ n. n) 0 (length decls.structs)

@@ -2,11 +2,8 @@ pub mod Types
 pub mod Rows
 pub mod Texts
 pub mod GoodDecls
-pub mod GoodRows
 pub mod HeaderWords
-pub mod Guesses
-pub mod Drafts
-pub mod Endings
 pub mod Laws
 pub mod Lines
 pub mod HeaderReadings
+pub mod Inside

@@ -3,15 +3,15 @@ ghost use Rattle.std.specs.Prelude.{◌≡◌, ◌↔◌, ◌<◌, ◌≤◌, �
 ghost use Rattle.rt_cdecl.specs.Types.{IsField, IsTypedef, IsWide};
 ghost use Rattle.rt_cdecl.specs.Rows.{Typedef, Named, Opened, Gap, Member, Pair, Half, Stated};
 ghost use Rattle.rt_cdecl.specs.GoodDecls.{IsArgument, arg_types};
-ghost use Rattle.rt_cdecl.specs.GoodRows.{IsReturned, IsRow};
+ghost use Rattle.rt_cdecl.specs.Inside.GoodRows.{IsReturned, IsRow};
 ghost use Rattle.rt_cdecl.specs.declared.declarations.CType.{CType};
-ghost use Rattle.rt_cdecl.specs.Endings.{CanEnd, Drops, FitFunctions, FitStruct, HasPresent, HasRoom, IsFew, IsReached, all_used};
-ghost use Rattle.rt_cdecl.specs.Drafts.{Fits, IsListed, IsWhole, MayReturn, MayState};
-ghost use Rattle.rt_cdecl.specs.Drafts.{closed_stage, closed_structs, decls_of, line_types, no_parts, stated_of, with_row};
+ghost use Rattle.rt_cdecl.specs.Inside.Endings.{CanEnd, Drops, FitFunctions, FitStruct, HasPresent, HasRoom, IsFew, IsReached, all_used};
+ghost use Rattle.rt_cdecl.specs.Inside.Drafts.{Fits, IsListed, IsWhole, MayReturn, MayState};
+ghost use Rattle.rt_cdecl.specs.Inside.Drafts.{closed_stage, closed_structs, decls_of, line_types, no_parts, stated_of, with_row};
 
 use crate::declarations::{CArgs, CField, CFields, CFunction, CStruct, CStructs, CType, Decls};
 use crate::kinds::{Counts, Kinds};
-use crate::listed::{RisingFunctions, Typedefs};
+use crate::listed::{AscendingFunctions, Typedefs};
 use crate::row::{Returns, Row};
 use crate::stage::Stage;
 use rt_base::Memory;
@@ -26,13 +26,13 @@ pub struct Draft {
     left: Kinds,
     named: u64,
     structs: CStructs,
-    functions: RisingFunctions,
+    functions: AscendingFunctions,
     stage: Stage,
 }
 
 impl Model for Draft {
-    ghost use Rattle.rt_cdecl.specs.Drafts.{Parts};
-    ghost use Rattle.rt_cdecl.specs.Endings.{AreLeft};
+    ghost use Rattle.rt_cdecl.specs.Inside.Drafts.{Parts};
+    ghost use Rattle.rt_cdecl.specs.Inside.Endings.{AreLeft};
 
     ghost Value = { Parts };
 
@@ -52,7 +52,7 @@ impl Draft {
             left: Kinds::new(alloc),
             named: 0,
             structs: CStructs::new(alloc),
-            functions: RisingFunctions::new(alloc),
+            functions: AscendingFunctions::new(alloc),
             stage: Stage::Idle,
         }
     }
@@ -128,7 +128,7 @@ impl Draft {
         }
     }
 
-    // Whether the line may follow. The error is want of memory.
+    // Whether the line may follow. The error is out of memory.
     pub fn may(&self, row: &Row) -> Result<bool, Memory>
         ensures { IfOk result (λ may. IsTrue may ↔ Fits self.now row.now) }
     {

@@ -4,7 +4,7 @@ ghost use Rattle.rt_lines.specs.declared.label.Loc.{Loc};
 ghost use Rattle.rt_cdecl.specs.declared.declarations.CType.{CType};
 ghost use Rattle.rt_cdecl.specs.Types.{IsField, IsPresent, IsType, IsTypedef, IsWide, IsWidth};
 ghost use Rattle.rt_cdecl.specs.GoodDecls.{AreArgs, ArePlaced, IsArgument, IsLastPresent, arg_types, place_of};
-ghost use Rattle.rt_cdecl.specs.GoodRows.{IsReturned, IsRow};
+ghost use Rattle.rt_cdecl.specs.Inside.GoodRows.{IsReturned, IsRow};
 
 use crate::declarations::{CField, CType};
 use crate::row::{Returns, Row};

@@ -3,8 +3,8 @@ ghost use Rattle.std.specs.Prelude.{◌≡◌, ◌↔◌, ◌<◌, ◌^◌, [], 
 ghost use Rattle.rt_cdecl.specs.declared.declarations.CType.TheVariants.{Scalar};
 ghost use Rattle.rt_cdecl.specs.Types.{IsType, IsWidth};
 ghost use Rattle.rt_cdecl.specs.GoodDecls.{IsArgument, arg_types, named_types};
-ghost use Rattle.rt_cdecl.specs.Drafts.{Adds, IsAdded};
-ghost use Rattle.rt_cdecl.specs.Endings.{AreApart, AreCounted, Drops, HasInt, IsDropped, IsZero};
+ghost use Rattle.rt_cdecl.specs.Inside.Drafts.{Adds, IsAdded};
+ghost use Rattle.rt_cdecl.specs.Inside.Endings.{AreApart, AreCounted, Drops, HasInt, IsDropped, IsZero};
 ghost use Rattle.std.specs.List.{flat_map};
 
 use crate::declarations::CType;
@@ -22,7 +22,7 @@ pub struct NameSet {
 
 impl Model for NameSet {
     ghost use Rattle.std.specs.Prelude.{List, ℕ, map};
-    ghost use Rattle.rt_cdecl.specs.Endings.{AreApart};
+    ghost use Rattle.rt_cdecl.specs.Inside.Endings.{AreApart};
 
     ghost Value = { List (List ℕ) };
 
@@ -111,7 +111,7 @@ pub struct Kinds {
 impl Model for Kinds {
     ghost use Rattle.std.specs.Prelude.{List};
     ghost use Rattle.rt_cdecl.specs.declared.declarations.CType.{CType};
-    ghost use Rattle.rt_cdecl.specs.Drafts.{kinds_of};
+    ghost use Rattle.rt_cdecl.specs.Inside.Drafts.{kinds_of};
 
     ghost Value = { List CType };
 

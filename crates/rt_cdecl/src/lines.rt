@@ -4,7 +4,7 @@ ghost use Rattle.std.specs.BTreeMap.{IsOrdered, values};
 ghost use Rattle.std.specs.Cmp.Lexicographic.{slice_cmp};
 ghost use Rattle.std.specs.List.{flat_map};
 ghost use Rattle.std.specs.Ordering.{nat_cmp};
-ghost use Rattle.rt_cdecl.specs.GoodDecls.{AreRising, arg_types, function_types, named_types, result_types, struct_types, used_types};
+ghost use Rattle.rt_cdecl.specs.GoodDecls.{AreAscending, arg_types, function_types, named_types, result_types, struct_types, used_types};
 ghost use Rattle.rt_cdecl.specs.declared.declarations.CType.TheVariants.{Unused};
 ghost use Rattle.rt_cdecl.specs.Lines.{Gains, HaveSame};
 ghost use Rattle.rt_cdecl.specs.Rows.{typedef_text};
@@ -137,7 +137,7 @@ fn listed(alloc: Global, lines: Lines) -> Result<CTypes, Memory>
 }
 
 /// The scalars that structs and functions use, and `Unused` where that is used, each once and in the byte order of their
-/// lines. The error is want of memory.
+/// lines. The error is out of memory.
 pub fn typedefs(
     alloc: Global,
     structs: &[CStruct],
@@ -145,7 +145,7 @@ pub fn typedefs(
 ) -> Result<CTypes, Memory>
     requires { All IsTypedef (used_types structs.now functions.now) }
     ensures each { IfOk result (λ types. All IsTypedef types) }
-    ensures rise { IfOk result (λ types. AreRising (map typedef_text types)) }
+    ensures rise { IfOk result (λ types. AreAscending (map typedef_text types)) }
     ensures exact { IfOk result (λ types. HaveSame types (used_types structs.now functions.now)) }
 {
     let mut lines = BTreeMap::new(alloc);

@@ -6,8 +6,8 @@ ghost use Rattle.std.specs.declared.cmp.Ordering.TheVariants.{Less};
 ghost use Rattle.rt_cdecl.specs.Types.{IsTypedef};
 ghost use Rattle.rt_cdecl.specs.Rows.{typedef_text};
 ghost use Rattle.rt_cdecl.specs.GoodDecls.{function_numbers};
-ghost use Rattle.rt_cdecl.specs.Drafts.{LastBefore, least_after};
-ghost use Rattle.rt_cdecl.specs.Endings.{HasInt};
+ghost use Rattle.rt_cdecl.specs.Inside.Drafts.{LastBefore, least_after};
+ghost use Rattle.rt_cdecl.specs.Inside.Endings.{HasInt};
 
 use crate::declarations::{CFunction, CFunctions, CType, CTypes};
 use crate::kinds::Kinds;
@@ -123,16 +123,16 @@ impl Typedefs {
 
 // Functions whose numbers rise, which contracts see as the list of them.
 #[derive(Drop)]
-pub struct RisingFunctions {
+pub struct AscendingFunctions {
     list: CFunctions,
     least: u64,
 }
 
-impl Model for RisingFunctions {
+impl Model for AscendingFunctions {
     ghost use Rattle.std.specs.Prelude.{List, ◌≡◌, ◌≤◌, ◌^◌};
     ghost use Rattle.rt_cdecl.specs.declared.declarations.CFunction.{CFunction};
     ghost use Rattle.rt_cdecl.specs.GoodDecls.{function_numbers};
-    ghost use Rattle.rt_cdecl.specs.Drafts.{least_after};
+    ghost use Rattle.rt_cdecl.specs.Inside.Drafts.{least_after};
 
     ghost Value = { List CFunction };
 
@@ -141,12 +141,12 @@ impl Model for RisingFunctions {
     ghost invariant = { λ f. (f.least ≡ least_after 0 (function_numbers f.list)) × (f.least ≤ 2 ^ 32) };
 }
 
-impl RisingFunctions {
+impl AscendingFunctions {
     // No functions. It takes no memory, and keeps the allocator.
-    pub fn new(alloc: Global) -> RisingFunctions
+    pub fn new(alloc: Global) -> AscendingFunctions
         ensures { result ≡ [] }
     {
-        RisingFunctions {
+        AscendingFunctions {
             list: CFunctions::new(alloc),
             least: 0,
         }
@@ -175,13 +175,13 @@ impl RisingFunctions {
     }
 
     // These functions and one more.
-    pub fn with(self, function: CFunction) -> Result<RisingFunctions, Memory>
+    pub fn with(self, function: CFunction) -> Result<AscendingFunctions, Memory>
         ensures { IfOk result (λ more. more ≡ self ++ function ∷ []) }
     {
         let mut list = self.list;
         let least = u64::from(function.number) + 1;
         list.push(function)?;
-        Ok(RisingFunctions { list, least })
+        Ok(AscendingFunctions { list, least })
     }
 
     // The functions as a list, without memory.

@@ -7,7 +7,7 @@ ghost use Rattle.rt_cdecl.specs.declared.declarations.CType.{CType};
 ghost use Rattle.rt_cdecl.specs.declared.declarations.CType.TheVariants.{Unused, Scalar, Pointer};
 ghost use Rattle.rt_cdecl.specs.Types.{IsType, IsWidth};
 ghost use Rattle.rt_cdecl.specs.Rows.{scalar_text, type_text};
-ghost use Rattle.rt_cdecl.specs.Guesses.{AreDigits, AreFirstDigits, Gives, StopsDigits};
+ghost use Rattle.rt_cdecl.specs.Inside.Guesses.{AreDigits, AreFirstDigits, Gives, StopsDigits};
 
 use crate::declarations::CType;
 use rt_base::Bytes;

@@ -291,7 +291,7 @@ fn push_functions(functions: &[CFunction], out: &mut Vec<u8>) -> Result<(), Memo
 
 /// The text of well formed declarations, line by line: the types, the names of the structs, the structs with a line for each
 /// field and each gap before one, and the functions, each after the pair of its results where it has two. Widths and offsets
-/// are in bytes there. The error is want of memory.
+/// are in bytes there. The error is out of memory.
 pub fn print(alloc: Global, decls: &Decls) -> Result<Vec<u8>, Memory>
     requires { IsGoodDecls decls.now }
     ensures { IfOk result (λ text. text.items ≡ decls_text decls.now) }

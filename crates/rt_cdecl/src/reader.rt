@@ -23,7 +23,7 @@ fn place_after(place: u32, line: &[u8]) -> Option<u32>
 /// The declarations of a text, which is exactly theirs. Where the text is that of no well formed declarations the fault is
 /// `BadText` of the byte where a line begins: that of the first line with which no header's text begins as this text does up to
 /// it. The lines before it begin some header's text, so the types that they list can all be used. The end of the text counts as
-/// one line more, and a last line without its line end is none of a header. Where that place is no `u32` the fault is want of
+/// one line more, and a last line without its line end is none of a header. Where that place is no `u32` the fault is out of
 /// memory.
 pub fn read(alloc: Global, text: &[u8]) -> Result<Decls, TextFault>
     ensures read { IfOk result (λ decls. IsGoodDecls decls × (decls_text decls ≡ text.now)) }

@@ -10,8 +10,8 @@ ghost use Rattle.rt_cdecl.specs.Types.{IsField, IsTypedef, IsWide};
 ghost use Rattle.rt_cdecl.specs.Rows.{Typedef, Gap, Member, Half, Stated, args_text, loc_text, returns_text, row_text};
 ghost use Rattle.rt_cdecl.specs.Rows.{type_text, typedef_text};
 ghost use Rattle.rt_cdecl.specs.GoodDecls.{AreArgs, place_of};
-ghost use Rattle.rt_cdecl.specs.GoodRows.{IsReturned, IsRow, IsStructLine};
-ghost use Rattle.rt_cdecl.specs.Guesses.{Gives, StopsDigits};
+ghost use Rattle.rt_cdecl.specs.Inside.GoodRows.{IsReturned, IsRow, IsStructLine};
+ghost use Rattle.rt_cdecl.specs.Inside.Guesses.{Gives, StopsDigits};
 
 use crate::declarations::{CArgs, CField, CType};
 use crate::goods::is_row;

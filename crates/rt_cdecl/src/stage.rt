@@ -1,7 +1,7 @@
 // What the lines of a header that were read stand in.
 ghost use Rattle.std.specs.Prelude.{◌≡◌, ◌↔◌, IsTrue, IfOk};
 ghost use Rattle.rt_cdecl.specs.Types.{bits_of};
-ghost use Rattle.rt_cdecl.specs.Drafts.{BeginsAt, MayClose, MayGap, MayHalf, gapped_of, half_of, member_of};
+ghost use Rattle.rt_cdecl.specs.Inside.Drafts.{BeginsAt, MayClose, MayGap, MayHalf, gapped_of, half_of, member_of};
 
 use crate::declarations::{CField, CFields, CType};
 use crate::goods::is_present;

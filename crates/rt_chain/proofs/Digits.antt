@@ -9,7 +9,7 @@ use Rattle.rt_lines.specs.declared.label.Variance.TheVariants.{Co, Contra}
 use Rattle.rt_lines.specs.Words.{label_variance, times, variance_of_word, IsLabel}
 use Rattle.rt_bridge.specs.Counted.{bit, IsPointer}
 use Rattle.rt_chain.specs.Numbers.{number_of, count_true, AreAtPointers, AreSpellings, at_end, equal_at, flipped_at}
-use Rattle.rt_chain.specs.Letters.{other}
+use Rattle.rt_chain.specs.Inside.Letters.{other}
 
 pub bit-small : (s : Variance) → bit s ≤ 1
 bit-small Co = omega arith

@@ -2,7 +2,7 @@
 ghost use Rattle.std.specs.Prelude.{◌≡◌, ◌<◌, length, IfOk, slice_index_or, slice_set};
 ghost use Rattle.rt_lines.specs.declared.label.Label.TheVariants.{Load};
 ghost use Rattle.rt_bridge.specs.Counted.{bit as bit_of};
-ghost use Rattle.rt_chain.specs.Letters.{other};
+ghost use Rattle.rt_chain.specs.Inside.Letters.{other};
 
 use rt_base::Memory;
 use rt_lines::{Label, Variance, Word};

@@ -5,7 +5,7 @@ use Rattle.std.proofs.lemmas.List.{get_or-set_same, get_or-set_other, length-set
 use Rattle.rt_components.specs.declared.walk.State.{State}
 use Rattle.rt_components.specs.declared.walk.State.TheVariants.{Unseen, OnPath, InClass}
 use Rattle.rt_components.specs.Graphs.{successors}
-use Rattle.rt_components.specs.Walks.{state_of, IsMet, LeadsOn, IsSpent, IsPath, left}
+use Rattle.rt_components.specs.Inside.Walks.{state_of, IsMet, LeadsOn, IsSpent, IsPath, left}
 use Rattle.rt_base.proofs.Numbers.{before_or}
 
 pub advanced : (graph : List (List ℕ)) (state : List State) (followed path starts pending : List ℕ) → IsPath graph state followed path starts pending → (node edge to : ℕ) → node < length graph → (state_of state node ≡ Unseen → ⊥) →

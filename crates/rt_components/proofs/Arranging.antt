@@ -5,8 +5,8 @@ use Rattle.std.proofs.lemmas.Bool.{cases_eq, cases_lt, cases_order}
 use Rattle.std.proofs.lemmas.List.{get_or-map, get_or_past, length-map}
 use Rattle.rt_components.specs.Graphs.{HasEdge}
 use Rattle.rt_components.specs.Groups.{AreTogether, AreGroups, IsAmongFirst, MayCome, group_at}
-use Rattle.rt_components.specs.Classes.{AreClasses, AreMembers, AreSuccessors}
-use Rattle.rt_components.specs.Orders.{least_of, IsBefore, AreLinked, AreAllInOrder}
+use Rattle.rt_components.specs.Inside.Classes.{AreClasses, AreMembers, AreSuccessors}
+use Rattle.rt_components.specs.Inside.Orders.{least_of, IsBefore, AreLinked, AreAllInOrder}
 use Rattle.rt_components.proofs.Numbers.{place_in, contains_at}
 use Rattle.rt_base.proofs.Lists.{Contains-none}
 
@@ -119,7 +119,7 @@ module _ (graph : List (List ℕ)) (class : List ℕ) (count : ℕ) (members oth
     are_groups = record {
       nodes = nodes;
       full = λ k less. let l = low k less in subst (λ xs. 0 < length xs) (sym (at k l)) (are_linked.full (slice_index order k) (ordered.in_order.within k l));
-      rising = λ k less. subst IsStrictlyIncreasing (sym (at k (low k less))) (are.rising (slice_index order k));
+      ascending = λ k less. subst IsStrictlyIncreasing (sym (at k (low k less))) (are.ascending (slice_index order k));
       together = together;
       may = λ k less. may k (low k less);
       least = λ k j le less may_come. least k j le (low j less) may_come;

@@ -4,7 +4,7 @@ use Rattle.std.proofs.lemmas.Bool.{cases_eq, cases_lt}
 use Rattle.std.proofs.lemmas.List.{get_or-set_same, get_or-set_other, length-set}
 use Rattle.rt_components.specs.declared.walk.State.{State}
 use Rattle.rt_components.specs.declared.walk.State.TheVariants.{Unseen, OnPath, InClass}
-use Rattle.rt_components.specs.Walks.{state_of, AreOnPath, IsClosedFrom}
+use Rattle.rt_components.specs.Inside.Walks.{state_of, AreOnPath, IsClosedFrom}
 use Rattle.rt_components.proofs.Entering.{unseen_place, place_class, same_place}
 
 -- so far as to some place

@@ -1,6 +1,6 @@
 -- The first of the classes that may come next, and the end of a queue.
 use Rattle.std.proofs.Common.{◌≡◌, ℕ, zero, suc, ◌<◌, ◌⊎◌, inl, inr, Bool, List, [], ◌∷◌, length, slice_index, Contains, sym, ap, subst, ◌∙◌, arith}
-use Rattle.rt_components.specs.Orders.{least_of, AreAllInOrder, AreLinked, HasCome, IsToCome, HaveCome, IsWaiting, IsQueueOf}
+use Rattle.rt_components.specs.Inside.Orders.{least_of, AreAllInOrder, AreLinked, HasCome, IsToCome, HaveCome, IsWaiting, IsQueueOf}
 use Rattle.rt_components.proofs.Numbers.{cons_here, cons_there, cons_cases}
 use Rattle.rt_components.proofs.Taking.{cases_come, not_both}
 use Rattle.rt_base.proofs.Numbers.{before_or}

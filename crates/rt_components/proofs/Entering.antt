@@ -8,7 +8,7 @@ use Rattle.rt_components.specs.declared.walk.State.TheVariants.{Unseen, OnPath, 
 use Rattle.rt_components.specs.Graphs.{HasEdge}
 use Rattle.rt_components.specs.Groups.{Reaches}
 use Rattle.rt_components.specs.Groups.Reaches.{there}
-use Rattle.rt_components.specs.Walks.{state_of, IsNotBefore, IsMet, LeadsOn, IsSpent, IsPath, AreWhole}
+use Rattle.rt_components.specs.Inside.Walks.{state_of, IsNotBefore, IsMet, LeadsOn, IsSpent, IsPath, AreWhole}
 use Rattle.rt_components.proofs.Numbers.{push_old, push_last, Rises-push}
 use Rattle.rt_base.proofs.Numbers.{before_or}
 

@@ -7,7 +7,7 @@ use Rattle.rt_components.specs.declared.walk.State.{State}
 use Rattle.rt_components.specs.declared.walk.State.TheVariants.{Unseen, OnPath, InClass}
 use Rattle.rt_components.specs.Graphs.{successors, HasEdge}
 use Rattle.rt_components.specs.Groups.{Reaches, AreTogether}
-use Rattle.rt_components.specs.Walks.{state_of, IsLast, IsNotBefore, IsMet, LeadsOn, IsSpent, IsPath, AreWhole, AreOnPath, IsClosedFrom}
+use Rattle.rt_components.specs.Inside.Walks.{state_of, IsLast, IsNotBefore, IsMet, LeadsOn, IsSpent, IsPath, AreWhole, AreOnPath, IsClosedFrom}
 use Rattle.rt_components.proofs.Numbers.{place_in, push_old, push_last, rises_front, in_front, front_or_last, front_below, greatest_last}
 use Rattle.rt_components.proofs.Reaching.{reaches_closed}
 use Rattle.rt_components.proofs.Entering.{unseen_place, unseen_class, place_class, same_place, same_class}

@@ -6,7 +6,7 @@ use Rattle.std.proofs.lemmas.List.{get_or-set_same, get_or-set_other, length-set
 use Rattle.std.proofs.lemmas.List.Elements.{Contains-append_left, Contains-push, Contains-push_cases}
 use Rattle.rt_components.specs.Graphs.{HasEdge}
 use Rattle.rt_components.specs.Groups.{group_at}
-use Rattle.rt_components.specs.Classes.{AreMembers, AddsOthers, AreSuccessors}
+use Rattle.rt_components.specs.Inside.Classes.{AreMembers, AddsOthers, AreSuccessors}
 use Rattle.rt_components.proofs.Numbers.{contains_at, push_old, push_last}
 use Rattle.rt_base.proofs.Numbers.{before_or}
 use Rattle.rt_base.proofs.Lists.{Contains-none}
@@ -48,7 +48,7 @@ members_none class count members e = record {
   each = ap length e ∙ length-replicate count [];
   found = λ a less. absurd (omega arith);
   only = λ k a c. absurd (Contains-none a (subst (λ xs. Contains xs a) (none k) c));
-  rising = λ k. subst IsStrictlyIncreasing (sym (none k)) (λ i less. absurd (omega arith));
+  ascending = λ k. subst IsStrictlyIncreasing (sym (none k)) (λ i less. absurd (omega arith));
 }
   where
     none : (k : ℕ) → group_at members k ≡ []
@@ -60,7 +60,7 @@ members_more class count node members are k is less ys pushed = record {
   each = length-set members k ys ∙ are.each;
   found = λ a low. found a (before_or node a low);
   only = λ j a c. only j a c (at j);
-  rising = λ j. rising j (at j);
+  ascending = λ j. ascending j (at j);
 }
   where
     at : (j : ℕ) → ((j ≡ k) × (group_at (set members k ys) j ≡ ys)) ⊎ ((j ≡ k → ⊥) × (group_at (set members k ys) j ≡ group_at members j))
@@ -92,9 +92,9 @@ members_more class count node members are k is less ys pushed = record {
         by (inr g) = (omega arith, ap (slice_index class) (sym g) ∙ is ∙ sym e)
     only j a c (inr (ne, f)) = let o = are.only j a (subst (λ xs. Contains xs a) f c) in let low : a < node = o.0 in (omega arith, o.1)
 
-    rising : (j : ℕ) → ((j ≡ k) × (group_at (set members k ys) j ≡ ys)) ⊎ ((j ≡ k → ⊥) × (group_at (set members k ys) j ≡ group_at members j)) → IsStrictlyIncreasing (group_at (set members k ys) j)
-    rising j (inl (e, f)) = subst IsStrictlyIncreasing (sym (f ∙ pushed)) (increasing_push (group_at members k) node (are.rising k) (λ x c. (are.only k x c).0))
-    rising j (inr (ne, f)) = subst IsStrictlyIncreasing (sym f) (are.rising j)
+    ascending : (j : ℕ) → ((j ≡ k) × (group_at (set members k ys) j ≡ ys)) ⊎ ((j ≡ k → ⊥) × (group_at (set members k ys) j ≡ group_at members j)) → IsStrictlyIncreasing (group_at (set members k ys) j)
+    ascending j (inl (e, f)) = subst IsStrictlyIncreasing (sym (f ∙ pushed)) (increasing_push (group_at members k) node (are.ascending k) (λ x c. (are.only k x c).0))
+    ascending j (inr (ne, f)) = subst IsStrictlyIncreasing (sym f) (are.ascending j)
 
 pub adds_none : (class : List ℕ) (k : ℕ) (old : List ℕ) → AddsOthers class k [] old old
 adds_none class k old = record {

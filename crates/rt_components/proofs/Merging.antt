@@ -4,7 +4,7 @@ use Rattle.std.proofs.lemmas.Bool.{cases_lt}
 use Rattle.rt_components.specs.declared.walk.State.{State}
 use Rattle.rt_components.specs.Graphs.{HasEdge}
 use Rattle.rt_components.specs.Groups.{Reaches}
-use Rattle.rt_components.specs.Walks.{IsNotBefore, IsMet, IsFrontUpTo, IsPath}
+use Rattle.rt_components.specs.Inside.Walks.{IsNotBefore, IsMet, IsFrontUpTo, IsPath}
 use Rattle.rt_components.proofs.Numbers.{cons_here, cons_there, cons_cases}
 use Rattle.rt_components.proofs.Reaching.{reaches_on}
 use Rattle.rt_base.proofs.Lists.{Contains-none}

@@ -7,8 +7,8 @@ use Rattle.rt_components.specs.declared.walk.State.TheVariants.{Unseen, OnPath, 
 use Rattle.rt_components.specs.declared.walk.Walk.{Walk}
 use Rattle.rt_components.specs.Graphs.{HasEdge}
 use Rattle.rt_components.specs.Groups.{AreTogether}
-use Rattle.rt_components.specs.Classes.{AreClasses}
-use Rattle.rt_components.specs.Walks.{state_of, AreWhole, AreInClasses, AreNumbersOf, IsAtRest}
+use Rattle.rt_components.specs.Inside.Classes.{AreClasses}
+use Rattle.rt_components.specs.Inside.Walks.{state_of, AreWhole, AreInClasses, AreNumbersOf, IsAtRest}
 use Rattle.rt_components.proofs.Entering.{unseen_class}
 
 pub class_within : (state : List State) (a g : ℕ) → state_of state a ≡ InClass g → a < length state

@@ -4,7 +4,7 @@ use Rattle.std.proofs.lemmas.Bool.{cases_eq, cases_lt}
 use Rattle.std.proofs.lemmas.List.{get_or-set_same, get_or-set_other, length-set}
 use Rattle.std.proofs.lemmas.List.Elements.{Contains-append_left, Contains-push, Contains-push_cases}
 use Rattle.rt_components.specs.Groups.{group_at}
-use Rattle.rt_components.specs.Orders.{least_of, HasCome, IsToCome, HaveCome, IsWaiting, IsQueueOf}
+use Rattle.rt_components.specs.Inside.Orders.{least_of, HasCome, IsToCome, HaveCome, IsWaiting, IsQueueOf}
 use Rattle.rt_components.proofs.Numbers.{place_in, contains_at, cons_here, cons_there, cons_cases}
 use Rattle.rt_components.proofs.Members.{set_cases}
 

@@ -8,7 +8,7 @@ use Rattle.rt_components.specs.declared.walk.Walk.{Walk}
 use Rattle.rt_components.specs.declared.walk.State.TheVariants.{Unseen}
 use Rattle.rt_components.specs.Graphs.{successors, HasEdge}
 use Rattle.rt_components.specs.Groups.{Reaches}
-use Rattle.rt_components.specs.Walks.{state_of, IsWalk, MayReach, MayStep}
+use Rattle.rt_components.specs.Inside.Walks.{state_of, IsWalk, MayReach, MayStep}
 use Rattle.rt_components.proofs.Numbers.{place_in, contains_at, last_in, last_greatest}
 use Rattle.rt_components.proofs.Reaching.{reaches_edge}
 use Rattle.rt_components.proofs.Entering.{unseen_place}

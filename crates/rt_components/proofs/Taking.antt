@@ -5,7 +5,7 @@ use Rattle.std.proofs.lemmas.List.{get_or-set_same, get_or-set_other, length-set
 use Rattle.std.proofs.lemmas.List.Elements.{Contains-append_left, Contains-push, Contains-push_cases}
 use Rattle.std.proofs.lemmas.List.Sums.{sum_by-set}
 use Rattle.rt_components.specs.Groups.{group_at}
-use Rattle.rt_components.specs.Orders.{least_of, IsBefore, IsFree, AreInOrder, HasCome, IsToCome, HaveCome, IsWaiting, IsQueueOf, left_to_come}
+use Rattle.rt_components.specs.Inside.Orders.{least_of, IsBefore, IsFree, AreInOrder, HasCome, IsToCome, HaveCome, IsWaiting, IsQueueOf, left_to_come}
 use Rattle.rt_components.proofs.Numbers.{place_in, contains_at, cons_here, cons_cases, push_old, push_last}
 use Rattle.rt_components.proofs.Members.{set_cases}
 use Rattle.rt_base.proofs.Numbers.{before_or}

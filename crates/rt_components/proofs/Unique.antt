@@ -6,7 +6,7 @@ use Rattle.std.proofs.lemmas.List.{get_or_past, ext_get_or}
 use Rattle.std.proofs.lemmas.Map.Keys.{sorted_from_strictly_increasing, below_from_sorted}
 use Rattle.rt_components.specs.Groups.{AreTogether, AreGroups, IsAmongFirst, MayCome, group_at}
 use Rattle.rt_components.specs.Groups.Reaches.{there}
-use Rattle.rt_components.specs.Walks.{Rises}
+use Rattle.rt_components.specs.Inside.Walks.{Rises}
 use Rattle.rt_components.proofs.Numbers.{place_in, contains_at, cons_here, cons_there, cons_cases}
 use Rattle.rt_base.proofs.Numbers.{before_or}
 use Rattle.rt_base.proofs.Lists.{Contains-none}
@@ -26,11 +26,11 @@ tail_rises : (x : ℕ) (xs : List ℕ) → Rises (x ∷ xs) → Rises xs
 tail_rises x xs up i j less within = up (suc i) (suc j) (omega arith) (omega arith)
 
 -- lists that rise are one if they contain the same
-same_rising : (xs ys : List ℕ) → Rises xs → Rises ys → ((a : ℕ) → Contains xs a → Contains ys a) → ((a : ℕ) → Contains ys a → Contains xs a) → xs ≡ ys
-same_rising [] [] up up' on back = refl
-same_rising [] (y ∷ ys) up up' on back = absurd (Contains-none y (back y (cons_here y ys)))
-same_rising (x ∷ xs) [] up up' on back = absurd (Contains-none x (on x (cons_here x xs)))
-same_rising (x ∷ xs) (y ∷ ys) up up' on back = by head (λ e. same_rising xs ys (tail_rises x xs up) (tail_rises y ys up') (λ a c. on_tail e a c) (λ a c. back_tail e a c))
+same_ascending : (xs ys : List ℕ) → Rises xs → Rises ys → ((a : ℕ) → Contains xs a → Contains ys a) → ((a : ℕ) → Contains ys a → Contains xs a) → xs ≡ ys
+same_ascending [] [] up up' on back = refl
+same_ascending [] (y ∷ ys) up up' on back = absurd (Contains-none y (back y (cons_here y ys)))
+same_ascending (x ∷ xs) [] up up' on back = absurd (Contains-none x (on x (cons_here x xs)))
+same_ascending (x ∷ xs) (y ∷ ys) up up' on back = by head (λ e. same_ascending xs ys (tail_rises x xs up) (tail_rises y ys up') (λ a c. on_tail e a c) (λ a c. back_tail e a c))
   where
     first : (x ≡ y) ⊎ Contains xs y → (y ≡ x) ⊎ Contains ys x → x ≡ y
     first (inl e) h = e
@@ -78,7 +78,7 @@ module _ (count : ℕ) (Edge : ℕ → ℕ → Type 0) where
 
   same_group : (xs ys : List (List ℕ)) → AreGroups count Edge xs → AreGroups count Edge ys → (i j a : ℕ) → Contains (group_at xs i) a → Contains (group_at ys j) a → group_at xs i ≡ group_at ys j
   same_group xs ys p q i j a c d =
-      same_rising (group_at xs i) (group_at ys j) (rises (group_at xs i) (p.rising i (place_less xs i a c))) (rises (group_at ys j) (q.rising j (place_less ys j a d)))
+      same_ascending (group_at xs i) (group_at ys j) (rises (group_at xs i) (p.ascending i (place_less xs i a c))) (rises (group_at ys j) (q.ascending j (place_less ys j a d)))
       (in_same xs ys p q i j a c d) (in_same ys xs q p j i a d c)
 
   -- the first groups of both are the same

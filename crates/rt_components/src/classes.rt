@@ -1,6 +1,6 @@
 // Classes of nodes: their members, and the classes that edges lead to.
 ghost use Rattle.std.specs.Prelude.{◌≡◌, ◌^◌, ◌<◌, All, IfOk, OnOk, length, map};
-ghost use Rattle.rt_components.specs.Classes.{AddsOthers, AreMembers, AreSuccessors};
+ghost use Rattle.rt_components.specs.Inside.Classes.{AddsOthers, AreMembers, AreSuccessors};
 ghost use Rattle.rt_components.specs.Groups.{group_at};
 
 use crate::Groups;
@@ -17,7 +17,7 @@ pub(crate) struct Classes {
     pub count: usize,
 }
 
-/// The members of each class, rising. The error is want of memory.
+/// The members of each class, ascending. The error is out of memory.
 pub(crate) fn members_of(alloc: Global, classes: &Classes) -> Result<Vec<Sequence<u32>>, Memory>
     requires classes { All (λ k. k < classes.now.count) classes.now.class.items }
     requires nodes { length classes.now.class.items < 2 ^ 32 }
@@ -50,7 +50,7 @@ fn add_successors(
     Ok(())
 }
 
-/// For each class, the other classes that edges of its members lead to. The error is want of memory.
+/// For each class, the other classes that edges of its members lead to. The error is out of memory.
 pub(crate) fn successors_of(
     alloc: Global,
     graph: &Graph,
@@ -69,7 +69,7 @@ pub(crate) fn successors_of(
     Ok(successors)
 }
 
-/// The classes in an order, each by its members. The error is want of memory.
+/// The classes in an order, each by its members. The error is out of memory.
 pub(crate) fn arranged(
     alloc: Global,
     members: &[Sequence<u32>],

@@ -26,7 +26,7 @@ impl Model for Graph {
 }
 
 impl Graph {
-    /// The graph of so many nodes without edges. The error is want of memory.
+    /// The graph of so many nodes without edges. The error is out of memory.
     pub fn new(alloc: Global, count: u32) -> Result<Graph, Memory>
         ensures { IfOk result (λ graph. graph ≡ replicate count []) }
     {
@@ -42,7 +42,7 @@ impl Graph {
         self.successors.len() as u32
     }
 
-    /// Adds an edge from the one node to the other. After want of memory the graph is as it was.
+    /// Adds an edge from the one node to the other. When out of memory, the graph is as it was.
     pub fn add_edge(&mut self, from: u32, to: u32) -> Result<(), Memory>
         requires from { from < length self.old }
         requires to { to < length self.old }
@@ -62,7 +62,7 @@ impl Graph {
     }
 }
 
-/// So many empty lists. The error is want of memory.
+/// So many empty lists. The error is out of memory.
 pub(crate) fn empty_lists<T: Drop>(alloc: Global, count: usize) -> Result<Vec<Sequence<T>>, Memory>
     ensures { IfOk result (λ lists. lists.items ≡ replicate count []) }
 {

@@ -16,7 +16,7 @@ pub use graph::Graph;
 use rt_base::{Memory, Sequence};
 use std::alloc::Global;
 
-/// Groups of nodes, each with its members rising.
+/// Groups of nodes, each with its members ascending.
 pub type Groups = Sequence<Sequence<u32>>;
 
 /// The groups of the nodes of a graph. Two nodes are in one group exactly if they are equal or each reaches the other. A
@@ -24,7 +24,7 @@ pub type Groups = Sequence<Sequence<u32>>;
 /// least member comes first.
 ///
 /// Time is linear in the number of nodes and edges, but for a logarithm for each group, and memory is linear. The error
-/// is want of memory.
+/// is out of memory.
 pub fn groups(alloc: Global, graph: &Graph) -> Result<Groups, Memory>
     ensures { IfOk result (AreGroups (length graph.now) (HasEdge graph.now)) }
 {

@@ -1,7 +1,7 @@
 // The order of classes: each after those that it leads to, and of those that may come next the one with the least member.
 ghost use Rattle.std.specs.Prelude.{◌≡◌, ◌∷◌, ℕ, ◌<◌, ◌≤◌, All, IfOk, List, [], OnOk, length, slice_index};
-ghost use Rattle.rt_components.specs.Orders.{AreAllInOrder, AreLinked, HasCome, IsBegun};
-ghost use Rattle.rt_components.specs.Orders.{IsQueue, IsToCome, MaySettle, MayTake, left_to_come};
+ghost use Rattle.rt_components.specs.Inside.Orders.{AreAllInOrder, AreLinked, HasCome, IsBegun};
+ghost use Rattle.rt_components.specs.Inside.Orders.{IsQueue, IsToCome, MaySettle, MayTake, left_to_come};
 
 use crate::classes::Classes;
 use crate::graph::empty_lists;
@@ -38,7 +38,7 @@ fn first_left(come: &[bool], successors: &[usize], from: usize) -> usize
     next
 }
 
-// The numbers below a count, rising.
+// The numbers below a count, ascending.
 fn all_below(alloc: Global, count: usize) -> Result<Vec<usize>, Memory>
     ensures each { IfOk result (λ all. length all.items ≡ count) }
     ensures same { IfOk result (λ all. (k : ℕ) → k < count → slice_index all.items k ≡ k) }
@@ -126,7 +126,7 @@ impl Queue {
     }
 }
 
-/// The classes in order. The error is want of memory.
+/// The classes in order. The error is out of memory.
 pub(crate) fn order_of(
     alloc: Global,
     classes: &Classes,

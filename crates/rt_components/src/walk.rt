@@ -1,10 +1,10 @@
 // The classes of nodes that reach each other, by one walk along all edges.
 ghost use Rattle.std.specs.Prelude.{◌≡◌, ◌≢◌, ℕ, ◌+◌, ◌^◌, ◌<◌, ◌≤◌, ◌↔◌, List, OnOk, IfOk, IsTrue, Contains, length, slice_index, take};
 ghost use Rattle.rt_components.specs.declared.walk.State.TheVariants.{Unseen};
-ghost use Rattle.rt_components.specs.Classes.{AreClasses};
-ghost use Rattle.rt_components.specs.Walks.{state_of, AllReach, AreInClasses, AreNumbersOf, AreOnPath};
-ghost use Rattle.rt_components.specs.Walks.{IsClosedFrom, IsAtRest, IsFrontUpTo, IsLast, IsMetLast, IsWalk};
-ghost use Rattle.rt_components.specs.Walks.{KeepsSeen, MayEnter, MayLeave, MayReach, MayStep, MayVisit, Rises, work};
+ghost use Rattle.rt_components.specs.Inside.Classes.{AreClasses};
+ghost use Rattle.rt_components.specs.Inside.Walks.{state_of, AllReach, AreInClasses, AreNumbersOf, AreOnPath};
+ghost use Rattle.rt_components.specs.Inside.Walks.{IsClosedFrom, IsAtRest, IsFrontUpTo, IsLast, IsMetLast, IsWalk};
+ghost use Rattle.rt_components.specs.Inside.Walks.{KeepsSeen, MayEnter, MayLeave, MayReach, MayStep, MayVisit, Rises, work};
 
 use crate::classes::Classes;
 use crate::graph::Graph;
@@ -213,7 +213,7 @@ fn numbers(alloc: Global, state: &[State]) -> Result<Vec<usize>, Memory>
 }
 
 /// The classes of nodes that reach each other. An edge leads to a class of the same number or of a lower one. The error
-/// is want of memory.
+/// is out of memory.
 pub(crate) fn classes_of(alloc: Global, graph: &Graph) -> Result<Classes, Memory>
     ensures classes { IfOk result (λ classes. AreClasses graph.now classes.class.items classes.count) }
     ensures numbered { IfOk result (λ classes. length classes.class.items < 2 ^ 32) }

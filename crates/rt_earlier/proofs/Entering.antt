@@ -19,7 +19,7 @@ use Rattle.rt_named.specs.Naming.{prefixes, with_prefixes}
 use Rattle.rt_named.specs.Laws.{IsPrefix, IsGiven}
 use Rattle.rt_named.specs.Origins.{no_variable}
 use Rattle.rt_named.proofs.Contents.{contents_law}
-use Rattle.rt_earlier.specs.Earlier.{AreKept}
+use Rattle.rt_earlier.specs.Inside.Earlier.{AreKept}
 
 insert-keeps : (ks : List Dtv) (k : Dtv) → AreKept ks (insert_key variable_eq ks k)
 insert-keeps ks k n x h = by (list_any (variable_eq k) ks) refl

@@ -14,7 +14,7 @@ use Rattle.rt_lines.specs.Orders.{Below}
 use Rattle.rt_rules.specs.Rules.{Derivable}
 use Rattle.rt_shape.specs.Graphs.{letter_eq}
 use Rattle.rt_shape.proofs.Letters.{letter_equal}
-use Rattle.rt_earlier.specs.Earlier.{AreOne, Leads, AreKept, AreSound, HasMore}
+use Rattle.rt_earlier.specs.Inside.Earlier.{AreOne, Leads, AreKept, AreSound, HasMore}
 use Rattle.rt_earlier.proofs.Reaching.{one_kept, leads_kept}
 
 module _ (order : Below) (lines : List Line) (named : List Dtv) (class : List ℕ) (members : List (List ℕ)) (children : List ((ℕ × Label) × ℕ)) (todo : List (ℕ × ℕ)) (sound : AreSound order lines named class members children todo) where

@@ -10,7 +10,7 @@ use Rattle.rt_lines.specs.declared.line.Line.TheVariants.{Var, Same}
 use Rattle.rt_lines.specs.Orders.{Below}
 use Rattle.rt_rules.specs.Rules.{longer, Derivable}
 use Rattle.rt_rules.specs.Rules.Derivable.{same_letter, same_sub, same_self, same_back, same_chain, same_longer, sub_pointer}
-use Rattle.rt_earlier.specs.Earlier.{Reaches, AreOne, Leads, AreKept}
+use Rattle.rt_earlier.specs.Inside.Earlier.{Reaches, AreOne, Leads, AreKept}
 
 module _ (order : Below) (lines : List Line) (named : List Dtv) where
   pub reach_self : (x : Dtv) (n : ℕ) → slice_get named n ≡ Some x → Derivable order lines (Var x) → Reaches order lines named x n

@@ -1,1 +1,1 @@
-pub mod Earlier
+pub mod Inside

@@ -5,7 +5,7 @@ ghost use Rattle.rt_lines.specs.declared.line.Line.TheVariants.{Same as AreSame,
 ghost use Rattle.rt_lines.specs.declared.variable.Dtv.{Dtv as Variable};
 ghost use Rattle.rt_lines.specs.Orders.{Below};
 ghost use Rattle.rt_rules.specs.Rules.{Derivable};
-ghost use Rattle.rt_earlier.specs.Earlier.{AreKept, AreOne, IsSound, Leads, Reaches, StaysSound};
+ghost use Rattle.rt_earlier.specs.Inside.Earlier.{AreKept, AreOne, IsSound, Leads, Reaches, StaysSound};
 
 use crate::rows::{put, put_label};
 use rt_base::{Memory, Sequence};

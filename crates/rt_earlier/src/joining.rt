@@ -2,7 +2,7 @@
 ghost use Rattle.std.specs.Prelude.{◌≡◌, List, OnOk};
 ghost use Rattle.rt_lines.specs.declared.line.Line.{Line as Given};
 ghost use Rattle.rt_lines.specs.Orders.{Below};
-ghost use Rattle.rt_earlier.specs.Earlier.{AreOne, IsSound, StaysSound};
+ghost use Rattle.rt_earlier.specs.Inside.Earlier.{AreOne, IsSound, StaysSound};
 
 use crate::earlier::Earlier;
 use crate::rows::{count, put, set, take, take_labels};

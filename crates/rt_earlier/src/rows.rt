@@ -1,6 +1,6 @@
 // Rows of items.
 ghost use Rattle.std.specs.Prelude.{◌≡◌, ◌⊎◌, ℕ, [], Contains, OnOk, Some, slice_get, slice_index_or};
-ghost use Rattle.rt_earlier.specs.Earlier.{HasMore};
+ghost use Rattle.rt_earlier.specs.Inside.Earlier.{HasMore};
 
 use rt_base::{Memory, Sequence};
 use rt_lines::Label;

@@ -9,9 +9,9 @@ use rt_base::Memory;
 use rt_lines::Line;
 use std::alloc::Global;
 
-/// For each line whether the lines before it tell it: yes only where they derive it (PLDI 2016, sections 3 and 4). It is meant to say
+/// For each line whether the lines before it give it: yes only where they derive it (PLDI 2016, sections 3 and 4). It is meant to say
 /// yes at each `var` and `same` line that they derive, but no clause promises that: a no costs time alone. At a `<=` line and
-/// at a bound it says no. It takes time nearly linear in the letters of the lines. The error is want of memory.
+/// at a bound it says no. It takes time nearly linear in the letters of the lines. The error is out of memory.
 pub fn told(alloc: Global, lines: &[Line]) -> Result<Vec<bool>, Memory>
     ensures each { IfOk result (λ told. length told.items ≡ length lines.now) }
     ensures derived { IfOk result (λ told. (order : Below) (i : ℕ) (l : Given) →

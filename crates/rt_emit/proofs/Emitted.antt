@@ -9,7 +9,7 @@ use Rattle.rt_lines.specs.Orders.{Below}
 use Rattle.rt_rules.specs.Rules.{HasSide}
 use Rattle.rt_reduction.specs.Emits.{IsOfScheme, AreOfScheme, flow_lines, IsKept, IsWritten, of_base, of_letter, IsShapeLine, AreShapeLines}
 use Rattle.rt_reduction.proofs.Flow.{flow_source}
-use Rattle.rt_emit.specs.Joins.{HasNoOuter}
+use Rattle.rt_emit.specs.Inside.Joins.{HasNoOuter}
 
 module _ (order : Below) (lines : List Line) where
   written_kept : (x : Dtv) → IsWritten order lines x → IsKept order lines x.base

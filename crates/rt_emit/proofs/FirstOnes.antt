@@ -17,9 +17,9 @@ use Rattle.rt_shape.specs.Shapes.{IsShapeOf}
 use Rattle.rt_shape.proofs.Walks.{node_of-longer}
 use Rattle.rt_reduction.specs.Before.{level}
 use Rattle.rt_reduction.specs.Emits.{IsKept, IsOfKept}
-use Rattle.rt_emit.specs.Letters.{letters_at, AreLettersOf}
-use Rattle.rt_emit.specs.Bases.{IsFirstOf, AreKeptBases, AreFirst}
-use Rattle.rt_emit.specs.Writing.{IsNext}
+use Rattle.rt_emit.specs.Inside.Letters.{letters_at, AreLettersOf}
+use Rattle.rt_emit.specs.Inside.Bases.{IsFirstOf, AreKeptBases, AreFirst}
+use Rattle.rt_emit.specs.Inside.Writing.{IsNext}
 use Rattle.rt_base.proofs.Options.{some_of, is_some_of}
 use Rattle.rt_reduction.proofs.Worded.{level_none}
 

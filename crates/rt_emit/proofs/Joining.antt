@@ -24,7 +24,7 @@ use Rattle.rt_shape.specs.Shapes.{IsShapeOf}
 use Rattle.rt_reduction.specs.Emits.{first_side, IsFixed, IsAnchored, Keeps}
 use Rattle.rt_reduction.specs.Emits.Keeps.{ends, stays, goes}
 use Rattle.rt_reduction.proofs.Anchoring.{first_is_side}
-use Rattle.rt_emit.specs.Joins.{ground, ground_links, links_of, links, HasNoOuter, IsGrounded, IsKeptOrLeft}
+use Rattle.rt_emit.specs.Inside.Joins.{ground, ground_links, links_of, links, HasNoOuter, IsGrounded, IsKeptOrLeft}
 use Rattle.rt_base.proofs.Options.{some_of}
 
 not_empty : (w : List Label) (l : Label) → w ++ l ∷ [] ≡ [] → ⊥

@@ -20,7 +20,7 @@ use Rattle.rt_rules.specs.Put.{HasUse}
 use Rattle.rt_rules.proofs.LineSides.{Contains-sides, HasSide-in_sides}
 use Rattle.rt_reduction.specs.Emits.{flow_lines, AreOfScheme, IsKept}
 use Rattle.rt_reduction.proofs.Flow.{kept_side}
-use Rattle.rt_emit.specs.Bases.{existential_base, fixed_base, existential_bases, fixed_bases, AreKeptBases}
+use Rattle.rt_emit.specs.Inside.Bases.{existential_base, fixed_base, existential_bases, fixed_bases, AreKeptBases}
 
 -- the bases of the lines' sides, so far as they are picked
 abbrev picked : (Base → List Base) → List Line → List Base

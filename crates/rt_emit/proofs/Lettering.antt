@@ -23,7 +23,7 @@ use Rattle.rt_shape.specs.Graphs.{Graph, letter_eq, base_of, step_of, walk, node
 use Rattle.rt_shape.specs.Shapes.{IsShapeOf, Equates}
 use Rattle.rt_shape.proofs.Models.{HaveOne, IsModel, holds}
 use Rattle.rt_shape.proofs.Walks.{node_of-longer, node_of-back, one_node}
-use Rattle.rt_emit.specs.Letters.{letters_at, with_edges, AddsLetter, AreAfter, AreEdges, AreKept, AreLettersOf, Enters, IsReached}
+use Rattle.rt_emit.specs.Inside.Letters.{letters_at, with_edges, AddsLetter, AreAfter, AreEdges, AreKept, AreLettersOf, Enters, IsReached}
 use Rattle.rt_base.proofs.Options.{some_of, is_some_of}
 
 abbrev Edges : Type 0

@@ -1,4 +1,4 @@
-pub mod Rising
+pub mod Ascending
 pub mod Longer
 pub mod Wordings
 pub mod Turning

@@ -13,7 +13,7 @@ use Rattle.rt_lines.specs.declared.variable.Dtv.{Dtv}
 use Rattle.rt_reduction.specs.Before.{variable_key, comes_before}
 use Rattle.rt_reduction.proofs.Before.{one_first, not_before_self, one_variable_key}
 use Rattle.rt_emit.specs.Keys.{numbers}
-use Rattle.rt_emit.specs.Queues.{AreKeyed, IsPopped}
+use Rattle.rt_emit.specs.Inside.Queues.{AreKeyed, IsPopped}
 
 abbrev Key : Type 0
 Key = Vec (Vec ℕ)

@@ -21,12 +21,12 @@ use Rattle.rt_shape.proofs.Walks.{node_of-longer}
 use Rattle.rt_reduction.specs.Before.{comes_before}
 use Rattle.rt_reduction.specs.Emits.{IsOfKept, IsWord, IsWritten, of_letter, IsShapeLine, first_side, AreShapeLines}
 use Rattle.rt_reduction.proofs.Before.{before_chain}
-use Rattle.rt_emit.specs.Bases.{AreFirst}
-use Rattle.rt_emit.specs.Letters.{letters_at, AreLettersOf, IsReached}
-use Rattle.rt_emit.specs.Queues.{IsPopped}
-use Rattle.rt_emit.specs.Writing.{IsNext, line_by, IsTurn}
-use Rattle.rt_emit.specs.Writing.IsTurn.{repeats, begins}
-use Rattle.rt_emit.proofs.Rising.{Rises, rises_behind}
+use Rattle.rt_emit.specs.Inside.Bases.{AreFirst}
+use Rattle.rt_emit.specs.Inside.Letters.{letters_at, AreLettersOf, IsReached}
+use Rattle.rt_emit.specs.Inside.Queues.{IsPopped}
+use Rattle.rt_emit.specs.Inside.Writing.{IsNext, line_by, IsTurn}
+use Rattle.rt_emit.specs.Inside.Writing.IsTurn.{repeats, begins}
+use Rattle.rt_emit.proofs.Ascending.{Rises, rises_behind}
 use Rattle.rt_emit.proofs.Longer.{longer_after}
 use Rattle.rt_emit.proofs.Wordings.{IsBefore, Said, IsWriting, first_line_by, first_word, of_written, node_there, there_of, one_shape}
 use Rattle.rt_emit.proofs.Wordings.{is_some_of, are_shape_lines, begun}

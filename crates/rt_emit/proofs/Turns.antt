@@ -15,8 +15,8 @@ use Rattle.rt_lines.specs.declared.variable.Dtv.{Dtv}
 use Rattle.std.proofs.lemmas.List.Elements.{Contains-append_cases, Contains-append_left, Contains-append_right}
 use Rattle.rt_base.proofs.Lists.{Contains-none, Contains-here, Contains-cons_cases}
 use Rattle.rt_rules.specs.Rules.{longer}
-use Rattle.rt_emit.specs.Letters.{letters_at}
-use Rattle.rt_emit.specs.Writing.{total, IsNext}
+use Rattle.rt_emit.specs.Inside.Letters.{letters_at}
+use Rattle.rt_emit.specs.Inside.Writing.{total, IsNext}
 
 same_test : (n m : ℕ) → is_eq (nat_cmp n m) ≡ nat_eq n m
 same_test n m = by (nat_cmp n m) (ranked n m (nat_cmp n m) refl) (eqb_tells n m)

@@ -21,11 +21,11 @@ use Rattle.rt_shape.proofs.Walks.Walks.{at_base, at_letter}
 use Rattle.rt_reduction.specs.Before.{level, comes_before}
 use Rattle.rt_reduction.specs.Emits.{IsKept, IsOfKept, IsWord, IsWritten, of_base, of_letter, IsShapeLine, first_side, AreShapeLines}
 use Rattle.rt_reduction.proofs.Before.{one_first, not_before_self, before_chain}
-use Rattle.rt_emit.specs.Letters.{letters_at, AreLettersOf, IsReached as ReachedNode}
-use Rattle.rt_emit.specs.Bases.{AreFirst}
-use Rattle.rt_emit.specs.Writing.{line_by}
-use Rattle.rt_emit.proofs.Rising.{Rises, less_next}
-use Rattle.rt_emit.proofs.Rising.Rises.{none}
+use Rattle.rt_emit.specs.Inside.Letters.{letters_at, AreLettersOf, IsReached as ReachedNode}
+use Rattle.rt_emit.specs.Inside.Bases.{AreFirst}
+use Rattle.rt_emit.specs.Inside.Writing.{line_by}
+use Rattle.rt_emit.proofs.Ascending.{Rises, less_next}
+use Rattle.rt_emit.proofs.Ascending.Rises.{none}
 use Rattle.rt_emit.proofs.Longer.{IsLettered, longer_after, before-longer}
 use Rattle.rt_base.proofs.Options.{some_of}
 use Rattle.rt_reduction.proofs.Worded.{not_empty, level_none}

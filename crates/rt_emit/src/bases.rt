@@ -5,8 +5,8 @@ ghost use Rattle.rt_lines.specs.Equality.{base_eq};
 ghost use Rattle.rt_lines.specs.declared.variable.Dtv.{Dtv};
 ghost use Rattle.rt_shape.specs.Shapes.{IsShapeOf};
 ghost use Rattle.rt_reduction.specs.Emits.{flow_lines, AreOfScheme};
-ghost use Rattle.rt_emit.specs.Bases.{existential_base, existential_bases, fixed_base, fixed_bases, AreFirst, AreKeptBases, IsFirstOf};
-ghost use Rattle.rt_emit.specs.Letters.{AreLettersOf};
+ghost use Rattle.rt_emit.specs.Inside.Bases.{existential_base, existential_bases, fixed_base, fixed_bases, AreFirst, AreKeptBases, IsFirstOf};
+ghost use Rattle.rt_emit.specs.Inside.Letters.{AreLettersOf};
 
 use crate::letters::Letters;
 use crate::queue::Queue;

@@ -6,7 +6,7 @@ ghost use Rattle.rt_lines.specs.declared.line.Line.TheVariants.{Same};
 ghost use Rattle.rt_shape.specs.Graphs.{bare};
 ghost use Rattle.rt_shape.specs.Shapes.{IsShapeOf};
 ghost use Rattle.rt_reduction.specs.Emits.{first_side, AreJoined};
-ghost use Rattle.rt_emit.specs.Joins.{ground_links, links, links_of, HasNoOuter, IsGrounded, IsKeptOrLeft};
+ghost use Rattle.rt_emit.specs.Inside.Joins.{ground_links, links, links_of, HasNoOuter, IsGrounded, IsKeptOrLeft};
 
 use rt_base::Memory;
 use rt_lines::{Base, Dtv, Line, Word};

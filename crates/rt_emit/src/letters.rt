@@ -7,7 +7,7 @@ ghost use Rattle.rt_lines.specs.Words.{IsLabel};
 ghost use Rattle.rt_rules.specs.Rules.{HasSide};
 ghost use Rattle.rt_shape.specs.Graphs.{letter_eq, step_of, Has};
 ghost use Rattle.rt_shape.specs.Shapes.{IsShapeOf};
-ghost use Rattle.rt_emit.specs.Letters.{letters_at, with_edges, AddsLetter, AreAfter, AreEdges, AreKept, AreLettersOf, Enters};
+ghost use Rattle.rt_emit.specs.Inside.Letters.{letters_at, with_edges, AddsLetter, AreAfter, AreEdges, AreKept, AreLettersOf, Enters};
 
 use indexmap::IndexMap;
 use rt_base::Memory;

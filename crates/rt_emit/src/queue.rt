@@ -1,7 +1,7 @@
 // A queue of variables, of which the first comes out first.
 ghost use Rattle.std.specs.Prelude.{◌≡◌, ◌↔◌, ◌⊎◌, ◌+◌, ◌≤◌, [], length, Contains, OnOk, MatchOption};
 ghost use Rattle.rt_lines.specs.declared.variable.Dtv.{Dtv};
-ghost use Rattle.rt_emit.specs.Queues.{IsPopped};
+ghost use Rattle.rt_emit.specs.Inside.Queues.{IsPopped};
 
 use crate::key::{Key, key_of};
 use rt_base::Memory;
@@ -21,7 +21,7 @@ impl Model for Queue {
     ghost use Rattle.std.specs.Prelude.{List};
     ghost use Rattle.std.specs.BTreeMap.{values};
     ghost use Rattle.rt_lines.specs.declared.variable.Dtv.{Dtv as Variable};
-    ghost use Rattle.rt_emit.specs.Queues.{AreKeyed};
+    ghost use Rattle.rt_emit.specs.Inside.Queues.{AreKeyed};
 
     ghost Value = { List Variable };
 

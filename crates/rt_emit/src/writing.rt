@@ -8,9 +8,9 @@ ghost use Rattle.rt_rules.specs.Rules.{longer};
 ghost use Rattle.rt_shape.specs.Graphs.{Has};
 ghost use Rattle.rt_shape.specs.Shapes.{IsShapeOf};
 ghost use Rattle.rt_reduction.specs.Emits.{flow_lines, AreOfScheme, AreShapeLines};
-ghost use Rattle.rt_emit.specs.Bases.{AreFirst};
-ghost use Rattle.rt_emit.specs.Letters.{letters_at, AreLettersOf};
-ghost use Rattle.rt_emit.specs.Writing.{line_by, total, IsNext, IsTurn};
+ghost use Rattle.rt_emit.specs.Inside.Bases.{AreFirst};
+ghost use Rattle.rt_emit.specs.Inside.Letters.{letters_at, AreLettersOf};
+ghost use Rattle.rt_emit.specs.Inside.Writing.{line_by, total, IsNext, IsTurn};
 
 use crate::bases::{first_variables, kept_bases, listed};
 use crate::letters::{Letters, letters_of};

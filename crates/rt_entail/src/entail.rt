@@ -26,7 +26,7 @@ fn read_judgement(alloc: Global, judgement: &[u8], names: &Names) -> Result<Judg
 }
 
 /// Whether the judgement is derivable from the lines of the text, with the order of the names' numbers. The first of these
-/// that holds is the error; want of memory may come in its place.
+/// that holds is the error; out of memory may come in its place.
 ///
 /// - The text has a bad line: each line has a line end, and its constant is one of the names.
 /// - The judgement is none: it is of the form `var X`, `X <= Y`, `K <= X` or `X <= K`, with a constant K of the names.

@@ -1,4 +1,4 @@
-// Whether numbers from outside and from inside tell the same of existentials.
+// Whether numbers from outside and from inside say the same of existentials.
 ghost use Rattle.std.specs.Prelude.{◌≡◌, ℕ, ◌<◌, IsTrue, IfOk, length, slice_index_or};
 ghost use Rattle.rt_equals.specs.Comparing.{Agree, AreAsMarked, AreMarked, IsExistential};
 

@@ -35,7 +35,7 @@ impl Model for Comparison {
 }
 
 impl Comparison {
-    /// The lines, with the variables that they name. The error is want of memory.
+    /// The lines, with the variables that they name. The error is out of memory.
     pub fn of(alloc: Global, lines: &[Line]) -> Result<Comparison, Memory>
         ensures { IfOk result (λ made. made ≡ record { lines = lines.now; named = named_by lines.now [] }) }
     {
@@ -52,7 +52,7 @@ impl Comparison {
     }
 
     /// A number for each variable; another one has that of an existential exactly where each of the two lies below the
-    /// other by the lines. The error is want of memory.
+    /// other by the lines. The error is out of memory.
     pub fn equals(&self, alloc: Global) -> Result<Vec<usize>, Memory>
         ensures { IfOk result (λ numbers. AreEquals self.now.lines self.now.named numbers.items) }
     {
@@ -66,7 +66,7 @@ impl Comparison {
     }
 }
 
-// Such numbers, where arcs from outside and from inside tell the same of existentials.
+// Such numbers, where arcs from outside and from inside say the same of existentials.
 fn outlined(alloc: Global, named: &Named, lines: &[Line]) -> Result<Option<Vec<usize>>, Memory>
     requires { named.now ≡ named_by lines.now [] }
     ensures { IfOk result (λ found. IfSome found (λ numbers. AreEquals lines.now named.now numbers.items)) }
@@ -87,7 +87,7 @@ fn outer_classes(alloc: Global, lines: &[Line]) -> Result<Classes, Memory>
     Ok(classes)
 }
 
-// Whether arcs from inside tell the same of existentials as classes from outside.
+// Whether arcs from inside say the same of existentials as classes from outside.
 fn are_exact(alloc: Global, named: &Named, lines: &[Line], outer: &Classes) -> Result<bool, Memory>
     requires named { named.now ≡ named_by lines.now [] }
     requires outer { AreOuterEquals lines.now named.now outer.now.count outer.now.numbers.items }

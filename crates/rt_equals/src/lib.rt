@@ -1,4 +1,4 @@
-//! Which variables of lines equal an existential: each lies below the other. Arcs without counts tell, where those from
+//! Which variables of lines equal an existential: each lies below the other. Arcs without counts say, where those from
 //! inside and from outside agree, else an exact saturation.
 #![tactic(auto)]
 

@@ -10,7 +10,7 @@ use Rattle.rt_tree.proofs.Comparing.{not_less_itself}
 use Rattle.rt_tree.proofs.Edges.{each_weaker}
 use Rattle.rt_erase.specs.declared.row.Row.{Row}
 use Rattle.rt_erase.specs.Rows.{comes_before, label_of, row_of, sorted_with, with_row}
-use Rattle.rt_erase.specs.Sorting.{AreOthers}
+use Rattle.rt_erase.specs.Inside.Sorting.{AreOthers}
 
 -- what is true of each row is true of each with one more
 pub each_with : (P : Row → Type 0) (rows : List Row) (row : Row) → AllByRecursion P rows → P row → AllByRecursion P (with_row rows row)

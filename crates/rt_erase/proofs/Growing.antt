@@ -11,7 +11,7 @@ use Rattle.rt_erase.specs.declared.row.Row.{Row}
 use Rattle.rt_erase.specs.declared.extremes.Extremes.{Extremes}
 use Rattle.rt_erase.specs.Rows.{fields_of, label_of, row_at}
 use Rattle.rt_erase.specs.Erasures.{erased_step, rows_step, target_of}
-use Rattle.rt_erase.specs.Erasing.{IsErasing, KeepsBelow}
+use Rattle.rt_erase.specs.Inside.Erasing.{IsErasing, KeepsBelow}
 use Rattle.rt_erase.proofs.Edging.{same_step, joined_at, joined_marks, joined_other}
 use Rattle.rt_base.proofs.Numbers.{before_or}
 use Rattle.rt_lines.proofs.Same.{label_self}

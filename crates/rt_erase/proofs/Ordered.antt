@@ -9,7 +9,7 @@ use Rattle.std.proofs.lemmas.Cmp.{ranked}
 use Rattle.rt_lines.specs.declared.label.Label.TheVariants.{Field}
 use Rattle.rt_erase.specs.declared.row.Row.{Row}
 use Rattle.rt_erase.specs.Rows.{comes_before, label_of, with_row}
-use Rattle.rt_erase.specs.Sorting.{Entry, row_in, rows_in, AreOthers}
+use Rattle.rt_erase.specs.Inside.Sorting.{Entry, row_in, rows_in, AreOthers}
 use Rattle.rt_base.proofs.Numbers.{nat_cmp-equal, then-equal}
 
 -- how two keys compare

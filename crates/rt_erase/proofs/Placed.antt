@@ -16,7 +16,7 @@ use Rattle.rt_tree.specs.Labels.{label_cmp}
 use Rattle.rt_tree.specs.Trees.{AreOrdered}
 use Rattle.rt_tree.proofs.Comparing.{compared, not_less_itself}
 use Rattle.rt_tree.proofs.Edges.{each_at}
-use Rattle.rt_erase.specs.Places.{end_of, is_argument}
+use Rattle.rt_erase.specs.Inside.Places.{end_of, is_argument}
 
 not_greater : (o : Ordering) → o ≡ Greater → o ≡ Less → ⊥
 not_greater o e f = cc

@@ -1,5 +1,3 @@
 pub mod Rows
-pub mod Sorting
-pub mod Places
 pub mod Erasures
-pub mod Erasing
+pub mod Inside

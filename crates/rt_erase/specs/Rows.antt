@@ -17,7 +17,7 @@ row_of other = []
 abbrev pub label_of : Row → Label
 label_of row = Field row.bits (pos row.offset)
 
--- by offset rising, and at one offset by width falling
+-- by offset ascending, and at one offset by width falling
 abbrev pub comes_before : Row → Row → Bool
 comes_before a b = nat_lt a.offset b.offset || (a.offset == b.offset && nat_lt b.bits a.bits)
 

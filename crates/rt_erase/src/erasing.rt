@@ -3,7 +3,7 @@ ghost use Rattle.std.specs.Prelude.{◌≡◌, ◌+◌, ◌<◌, ◌≤◌, ◌^
 ghost use Rattle.rt_tree.specs.Trees.{joined, step_of};
 ghost use Rattle.rt_erase.specs.Rows.{IsRow, label_of};
 ghost use Rattle.rt_erase.specs.Erasures.{AreExtremes, HasErased, HasGrown, HasNames, HasNamesAt, target_of};
-ghost use Rattle.rt_erase.specs.Erasing.{HasLeaves, HasRoom, IsErasing, KeepsBelow};
+ghost use Rattle.rt_erase.specs.Inside.Erasing.{HasLeaves, HasRoom, IsErasing, KeepsBelow};
 
 use crate::extremes::Extremes;
 use crate::row::{Row, fields, pointee, scalar};
@@ -13,7 +13,7 @@ use rt_tree::{Graph, Tree};
 use std::alloc::Global;
 
 /// The graph of so many names alone: a node for each, with its number for its lower mark and 1 for its upper one. The
-/// error is want of memory.
+/// error is out of memory.
 pub(crate) fn names(alloc: Global, count: u16) -> Result<Graph, Memory>
     ensures { IfOk result (λ graph. HasNames count graph) }
 {
@@ -98,7 +98,7 @@ fn add_fields(
 }
 
 /// Adds what the pointers of a tree lead to; the result is the number of the node that stands for the tree's root, and
-/// the others follow. The error is want of memory, or of numbers of 32 bits.
+/// the others follow. The error is out of memory, or of numbers of 32 bits.
 pub(crate) fn add_tree(
     alloc: Global,
     graph: &mut Graph,

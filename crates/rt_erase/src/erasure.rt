@@ -29,7 +29,7 @@ impl Model for Erasure {
 }
 
 impl Erasure {
-    /// The graph of the names alone. The error is want of memory.
+    /// The graph of the names alone. The error is out of memory.
     pub fn new(alloc: Global, extremes: Extremes) -> Result<Erasure, Memory>
         requires { AreExtremes extremes }
         ensures { IfOk result (λ erasure. erasure.extremes ≡ extremes) }
@@ -39,7 +39,7 @@ impl Erasure {
     }
 
     /// Adds what the pointers of a tree lead to; the result is the number of the node that stands for the tree's root,
-    /// and the others follow. The error is want of memory, or of numbers of 32 bits.
+    /// and the others follow. The error is out of memory, or of numbers of 32 bits.
     pub fn add(&mut self, alloc: Global, tree: &Tree) -> Result<u32, Memory>
         requires { HasNamesAt self.old.extremes.count tree.now }
         ensures extremes { OnOk result (self.new.extremes ≡ self.old.extremes) }
@@ -69,7 +69,7 @@ impl Erasure {
     }
 
     /// Classes of the nodes: those of one class have equal trees of fields behind them, down to the names of scalars.
-    /// The error is want of memory.
+    /// The error is out of memory.
     pub fn classes(&self, alloc: Global) -> Result<Partition, Memory>
         ensures classes { IfOk result (λ partition. AreClassesOf self.now.graph partition) }
         ensures names { HasNames self.now.extremes.count self.now.graph }

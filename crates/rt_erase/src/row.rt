@@ -5,7 +5,7 @@ ghost use Rattle.std.specs.Map.{lookup};
 ghost use Rattle.rt_lines.specs.Equality.{label_eq};
 ghost use Rattle.rt_lines.specs.Words.{IsLabel};
 ghost use Rattle.rt_tree.specs.Trees.{AreOrdered, node_at};
-ghost use Rattle.rt_erase.specs.Places.{end_of, is_argument};
+ghost use Rattle.rt_erase.specs.Inside.Places.{end_of, is_argument};
 ghost use Rattle.rt_erase.specs.Rows.{AreApart, IsRow, fields_of, pointee_of, scalar_number};
 
 use crate::extremes::Extremes;
@@ -27,7 +27,7 @@ pub struct Row {
 }
 
 /// The fields of what a pointer to a node leads to: by offset, at one offset the widest alone, and none that overlaps
-/// one before it or begins before the start. The error is want of memory.
+/// one before it or begins before the start. The error is out of memory.
 pub fn fields(alloc: Global, tree: &Tree, node: u32) -> Result<Vec<Row>, Memory>
     requires { node < length tree.now }
     ensures rows { IfOk result (λ rows. rows.items ≡ fields_of (node_at tree.now node)) }

@@ -3,7 +3,7 @@ ghost use Rattle.std.specs.Prelude.{◌≡◌, ◌∷◌, [], IfOk, MatchOption,
 ghost use Rattle.std.specs.List.{flat_map};
 ghost use Rattle.rt_tree.specs.Trees.{AreOrdered};
 ghost use Rattle.rt_erase.specs.Rows.{kept_from, label_of, row_of, sorted_with, with_row};
-ghost use Rattle.rt_erase.specs.Sorting.{AreOthers};
+ghost use Rattle.rt_erase.specs.Inside.Sorting.{AreOthers};
 
 use crate::row::Row;
 use rt_base::Memory;
@@ -23,7 +23,7 @@ pub(crate) struct Sorted {
 impl Model for Sorted {
     ghost use Rattle.std.specs.Prelude.{List};
     ghost use Rattle.rt_erase.specs.declared.row.Row.{Row as Field};
-    ghost use Rattle.rt_erase.specs.Sorting.{rows_in};
+    ghost use Rattle.rt_erase.specs.Inside.Sorting.{rows_in};
 
     ghost Value = { List Field };
 
@@ -73,7 +73,7 @@ impl Sorted {
     }
 }
 
-/// The fields of edges in order; there is none before the start. The error is want of memory.
+/// The fields of edges in order; there is none before the start. The error is out of memory.
 pub(crate) fn sort(alloc: Global, edges: &[(Label, u32)]) -> Result<Sorted, Memory>
     requires { AreOrdered edges.now }
     ensures { IfOk result (λ sorted. sorted ≡ sorted_with [] (flat_map row_of edges.now)) }
@@ -85,7 +85,7 @@ pub(crate) fn sort(alloc: Global, edges: &[(Label, u32)]) -> Result<Sorted, Memo
     Ok(sorted)
 }
 
-/// The fields that begin where the last one kept ends, or later. The error is want of memory.
+/// The fields that begin where the last one kept ends, or later. The error is out of memory.
 pub(crate) fn keep(alloc: Global, mut sorted: Sorted) -> Result<Vec<Row>, Memory>
     ensures { IfOk result (λ rows. rows.items ≡ kept_from 0 sorted) }
 {

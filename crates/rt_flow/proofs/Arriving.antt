@@ -7,7 +7,7 @@ use Rattle.rt_flow.specs.declared.def.Def.{Def}
 use Rattle.rt_flow.specs.declared.def.Def.TheVariants.{Entry, At}
 use Rattle.rt_flow.specs.Bodies.{Precedes}
 use Rattle.rt_flow.specs.Blocks.{Run, Arrives}
-use Rattle.rt_flow.specs.Spreading.{AreRising, AreRows, Spreads}
+use Rattle.rt_flow.specs.Inside.Spreading.{AreAscending, AreRows, Spreads}
 use Rattle.rt_flow.proofs.Targeting.{nothing_replicated, replicated_none}
 
 module _ (targets : List (List ℕ)) (lasts : List (Option ℕ)) (entry : ℕ) where
@@ -48,7 +48,7 @@ module _ (targets : List (List ℕ)) (lasts : List (Option ℕ)) (entry : ℕ) w
       back b y (inl f, arrives) = (spreads.cases b y).1 (inr (f, subst (λ z. Arrives targets lasts entry z b) f arrives))
       back b y (inr (a, d, less, f, g), arrives) = absurd (omega arith)
 
-  module _ (rising : AreRising lasts) (i : ℕ) (rows : List (List Def)) (is : IsDone i rows) where
+  module _ (ascending : AreAscending lasts) (i : ℕ) (rows : List (List Def)) (is : IsDone i rows) where
     -- a block without a definition
     pub none : slice_index_or lasts i None ≡ None → IsDone (i + 1) rows
     none here = record {
@@ -75,14 +75,14 @@ module _ (targets : List (List ℕ)) (lasts : List (Option ℕ)) (entry : ℕ) w
         where
           by : IsBefore i y → Precedes y (At d)
           by (inl e) = subst (λ z. Precedes z (At d)) (sym e) tt
-          by (inr (a, k, less, e, f)) = subst (λ z. Precedes z (At d)) (sym f) (rising a i k d less e here)
+          by (inr (a, k, less, e, f)) = subst (λ z. Precedes z (At d)) (sym f) (ascending a i k d less e here)
 
       one_block : (a : ℕ) → slice_index_or lasts a None ≡ Some d → a ≡ i
       one_block a e = by (cases_lt a i) (cases_lt i a)
         where
           by : (a < i) ⊎ (i ≤ a) → (i < a) ⊎ (a ≤ i) → a ≡ i
-          by (inl less) g = let no : d < d = rising a i d d less e here in absurd (omega arith)
-          by (inr h) (inl less) = let no : d < d = rising i a d d less here e in absurd (omega arith)
+          by (inl less) g = let no : d < d = ascending a i d d less e here in absurd (omega arith)
+          by (inr h) (inl less) = let no : d < d = ascending i a d d less here e in absurd (omega arith)
           by (inr h) (inr g) = omega arith
 
       same_site : (k : ℕ) → Some k ≡ Some d → k ≡ d

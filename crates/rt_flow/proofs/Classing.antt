@@ -18,13 +18,13 @@ pub record IsClassing (body : Body) (i : ℕ) (known : List (ℤ × ℕ)) (none 
   pub none_is : slice_index_or classes none [] ≡ []
   pub sound : (l : ℤ) (c : ℕ) → lookup (int_eq l) known ≡ Some c → (c < length classes) × AreSitesOf body l (slice_index_or classes c [])
   pub all : (k : ℕ) (l : ℤ) → Contains (take i body.defs) (k, l) → IsSome (lookup (int_eq l) known)
-  pub rising : All IsStrictlyIncreasing classes
+  pub ascending : All IsStrictlyIncreasing classes
 
 none_some : {X A : Type 0} (x : X) → None ≡ Some x → A
 none_some x e = absurd cc
 
-nil_rising : IsStrictlyIncreasing []
-nil_rising k less = absurd (omega arith)
+nil_ascending : IsStrictlyIncreasing []
+nil_ascending k less = absurd (omega arith)
 
 module _ (body : Body) where
   -- the class of no sites
@@ -34,12 +34,12 @@ module _ (body : Body) where
     none_is = is;
     sound = λ l c e. none_some c (sym (ap (lookup (int_eq l)) empty) ∙ e);
     all = λ k l c. nothing_in (k, l) c;
-    rising = rising added;
+    ascending = ascending added;
   }
     where
-      rising : ([] ≡ classes) ⊎ (classes ≡ [] ++ [] ∷ []) → All IsStrictlyIncreasing classes
-      rising (inl e) = subst (All IsStrictlyIncreasing) e (λ k d less. absurd (omega arith))
-      rising (inr e) = all_more [] classes [] IsStrictlyIncreasing (inr e) (λ k d less. absurd (omega arith)) nil_rising
+      ascending : ([] ≡ classes) ⊎ (classes ≡ [] ++ [] ∷ []) → All IsStrictlyIncreasing classes
+      ascending (inl e) = subst (All IsStrictlyIncreasing) e (λ k d less. absurd (omega arith))
+      ascending (inr e) = all_more [] classes [] IsStrictlyIncreasing (inr e) (λ k d less. absurd (omega arith)) nil_ascending
 
   module _ (i : ℕ) (known : List (ℤ × ℕ)) (none : ℕ) (classes : List (List ℕ)) (is : IsClassing body i known none classes)
       (items : List (ℕ × ℤ)) (same : items ≡ body.defs) (less : i < length items) (default : ℕ × ℤ) where
@@ -70,7 +70,7 @@ module _ (body : Body) where
       none_is = is.none_is;
       sound = is.sound;
       all = all_of known (λ l h. h) (subst (λ z. IsSome (lookup (int_eq z) known)) e some);
-      rising = is.rising;
+      ascending = is.ascending;
     }
 
     module _ (groups : List (ℤ × List ℕ)) (grouped : (l : ℤ) (k : ℕ) → Contains (sites_at groups l) k ↔ Defines body k l) where
@@ -87,7 +87,7 @@ module _ (body : Body) where
 
         list_of : AreSitesOf body def.1 list
         list_of = record {
-          rising = rises;
+          ascending = rises;
           defining = λ k. (
             λ c. (grouped def.1 k).0 (subst (λ xs. Contains xs k) (sym sites_is) ((one k).0 c)),
             λ d. (one k).1 (subst (λ xs. Contains xs k) sites_is ((grouped def.1 k).1 d)),
@@ -126,7 +126,7 @@ module _ (body : Body) where
           none_is = kept classes classes' list added none is.none_in ∙ is.none_is;
           sound = sound;
           all = all_of known' some_old (subst IsSome (sym here) refl);
-          rising = all_more classes classes' list IsStrictlyIncreasing added is.rising rises;
+          ascending = all_more classes classes' list IsStrictlyIncreasing added is.ascending rises;
         }
 
   -- each location has its class
@@ -141,4 +141,4 @@ module _ (body : Body) where
 
       by : (l : ℤ) (o : Option ℕ) → lookup (int_eq l) known ≡ o → (unwrap_or o none < length classes) × AreSitesOf body l (slice_index_or classes (unwrap_or o none) [])
       by l (Some c) e = is.sound l c e
-      by l None e = (is.none_in, subst (AreSitesOf body l) (sym is.none_is) record { rising = nil_rising; defining = λ k. (λ c. nothing_in k c, undefined l e k) })
+      by l None e = (is.none_in, subst (AreSitesOf body l) (sym is.none_is) record { ascending = nil_ascending; defining = λ k. (λ c. nothing_in k c, undefined l e k) })

@@ -6,7 +6,7 @@ use Rattle.std.proofs.lemmas.List.{get_or_default}
 use Rattle.rt_flow.specs.declared.def.Def.{Def}
 use Rattle.rt_flow.specs.declared.def.Def.TheVariants.{Entry, At}
 use Rattle.rt_flow.specs.Bodies.{Precedes}
-use Rattle.rt_flow.specs.Spreading.{def_eq, has_def}
+use Rattle.rt_flow.specs.Inside.Spreading.{def_eq, has_def}
 
 pub def_equal : (x y : Def) → def_eq x y ≡ true → x ≡ y
 def_equal Entry Entry e = refl

@@ -13,7 +13,7 @@ pub record IsDividing (body : Body) (i count : ℕ) (block firsts : List ℕ) : 
   pub all : length firsts ≡ count
   pub few : count ≤ i
   pub some : 0 < i → 0 < count
-  pub rising : (b : ℕ) → b + 1 < count → slice_index firsts b ≤ slice_index firsts (b + 1)
+  pub ascending : (b : ℕ) → b + 1 < count → slice_index firsts b ≤ slice_index firsts (b + 1)
   pub below : (b : ℕ) → b < count → slice_index firsts b < i
   pub within : (s : ℕ) → s < i → slice_index block s < count
   pub top : (s : ℕ) → s + 1 ≡ i → slice_index block s + 1 ≡ count
@@ -34,7 +34,7 @@ module _ (body : Body) where
     all = refl;
     few = omega arith;
     some = λ h. absurd (omega arith);
-    rising = λ b h. absurd (omega arith);
+    ascending = λ b h. absurd (omega arith);
     below = λ b h. absurd (omega arith);
     within = λ s h. absurd (omega arith);
     top = λ s e. absurd (omega arith);
@@ -79,7 +79,7 @@ module _ (body : Body) where
       all = length_push firsts i ∙ ap (λ n. n + 1) is.all;
       few = omega (arith, is.few);
       some = λ h. omega arith;
-      rising = rising;
+      ascending = ascending;
       below = below;
       within = within;
       top = λ s e. let here : s ≡ i = omega arith in subst (λ s. slice_index (block ++ count ∷ []) s + 1 ≡ count + 1) (sym here) (ap (λ n. n + 1) (block_here count));
@@ -87,11 +87,11 @@ module _ (body : Body) where
       last = last;
     }
       where
-        rising : (b : ℕ) → b + 1 < count + 1 → slice_index (firsts ++ i ∷ []) b ≤ slice_index (firsts ++ i ∷ []) (b + 1)
-        rising b less = by (before_or count (b + 1) less)
+        ascending : (b : ℕ) → b + 1 < count + 1 → slice_index (firsts ++ i ∷ []) b ≤ slice_index (firsts ++ i ∷ []) (b + 1)
+        ascending b less = by (before_or count (b + 1) less)
           where
             by : (b + 1 < count) ⊎ (b + 1 ≡ count) → slice_index (firsts ++ i ∷ []) b ≤ slice_index (firsts ++ i ∷ []) (b + 1)
-            by (inl h) = omega (arith, first_before i b (omega arith), first_before i (b + 1) h, is.rising b h)
+            by (inl h) = omega (arith, first_before i b (omega arith), first_before i (b + 1) h, is.ascending b h)
             by (inr e) = subst (λ c. slice_index (firsts ++ i ∷ []) b ≤ slice_index (firsts ++ i ∷ []) c) (sym e) (omega (arith, first_before i b (omega arith), first_here i, is.below b (omega arith)))
 
         below : (b : ℕ) → b < count + 1 → slice_index (firsts ++ i ∷ []) b < i + 1
@@ -137,7 +137,7 @@ module _ (body : Body) where
       all = is.all;
       few = omega (arith, is.few);
       some = λ h. more;
-      rising = is.rising;
+      ascending = is.ascending;
       below = λ b h. omega (arith, is.below b h);
       within = within;
       top = λ s e. let here : s ≡ i = omega arith in subst (λ s. slice_index (block ++ (count - 1) ∷ []) s + 1 ≡ count) (sym here) (omega (arith, block_here (count - 1)));
@@ -182,16 +182,16 @@ module _ (body : Body) where
     ends whole = record {
       each = is.each ∙ whole;
       within = λ s less. omega (arith, length_push firsts i, is.all, is.within s (omega arith));
-      rising = rising;
+      ascending = ascending;
       begin = λ s less. begin_kept block (firsts ++ i ∷ []) (λ s h. refl) (first_before i) s (omega arith);
       last = λ s less. last s (omega arith) (cases_eq (s + 1) i);
     }
       where
-        rising : (b : ℕ) → b + 1 < length (firsts ++ i ∷ []) → slice_index (firsts ++ i ∷ []) b ≤ slice_index (firsts ++ i ∷ []) (b + 1)
-        rising b less = by (before_or count (b + 1) (omega (arith, length_push firsts i, is.all)))
+        ascending : (b : ℕ) → b + 1 < length (firsts ++ i ∷ []) → slice_index (firsts ++ i ∷ []) b ≤ slice_index (firsts ++ i ∷ []) (b + 1)
+        ascending b less = by (before_or count (b + 1) (omega (arith, length_push firsts i, is.all)))
           where
             by : (b + 1 < count) ⊎ (b + 1 ≡ count) → slice_index (firsts ++ i ∷ []) b ≤ slice_index (firsts ++ i ∷ []) (b + 1)
-            by (inl h) = omega (arith, first_before i b (omega arith), first_before i (b + 1) h, is.rising b h)
+            by (inl h) = omega (arith, first_before i b (omega arith), first_before i (b + 1) h, is.ascending b h)
             by (inr e) = subst (λ c. slice_index (firsts ++ i ∷ []) b ≤ slice_index (firsts ++ i ∷ []) c) (sym e) (omega (arith, first_before i b (omega arith), first_here i, is.below b (omega arith)))
 
         last : (s : ℕ) → s < i → (s + 1 ≡ i) ⊎ (s + 1 ≡ i → ⊥) → (slice_index (firsts ++ i ∷ []) (slice_index block s + 1) ≡ s + 1) ⊎ ((s + 1 < body.sites) × (slice_index block (s + 1) ≡ slice_index block s))

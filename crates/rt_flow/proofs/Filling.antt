@@ -6,7 +6,7 @@ use Rattle.rt_flow.specs.declared.def.Def.{Def}
 use Rattle.rt_flow.specs.Bodies.{Precedes}
 use Rattle.rt_flow.specs.Blocks.{Run}
 use Rattle.rt_flow.specs.Blocks.Run.{begins, goes}
-use Rattle.rt_flow.specs.Spreading.{AreReady, AreWithin, MarksAll, Spreads}
+use Rattle.rt_flow.specs.Inside.Spreading.{AreReady, AreWithin, MarksAll, Spreads}
 use Rattle.rt_flow.proofs.Definitions.{precedes_itself}
 use Rattle.rt_flow.proofs.Targeting.{nothing_in}
 

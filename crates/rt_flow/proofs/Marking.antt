@@ -8,7 +8,7 @@ use Rattle.std.proofs.lemmas.List.Quantifiers.{all_pairs_push}
 use Rattle.std.proofs.lemmas.List.Sums.{sum_by-set}
 use Rattle.rt_flow.specs.declared.def.Def.{Def}
 use Rattle.rt_flow.specs.Bodies.{Precedes}
-use Rattle.rt_flow.specs.Spreading.{has_def, lacks, rows_without, AreReady, Marks, MarksAll}
+use Rattle.rt_flow.specs.Inside.Spreading.{has_def, lacks, rows_without, AreReady, Marks, MarksAll}
 use Rattle.rt_flow.proofs.Definitions.{has_here, has_not}
 use Rattle.rt_flow.proofs.Pushed.{pushed, pushed_at, pushed_other, pushed_kept, pushed_here, pushed_cases}
 use Rattle.rt_flow.proofs.Targeting.{nothing_in}

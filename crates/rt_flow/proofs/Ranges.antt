@@ -1,4 +1,4 @@
--- The last of rising sites in a range.
+-- The last of ascending sites in a range.
 use Rattle.std.proofs.Common.{◌≡◌, ◌+◌, ◌-◌, ◌<◌, ◌≤◌, ◌⊎◌, inl, inr, ℕ, true, false, Option, None, List, [], ◌∷◌, ◌++◌, length, sym, ap, subst, ◌∙◌, arith}
 use Rattle.std.specs.Prelude.{nat_lt, slice_index, slice_index_or}
 use Rattle.std.specs.List.Sorted.{IsStrictlyIncreasing, IsNonDecreasingBy, IsPartitionPoint}
@@ -9,13 +9,13 @@ use Rattle.std.proofs.lemmas.List.Elements.{Contains-get_or}
 use Rattle.std.proofs.lemmas.List.Kept.{AllPairs-from_increasing}
 use Rattle.rt_flow.specs.Blocks.{NoneWithin, IsLastWithin, IsLastOf}
 
-module _ (sites : List ℕ) (rising : IsStrictlyIncreasing sites) where
+module _ (sites : List ℕ) (ascending : IsStrictlyIncreasing sites) where
   pub non_decreasing : IsNonDecreasingBy (λ x. x) sites
   non_decreasing i j d le less = by (cases_eq i j)
     where
       by : (i ≡ j) ⊎ (i ≡ j → ⊥) → slice_index_or sites i d ≤ slice_index_or sites j d
       by (inl e) = subst (λ k. slice_index_or sites i d ≤ slice_index_or sites k d) e (omega arith)
-      by (inr other) = let below = AllPairs-from_increasing sites rising i j d (omega arith) less in omega arith
+      by (inr other) = let below = AllPairs-from_increasing sites ascending i j d (omega arith) less in omega arith
 
   module _ (end before : ℕ) (bound : before ≤ length sites) (point : IsPartitionPoint (λ y. nat_lt y end ≡ true) (λ y. nat_lt y end ≡ false) sites before) where
     -- a site of the list stands at a place, and from the place on sites are no more below the end

@@ -7,7 +7,7 @@ use Rattle.std.proofs.lemmas.List.Elements.{All-contains, All-from_get_or}
 use Rattle.rt_flow.specs.declared.def.Def.{Def}
 use Rattle.rt_flow.specs.Bodies.{Body, IsBody, Precedes}
 use Rattle.rt_flow.specs.Blocks.{AreBlocks, AreTargets, AreLasts, IsLastOf, IsLastWithin}
-use Rattle.rt_flow.specs.Spreading.{AreRising, AreRows, AreWithin}
+use Rattle.rt_flow.specs.Inside.Spreading.{AreAscending, AreRows, AreWithin}
 use Rattle.rt_flow.specs.Tables.{Grows, AreNumbers, IsTable}
 use Rattle.rt_flow.proofs.Numbered.{kept, longer}
 use Rattle.rt_base.proofs.Numbers.{before_or}
@@ -68,7 +68,7 @@ module _ (body : Body) (block firsts : List ℕ) (are : AreBlocks body block fir
     | inl e ↦ subst (λ k. slice_index firsts k ≤ slice_index firsts (suc c)) (sym e) (omega arith)
     | inr other ↦
         let one : slice_index firsts b ≤ slice_index firsts c = firsts_rise b c (omega arith) (omega arith) in
-        let two : slice_index firsts c ≤ slice_index firsts (suc c) = rw (← add-one) (are.rising c (omega arith)) in
+        let two : slice_index firsts c ≤ slice_index firsts (suc c) = rw (← add-one) (are.ascending c (omega arith)) in
         omega arith
   ]
 
@@ -81,7 +81,7 @@ module _ (body : Body) (block firsts : List ℕ) (are : AreBlocks body block fir
           omega (arith, within, to, is.each)
 
   -- last definitions of blocks rise
-  pub lasts_rise : (sites : List ℕ) (lasts : List (Option ℕ)) → AreLasts firsts sites lasts → AreRising lasts
+  pub lasts_rise : (sites : List ℕ) (lasts : List (Option ℕ)) → AreLasts firsts sites lasts → AreAscending lasts
   lasts_rise sites lasts is a b c d less e f =
       let first = last_at a c e in
       let second = last_at b d f in

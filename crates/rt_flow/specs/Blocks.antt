@@ -16,7 +16,7 @@ pub record IsJoined (body : Body) (t : ℕ) : Type 0 where
 pub record AreBlocks (body : Body) (block firsts : List ℕ) : Type 0 where
   pub each : length block ≡ body.sites
   pub within : (s : ℕ) → s < body.sites → slice_index block s + 1 < length firsts
-  pub rising : (b : ℕ) → b + 1 < length firsts → slice_index firsts b ≤ slice_index firsts (b + 1)
+  pub ascending : (b : ℕ) → b + 1 < length firsts → slice_index firsts b ≤ slice_index firsts (b + 1)
   pub begin : (s : ℕ) → s < body.sites → (slice_index firsts (slice_index block s) ≡ s) ⊎
       (IsJoined body s × ((p : ℕ) × (p + 1 ≡ s) × (slice_index block p ≡ slice_index block s)))
   pub last : (s : ℕ) → s < body.sites → (slice_index firsts (slice_index block s + 1) ≡ s + 1) ⊎

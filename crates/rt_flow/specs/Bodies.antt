@@ -41,7 +41,7 @@ abbrev pub Reaches : Body → ℤ → Def → ℕ → Type 0
 Reaches body loc Entry s = (passed : List ℕ) × Walk body body.entry passed s × NoneDefines body loc passed
 Reaches body loc (At d) s = Defines body d loc × ((passed : List ℕ) × Walk body d (d ∷ passed) s × NoneDefines body loc passed)
 
--- the order of definitions: Entry first, then sites rising
+-- the order of definitions: Entry first, then sites ascending
 abbrev pub Precedes : Def → Def → Type 0
 Precedes x Entry = ⊥
 Precedes Entry (At d) = Unit {0}

@@ -13,9 +13,9 @@ sites_at groups loc = unwrap_or (lookup (int_eq loc) groups) []
 abbrev pub class_at : List (ℤ × ℕ) → ℕ → ℤ → ℕ
 class_at known none loc = unwrap_or (lookup (int_eq loc) known) none
 
--- the sites that define a location, rising
+-- the sites that define a location, ascending
 pub record AreSitesOf (body : Body) (loc : ℤ) (sites : List ℕ) : Type 0 where
-  pub rising : IsStrictlyIncreasing sites
+  pub ascending : IsStrictlyIncreasing sites
   pub defining : (k : ℕ) → Contains sites k ↔ Defines body k loc
 
 -- for each location its class, and for each class the sites that define its locations

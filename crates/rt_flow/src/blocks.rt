@@ -20,7 +20,7 @@ pub(crate) struct Blocks {
 }
 
 impl Blocks {
-    /// The blocks of a graph. The error is want of memory.
+    /// The blocks of a graph. The error is out of memory.
     pub(crate) fn of(alloc: Global, graph: &Graph) -> Result<Blocks, Memory>
         ensures { IfOk result (λ blocks. AreBlocks graph.now blocks.block.items blocks.firsts.items) }
     {

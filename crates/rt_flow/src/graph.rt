@@ -28,7 +28,7 @@ impl Model for Graph {
 }
 
 impl Graph {
-    /// The graph of so many sites, without edges and definitions. The error is want of memory.
+    /// The graph of so many sites, without edges and definitions. The error is out of memory.
     pub fn new(alloc: Global, sites: u32, entry: u32) -> Result<Graph, Memory>
         requires { entry < sites }
         ensures { IfOk result (λ graph. graph ≡ record { sites = sites; entry = entry; edges = []; defs = [] }) }
@@ -42,7 +42,7 @@ impl Graph {
         })
     }
 
-    /// Adds an edge. After want of memory the graph is as it was.
+    /// Adds an edge. When out of memory, the graph is as it was.
     pub fn add_edge(&mut self, from: u32, to: u32) -> Result<(), Memory>
         requires from { from < self.old.sites }
         requires to { to < self.old.sites }
@@ -53,7 +53,7 @@ impl Graph {
         Ok(())
     }
 
-    /// Lets a site define a location. After want of memory the graph is as it was.
+    /// Lets a site define a location. When out of memory, the graph is as it was.
     pub fn add_def(&mut self, site: u32, loc: i64) -> Result<(), Memory>
         requires { site < self.old.sites }
         ensures ok { OnOk result (self.new ≡ record self.old { defs = self.old.defs ++ (site, loc) ∷ [] }) }

@@ -7,7 +7,7 @@ use crate::blocks::Blocks;
 use rt_base::Memory;
 use std::alloc::Global;
 
-/// The last of rising sites that is in a range, found in time logarithmic in how many there are.
+/// The last of ascending sites that is in a range, found in time logarithmic in how many there are.
 pub(crate) fn last_within(sites: &[u32], from: u32, end: u32) -> Option<u32>
     requires { IsStrictlyIncreasing sites.now }
     ensures { IsLastOf sites.now from end result }
@@ -20,7 +20,7 @@ pub(crate) fn last_within(sites: &[u32], from: u32, end: u32) -> Option<u32>
     if last < from { None } else { Some(last) }
 }
 
-/// The last of rising sites in each block, if it has one. The error is want of memory.
+/// The last of ascending sites in each block, if it has one. The error is out of memory.
 pub(crate) fn lasts(
     alloc: Global,
     blocks: &Blocks,

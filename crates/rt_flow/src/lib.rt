@@ -27,7 +27,7 @@ use std::alloc::Global;
 
 /// Which definitions reach the sites of a graph. The answer is linear in sites and definitions, in classes of locations times
 /// blocks of sites, and in the different lists of definitions that reach blocks; the time is linear in these, but for
-/// logarithms, in edges, and in how many definitions of each class reach each block. The error is want of memory.
+/// logarithms, in edges, and in how many definitions of each class reach each block. The error is out of memory.
 pub fn reaching(alloc: Global, graph: &Graph) -> Result<Reach, Memory>
     ensures { IfOk result (IsReachOf graph.now) }
 {

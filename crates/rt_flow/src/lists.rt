@@ -7,7 +7,7 @@ use std::alloc::{AllocError, Global};
 use std::hash::Hash;
 use std::marker::Model;
 
-/// So many empty lists. The error is want of memory.
+/// So many empty lists. The error is out of memory.
 pub(crate) fn empty_lists<T: Drop>(alloc: Global, count: usize) -> Result<Vec<Sequence<T>>, Memory>
     ensures { IfOk result (λ lists. lists.items ≡ replicate count []) }
 {
@@ -42,7 +42,7 @@ impl<T: Eq + Hash + Drop> Lists<T> {
         }
     }
 
-    /// The number of a list, which is added if it isn't there. The error is want of memory; lists that had a number keep it.
+    /// The number of a list, which is added if it isn't there. The error is out of memory; lists that had a number keep it.
     pub(crate) fn number(&mut self, list: Vec<T>) -> Result<u32, Memory>
         ensures within { IfOk result (λ n. n < length self.new) }
         ensures found { IfOk result (λ n. ((a b : T) → T.eq a b ≡ true → a ≡ b) → slice_index_or self.new n [] ≡ list.items) }

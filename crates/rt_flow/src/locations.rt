@@ -62,8 +62,8 @@ fn grouped(alloc: Global, graph: &Graph) -> Result<HashMap<i64, Sequence<u32>>, 
 }
 
 // Sites in order, each once.
-fn rising(mut sites: Vec<u32>) -> Vec<u32>
-    ensures rising { IsStrictlyIncreasing result.items }
+fn ascending(mut sites: Vec<u32>) -> Vec<u32>
+    ensures ascending { IsStrictlyIncreasing result.items }
     ensures same { (k : ℕ) → Contains result.items k ↔ Contains sites.items k }
 {
     sites.sort_unstable();
@@ -71,10 +71,10 @@ fn rising(mut sites: Vec<u32>) -> Vec<u32>
     sites
 }
 
-/// The classes of locations, and the sites of each class. The error is want of memory.
+/// The classes of locations, and the sites of each class. The error is out of memory.
 pub(crate) fn classes(alloc: Global, graph: &Graph) -> Result<(Locations, Lists<u32>), Memory>
     ensures classes { IfOk result (λ r. AreClasses graph.now r.0.known.entries r.0.none r.1) }
-    ensures rising { IfOk result (λ r. All IsStrictlyIncreasing r.1) }
+    ensures ascending { IfOk result (λ r. All IsStrictlyIncreasing r.1) }
 {
     let groups = grouped(alloc, graph)?;
     let mut classes = Lists::new(alloc);
@@ -88,7 +88,7 @@ pub(crate) fn classes(alloc: Global, graph: &Graph) -> Result<(Locations, Lists<
             continue;
         };
         let sites = sites.items().to_vec(alloc)?;
-        let class = classes.number(rising(sites))?;
+        let class = classes.number(ascending(sites))?;
         known.insert(*loc, class)?;
     }
     Ok((Locations { known, none }, classes))

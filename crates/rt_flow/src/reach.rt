@@ -21,7 +21,7 @@ pub struct Reach {
     pub(crate) blocks: Blocks,
     // The class of each location.
     pub(crate) locations: Locations,
-    // The sites of each class, rising.
+    // The sites of each class, ascending.
     pub(crate) classes: Lists<u32>,
     // For each class and each block the number of the list of definitions that reach the block.
     pub(crate) tables: Vec<Sequence<u32>>,
@@ -30,7 +30,7 @@ pub struct Reach {
     // The definition at each site.
     pub(crate) own: Vec<Def>,
     ghost known: { (loc : ℤ) → class_at locations.known.entries locations.none loc < length classes },
-    ghost rising: { All IsStrictlyIncreasing classes },
+    ghost ascending: { All IsStrictlyIncreasing classes },
     ghost each_class: { length tables.items ≡ length classes },
     ghost each_block: { All (λ table. length table + 1 ≡ length blocks.firsts.items) tables.items },
     ghost in_sets: { All (λ table. All (λ number. number < length sets) table) tables.items },
@@ -65,7 +65,7 @@ impl Reach {
         self.own.len() as u32
     }
 
-    /// Exactly the definitions of a location that reach a site: Entry first, then sites rising. It takes no memory, and time
+    /// Exactly the definitions of a location that reach a site: Entry first, then sites ascending. It takes no memory, and time
     /// logarithmic in how many sites define the location. A location is named by its number: 1 to 31 are registers, and
     /// 4,294,967,296 + k is the byte of the frame at offset k.
     pub fn defs(&self, site: u32, loc: i64) -> &[Def]

@@ -2,7 +2,7 @@
 ghost use Rattle.std.specs.Prelude.{◌≡◌, ℕ, ◌<◌, ◌⊎◌, ◌↔◌, ◌∷◌, [], AllPairs, Contains, IfOk, IsTrue, OnOk, length, slice_index_or};
 ghost use Rattle.rt_flow.specs.declared.def.Def.{Def};
 ghost use Rattle.rt_flow.specs.Bodies.{Precedes};
-ghost use Rattle.rt_flow.specs.Spreading.{AreReady, AreRising, AreRows, AreWithin, Marks, MarksAll, Spreads};
+ghost use Rattle.rt_flow.specs.Inside.Spreading.{AreReady, AreAscending, AreRows, AreWithin, Marks, MarksAll, Spreads};
 
 use crate::def::Def;
 use crate::lists::empty_lists;
@@ -88,7 +88,7 @@ fn spread(
 
 /// For each block the definitions that reach its first site, in order: Entry comes from the entry's block, and the last
 /// definition of a block from the block's targets. It takes time linear in the rows and the targets of their blocks. The
-/// error is want of memory.
+/// error is out of memory.
 pub(crate) fn rows(
     alloc: Global,
     targets: &[Sequence<u32>],
@@ -97,7 +97,7 @@ pub(crate) fn rows(
 ) -> Result<Vec<Sequence<Def>>, Memory>
     requires lasts_each { length lasts.now ≡ length targets.now }
     requires within { AreWithin targets.now }
-    requires rising { AreRising lasts.now }
+    requires ascending { AreAscending lasts.now }
     requires entry_in { entry < length targets.now }
     ensures { IfOk result (λ rows. AreRows targets.now lasts.now entry rows.items) }
 {

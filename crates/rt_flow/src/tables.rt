@@ -38,7 +38,7 @@ fn table(
 ) -> Result<Vec<u32>, Memory>
     requires of_body { AreOfBody blocks.now.block.items blocks.now.firsts.items targets.now }
     requires entry_in { entry + 1 < length blocks.now.firsts.items }
-    requires rising { IsStrictlyIncreasing sites.now }
+    requires ascending { IsStrictlyIncreasing sites.now }
     ensures table { IfOk result (λ table. IsTable blocks.now.firsts.items targets.now entry sites.now sets.new table.items) }
     ensures grows { OnOk result (Grows sets.old sets.new) }
 {
@@ -48,7 +48,7 @@ fn table(
 }
 
 /// For each class the table of its locations: for each block the number of a list of the definitions that reach it. The
-/// error is want of memory.
+/// error is out of memory.
 pub(crate) fn tables(
     alloc: Global,
     blocks: &Blocks,
@@ -59,7 +59,7 @@ pub(crate) fn tables(
 ) -> Result<Vec<Sequence<u32>>, Memory>
     requires of_body { AreOfBody blocks.now.block.items blocks.now.firsts.items targets.now }
     requires entry_in { entry + 1 < length blocks.now.firsts.items }
-    requires rising { All IsStrictlyIncreasing classes.now }
+    requires ascending { All IsStrictlyIncreasing classes.now }
     ensures each { IfOk result (λ tables. length tables.items ≡ length classes.now) }
     ensures tables { IfOk result (λ tables. (c : ℕ) → c < length classes.now →
         IsTable blocks.now.firsts.items targets.now entry (slice_index_or classes.now c []) sets.new (slice_index_or tables.items c [])) }

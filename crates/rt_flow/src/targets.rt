@@ -8,7 +8,7 @@ use crate::lists::empty_lists;
 use rt_base::{Memory, Sequence};
 use std::alloc::Global;
 
-/// For each block those to whose first site an edge leads from it. The error is want of memory.
+/// For each block those to whose first site an edge leads from it. The error is out of memory.
 pub(crate) fn targets(
     alloc: Global,
     graph: &Graph,

@@ -10,7 +10,7 @@ use Rattle.rt_flow.specs.Reaching.{IsReachOf, sites_of}
 use Rattle.rt_flow.specs.Sources.{defs_in}
 use Rattle.rt_body.specs.Readings.{Reading}
 use Rattle.rt_liveness.specs.declared.call.Call.{Call}
-use Rattle.rt_frame.specs.Frames.{AreRising, Layout, IsFrameOf, IsSaved, IsTaken, frame_body}
+use Rattle.rt_frame.specs.Frames.{AreAscending, Layout, IsFrameOf, IsSaved, IsTaken, frame_body}
 use Rattle.rt_frame.specs.Told.{reaching_site}
 
 module _ (reach : Reach) (site : ℕ) (loc : ℤ) where
@@ -33,13 +33,13 @@ module _ (graph : Body) (reach : Reach) (is : IsReachOf graph reach) (told : (si
   sites_framed reading layout graph_is = is.sites ∙ ap (λ (g : Body). g.sites) graph_is
 
   pub framed : (reading : Reading) (calls : List (List Call)) (layout : Layout) (taken saved : List ℤ) → graph ≡ frame_body reading layout → reading.body.sites ≡ length reading.actions
-      → layout.taken ≡ taken → AreRising layout.taken → ((k : ℤ) → Contains taken k ↔ IsTaken reading calls k)
-      → layout.saved ≡ saved → AreRising layout.saved → ((k : ℤ) → Contains saved k ↔ IsSaved reading k)
+      → layout.taken ≡ taken → AreAscending layout.taken → ((k : ℤ) → Contains taken k ↔ IsTaken reading calls k)
+      → layout.saved ≡ saved → AreAscending layout.saved → ((k : ℤ) → Contains saved k ↔ IsSaved reading k)
       → IsFrameOf reading calls (record { layout = layout; reaching = λ site loc. reaching_site reach site loc })
-  framed reading calls layout taken saved graph_is sites taken_is taken_rising are_taken saved_is saved_rising are_saved = record {
-    taken_rising = taken_rising;
+  framed reading calls layout taken saved graph_is sites taken_is taken_ascending are_taken saved_is saved_ascending are_saved = record {
+    taken_ascending = taken_ascending;
     taken = λ k. subst (λ xs. Contains xs k ↔ IsTaken reading calls k) (sym taken_is) (are_taken k);
-    saved_rising = saved_rising;
+    saved_ascending = saved_ascending;
     saved = λ k. subst (λ xs. Contains xs k ↔ IsSaved reading k) (sym saved_is) (are_saved k);
     reaching = λ site loc less.
         subst (λ g. AreReaching g loc site (reaching_site reach site loc)) graph_is

@@ -6,7 +6,7 @@ use Rattle.std.proofs.lemmas.List.{take_more, take_all, get_or_default}
 use Rattle.std.proofs.lemmas.List.Elements.{Contains-push, Contains-push_cases, Contains-append_left}
 use Rattle.rt_track.specs.declared.value.Value.{Value}
 use Rattle.rt_track.specs.declared.value.Value.TheVariants as value
-use Rattle.rt_frame.specs.Gathering.{Among, Gains, Upto}
+use Rattle.rt_frame.specs.Inside.Gathering.{Among, Gains, Upto}
 
 pub gains_as : {old new : List ℤ} {P : ℤ → Type 0} (Q : ℤ → Type 0) → Gains old new P → ((k : ℤ) → P k ↔ Q k) → Gains old new Q
 gains_as {old} {new} {P} Q gains same = record { each = λ k. (λ c. to k ((gains.each k).0 c), λ c. (gains.each k).1 (from k c)) }

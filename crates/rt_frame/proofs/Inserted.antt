@@ -10,7 +10,7 @@ use Rattle.std.proofs.lemmas.Int.{ints}
 use Rattle.std.proofs.lemmas.Map.Keys.{Less-from_sorted}
 use Rattle.std.proofs.lemmas.Map.Lookups.{exact_signed}
 use Rattle.std.proofs.lemmas.Map.Views.{btree_set_contains_iff}
-use Rattle.rt_frame.specs.Frames.{AreRising}
+use Rattle.rt_frame.specs.Frames.{AreAscending}
 
 module _ (s n : BTreeSet ℤ) (a : ℤ) (updates : Updates int_cmp s n a true) (k : ℤ) where
   in_new : IsTrue (contains int_cmp n k) ↔ Contains n.keys k
@@ -37,8 +37,8 @@ module _ (s n : BTreeSet ℤ) (a : ℤ) (updates : Updates int_cmp s n a true) (
     λ case. in_new.0 (updates.0 k ∙ back (int_cmp a k) refl case),
   )
 
-pub rising_from_sorted : (xs : List ℤ) → IsStrictlySortedBy int_cmp xs → AreRising xs
-rising_from_sorted xs sorted i j d under less =
+pub ascending_from_sorted : (xs : List ℤ) → IsStrictlySortedBy int_cmp xs → AreAscending xs
+ascending_from_sorted xs sorted i j d under less =
     by (int_cmp x y) refl (int_ranks x y) (Less-from_sorted int_cmp xs i j d sorted under less)
   where
     x : ℤ

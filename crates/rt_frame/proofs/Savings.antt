@@ -14,7 +14,7 @@ use Rattle.rt_body.specs.declared.action.Width.TheVariants as width
 use Rattle.rt_body.specs.Readings.{Reading, action_at}
 use Rattle.rt_frame.specs.Frames.{IsKept, IsSaved, kept_registers}
 use Rattle.rt_frame.specs.Questions.{address_value}
-use Rattle.rt_frame.specs.Gathering.{Upto, keeps, saved_by, saved_offset}
+use Rattle.rt_frame.specs.Inside.Gathering.{Upto, keeps, saved_by, saved_offset}
 
 kept : (register : ℕ) → keeps register ≡ true → IsKept register
 kept register e =

@@ -1,11 +1,11 @@
--- Rising offsets, and a place among them that parts them.
+-- Ascending offsets, and a place among them that parts them.
 use Rattle.std.proofs.Common.{◌≡◌, ◌<◌, ◌≤◌, ℕ, zero, suc, ℤ, Bool, true, false, not, ◌&&◌, ◌||◌, Some, None, List, [], ◌∷◌, length, refl, sym, subst, ◌⊎◌, inl, inr, pos, ◌-◌, arith}
 use Rattle.std.specs.Prelude.{int_lt, int_le, slice_index_or, ◌<ℤ◌}
 use Rattle.std.specs.List.{list_any}
 use Rattle.std.specs.List.Sorted.{IsPartitionedBy, IsPartitionPoint}
 use Rattle.std.proofs.lemmas.Bool.{cases_eq}
 use Rattle.std.proofs.lemmas.Int.{ints}
-use Rattle.rt_frame.specs.Frames.{AreRising, greatest_upto, is_from_to}
+use Rattle.rt_frame.specs.Frames.{AreAscending, greatest_upto, is_from_to}
 
 -- none is at or below k
 pub none_upto : (k : ℤ) (xs : List ℤ) → ((j : ℕ) (d : ℤ) → j < length xs → int_lt k (slice_index_or xs j d) ≡ true) → greatest_upto k xs ≡ None
@@ -38,11 +38,11 @@ none_from a k (x ∷ xs) below =
 
 -- none behind one that is above k
 none_behind : (a k x : ℤ) (xs : List ℤ) → int_lt k x ≡ true → ((j : ℕ) (d : ℤ) → j < length xs → x <ℤ slice_index_or xs j d) → list_any (is_from_to a k) xs ≡ false
-none_behind a k x [] over rising = refl
-none_behind a k x (y ∷ xs) over rising =
-    let above : x <ℤ y = rising 0 y (omega arith) in
+none_behind a k x [] over ascending = refl
+none_behind a k x (y ∷ xs) over ascending =
+    let above : x <ℤ y = ascending 0 y (omega arith) in
     let here : int_lt k y ≡ true = grind (arith, ints) in
-    let rest : list_any (is_from_to a k) xs ≡ false = none_behind a k x xs over (λ j d less. rising (suc j) d (omega arith)) in
+    let rest : list_any (is_from_to a k) xs ≡ false = none_behind a k x xs over (λ j d less. ascending (suc j) d (omega arith)) in
     rw here (none (not (int_lt y a)) rest)
   where
     none : (b : Bool) {c : Bool} → c ≡ false → ((b && false) || c) ≡ false
@@ -53,41 +53,41 @@ none_behind a k x (y ∷ xs) over rising =
 pub first_from : (a k : ℤ) (xs : List ℤ) (p : ℕ) → p < length xs
     → ((j : ℕ) (d : ℤ) → j < p → int_lt (slice_index_or xs j d) a ≡ true)
     → ((d : ℤ) → int_lt (slice_index_or xs p d) a ≡ false)
-    → AreRising xs
+    → AreAscending xs
     → (d : ℤ) → list_any (is_from_to a k) xs ≡ int_le (slice_index_or xs p d) k
-first_from a k [] p less below from rising d = absurd (omega arith)
-first_from a k (x ∷ xs) zero less below from rising d = by (int_lt k x) refl
+first_from a k [] p less below from ascending d = absurd (omega arith)
+first_from a k (x ∷ xs) zero less below from ascending d = by (int_lt k x) refl
   where
     here : int_lt x a ≡ false
     here = from x
 
     by : (b : Bool) → int_lt k x ≡ b → list_any (is_from_to a k) (x ∷ xs) ≡ int_le x k
     by true over =
-        let rest : list_any (is_from_to a k) xs ≡ false = none_behind a k x xs over (λ j e inside. rising 0 (suc j) e (omega arith) (omega arith)) in
+        let rest : list_any (is_from_to a k) xs ≡ false = none_behind a k x xs over (λ j e inside. ascending 0 (suc j) e (omega arith) (omega arith)) in
         let not_at : int_le x k ≡ false = grind (arith, ints) in
         rw here (rw over (rw not_at rest))
     by false over =
         let at : int_le x k ≡ true = grind (arith, ints) in
         rw here (rw over (rw at refl))
-first_from a k (x ∷ xs) (suc p) less below from rising d =
+first_from a k (x ∷ xs) (suc p) less below from ascending d =
     let here : int_lt x a ≡ true = below 0 x (omega arith) in
-    rw here (first_from a k xs p (omega arith) (λ j d inside. below (suc j) d (omega arith)) from (λ i j e under inside. rising (suc i) (suc j) e (omega arith) (omega arith)) d)
+    rw here (first_from a k xs p (omega arith) (λ j d inside. below (suc j) d (omega arith)) from (λ i j e under inside. ascending (suc i) (suc j) e (omega arith) (omega arith)) d)
 
 -- offsets up to k stand before those above it
-pub parted_upto : (k : ℤ) (xs : List ℤ) → AreRising xs → IsPartitionedBy (λ y. int_le y k) xs
-parted_upto k xs rising i j d upto less at = by (cases_eq i j)
+pub parted_upto : (k : ℤ) (xs : List ℤ) → AreAscending xs → IsPartitionedBy (λ y. int_le y k) xs
+parted_upto k xs ascending i j d upto less at = by (cases_eq i j)
   where
     by : (i ≡ j) ⊎ (i ≡ j → ⊥) → int_le (slice_index_or xs i d) k ≡ true
     by (inl e) = subst (λ n. int_le (slice_index_or xs n d) k ≡ true) (sym e) at
-    by (inr other) = let below : slice_index_or xs i d <ℤ slice_index_or xs j d = rising i j d (omega arith) less in grind (arith, ints)
+    by (inr other) = let below : slice_index_or xs i d <ℤ slice_index_or xs j d = ascending i j d (omega arith) less in grind (arith, ints)
 
 -- offsets below a stand before the others
-pub parted_from : (a : ℤ) (xs : List ℤ) → AreRising xs → IsPartitionedBy (λ y. int_lt y a) xs
-parted_from a xs rising i j d upto less at = by (cases_eq i j)
+pub parted_from : (a : ℤ) (xs : List ℤ) → AreAscending xs → IsPartitionedBy (λ y. int_lt y a) xs
+parted_from a xs ascending i j d upto less at = by (cases_eq i j)
   where
     by : (i ≡ j) ⊎ (i ≡ j → ⊥) → int_lt (slice_index_or xs i d) a ≡ true
     by (inl e) = subst (λ n. int_lt (slice_index_or xs n d) a ≡ true) (sym e) at
-    by (inr other) = let below : slice_index_or xs i d <ℤ slice_index_or xs j d = rising i j d (omega arith) less in grind (arith, ints)
+    by (inr other) = let below : slice_index_or xs i d <ℤ slice_index_or xs j d = ascending i j d (omega arith) less in grind (arith, ints)
 
 module _ (k : ℤ) (xs : List ℤ) (p : ℕ) (point : IsPartitionPoint (λ y. int_le y k ≡ true) (λ y. int_le y k ≡ false) xs p) where
   above : (j : ℕ) (d : ℤ) → p ≤ j → j < length xs → int_lt k (slice_index_or xs j d) ≡ true
@@ -102,10 +102,10 @@ module _ (k : ℤ) (xs : List ℤ) (p : ℕ) (point : IsPartitionPoint (λ y. in
       upto : (j : ℕ) (d : ℤ) → j ≤ p - 1 → int_lt k (slice_index_or xs j d) ≡ false
       upto j d under = let at = point.0 j d (omega arith) (omega arith) in grind (arith, ints)
 
-module _ (a k : ℤ) (xs : List ℤ) (rising : AreRising xs) (p : ℕ) (point : IsPartitionPoint (λ y. int_lt y a ≡ true) (λ y. int_lt y a ≡ false) xs p) where
+module _ (a k : ℤ) (xs : List ℤ) (ascending : AreAscending xs) (p : ℕ) (point : IsPartitionPoint (λ y. int_lt y a ≡ true) (λ y. int_lt y a ≡ false) xs p) where
   pub none_between : p ≡ length xs → list_any (is_from_to a k) xs ≡ false
   none_between all = none_from a k xs (λ j d less. point.0 j d (omega arith) (omega arith))
 
   pub first_between : (p ≡ length xs → ⊥) → p ≤ length xs → list_any (is_from_to a k) xs ≡ int_le (slice_index_or xs p (pos 0)) k
   first_between some bound =
-      first_from a k xs p (omega arith) (λ j d inside. point.0 j d (omega arith) inside) (λ d. point.1 p d (omega arith) (omega arith)) rising (pos 0)
+      first_from a k xs p (omega arith) (λ j d inside. point.0 j d (omega arith) inside) (λ d. point.1 p d (omega arith) (omega arith)) ascending (pos 0)

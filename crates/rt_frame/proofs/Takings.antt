@@ -7,7 +7,7 @@ use Rattle.rt_body.specs.Readings.{Reading}
 use Rattle.rt_frame.specs.declared.question.Question.{Question}
 use Rattle.rt_frame.specs.declared.question.Question.TheVariants.{OfUse, OfDefinition}
 use Rattle.rt_frame.specs.Frames.{IsOfFrame}
-use Rattle.rt_frame.specs.Gathering.{Among, Gains}
+use Rattle.rt_frame.specs.Inside.Gathering.{Among, Gains}
 use Rattle.rt_frame.specs.Questions.{def_value}
 use Rattle.rt_frame.proofs.Gathered.{gains_as, same_offset}
 

@@ -16,8 +16,8 @@ less_one_way a b p q = omega (arith, ints)
 module _ (reading : Reading) (calls : List (List Call)) (a b : Frame) (x : IsFrameOf reading calls a) (y : IsFrameOf reading calls b) where
   layout_same : a.layout ≡ b.layout
   layout_same = λ i. record {
-    taken = one_ordered (λ j k. j <ℤ k) less_one_way (IsTaken reading calls) a.layout.taken b.layout.taken x.taken_rising x.taken y.taken_rising y.taken i;
-    saved = one_ordered (λ j k. j <ℤ k) less_one_way (IsSaved reading) a.layout.saved b.layout.saved x.saved_rising x.saved y.saved_rising y.saved i;
+    taken = one_ordered (λ j k. j <ℤ k) less_one_way (IsTaken reading calls) a.layout.taken b.layout.taken x.taken_ascending x.taken y.taken_ascending y.taken i;
+    saved = one_ordered (λ j k. j <ℤ k) less_one_way (IsSaved reading) a.layout.saved b.layout.saved x.saved_ascending x.saved y.saved_ascending y.saved i;
   }
 
   reached_same : (site : ℕ) (loc : ℤ) → a.reaching site loc ≡ b.reaching site loc

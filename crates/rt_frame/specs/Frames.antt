@@ -67,7 +67,7 @@ abbrev pub later_or : Option ℤ → ℤ → Option ℤ
 later_or None a = Some a
 later_or (Some later) a = Some later
 
--- the greatest of rising offsets that isn't above one
+-- the greatest of ascending offsets that isn't above one
 abbrev pub greatest_upto : ℤ → List ℤ → Option ℤ
 greatest_upto k [] = None
 greatest_upto k (a ∷ offsets) = if int_lt k a then greatest_upto k offsets else later_or (greatest_upto k offsets) a
@@ -135,14 +135,14 @@ pub record Frame : Type 0 where
   pub reaching : ℕ → ℤ → List Def
 
 -- each number is below those after it
-abbrev pub AreRising : List ℤ → Type 0
-AreRising offsets = AllPairs (λ a b. a <ℤ b) offsets
+abbrev pub AreAscending : List ℤ → Type 0
+AreAscending offsets = AllPairs (λ a b. a <ℤ b) offsets
 
 -- the frame is that of a procedure of which this is known, with these calls at its sites; no definition reaches what is no site
 pub record IsFrameOf (reading : Reading) (calls : List (List Call)) (frame : Frame) : Type 0 where
-  pub taken_rising : AreRising frame.layout.taken
+  pub taken_ascending : AreAscending frame.layout.taken
   pub taken : (k : ℤ) → Contains frame.layout.taken k ↔ IsTaken reading calls k
-  pub saved_rising : AreRising frame.layout.saved
+  pub saved_ascending : AreAscending frame.layout.saved
   pub saved : (k : ℤ) → Contains frame.layout.saved k ↔ IsSaved reading k
   pub reaching : (site : ℕ) (loc : ℤ) → site < length reading.actions →
       AreReaching (frame_body reading frame.layout) loc site (frame.reaching site loc)

@@ -1,4 +1,4 @@
 pub mod Questions
 pub mod Frames
 pub mod Told
-pub mod Gathering
+pub mod Inside

@@ -1,6 +1,6 @@
 // What additions add.
 
-/// What an addition of two registers adds: an index to a pointer, on which side, two indices, or what can't be told.
+/// What an addition of two registers adds: an index to a pointer, on which side, two indices, or what can't be said.
 #[derive(Clone, Copy, Debug, PartialEq, Eq)]
 pub enum Addition {
     IndexLeft,

@@ -107,7 +107,7 @@ fn ask_operands(
     }
 }
 
-// Asks for the definitions of a result of which a return tells.
+// Asks for the definitions of a result of which a return says something.
 fn ask_results(
     asked: &mut Asked,
     alloc: Global,
@@ -230,7 +230,7 @@ fn ask_calls(asked: &mut Asked, site: u32, calls: &[Call]) -> Result<(), Memory>
     Ok(())
 }
 
-/// What the lines of a site speak of: those of its instruction, and those of its calls. The error is want of memory.
+/// What the lines of a site speak of: those of its instruction, and those of its calls. The error is out of memory.
 pub(crate) fn asked(
     alloc: Global,
     body: &Body,

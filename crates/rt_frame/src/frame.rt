@@ -4,7 +4,7 @@ ghost use Rattle.rt_flow.specs.declared.def.Def.TheVariants.{At};
 ghost use Rattle.rt_flow.specs.Reaching.{sites_of};
 ghost use Rattle.rt_flow.specs.Sources.{defs_in};
 ghost use Rattle.rt_body.specs.Told.{IsDefWithin};
-ghost use Rattle.rt_frame.specs.Frames.{AreRising};
+ghost use Rattle.rt_frame.specs.Frames.{AreAscending};
 
 use crate::saved::saved;
 use crate::spot::{Spot, spot_in};
@@ -19,14 +19,14 @@ use std::alloc::Global;
 /// The frame of a procedure.
 #[derive(Drop)]
 pub struct Frame {
-    // The offsets at which objects begin, rising.
+    // The offsets at which objects begin, ascending.
     pub(crate) taken: Sequence<i32>,
-    // The offsets of the words in which registers are saved, rising.
+    // The offsets of the words in which registers are saved, ascending.
     pub(crate) saved: Sequence<i32>,
     // Which definitions of the other bytes reach each site.
     pub(crate) reach: Reach,
-    ghost taken_rising: { AreRising taken },
-    ghost saved_rising: { AreRising saved },
+    ghost taken_ascending: { AreAscending taken },
+    ghost saved_ascending: { AreAscending saved },
     ghost within: { (site d : ℕ) (loc : ℤ) → site < sites_of reach → Contains (defs_in reach site loc) (At d) →
         d < sites_of reach },
 }
@@ -37,7 +37,7 @@ impl Frame {
     ghost use Rattle.rt_frame.specs.Frames.{IsFrameOf, spot_at};
     ghost use Rattle.rt_frame.specs.Told.{layout_of, frame_of, frame_sites};
 
-    /// The frame of a procedure, with what is known of the calls of each of its sites. The error is want of memory.
+    /// The frame of a procedure, with what is known of the calls of each of its sites. The error is out of memory.
     ///
     /// Time and memory are those of [`rt_flow::reaching`], and besides linear in sites, in calls and in the definitions that reach
     /// returns and uses of several values, but for logarithms.
@@ -46,8 +46,8 @@ impl Frame {
         ensures of { IfOk result (λ frame. IsFrameOf (reading_of body.now) calls.now (frame_of frame)) }
         ensures sites { IfOk result (λ frame. frame_sites frame ≡ sites_in body.now) }
     {
-        let taken = taken(alloc, body, calls)?.rising(alloc)?;
-        let saved = saved(alloc, body)?.rising(alloc)?;
+        let taken = taken(alloc, body, calls)?.ascending(alloc)?;
+        let saved = saved(alloc, body)?.ascending(alloc)?;
         let graph = stored(alloc, body, taken.items(), saved.items())?;
         let reach = reaching(alloc, &graph)?;
         let _sites = reach.sites();
@@ -72,7 +72,7 @@ impl Frame {
         spot_in(self.taken.items(), self.saved.items(), k)
     }
 
-    /// The definitions of a byte of the frame that reach a site: Entry first, then sites rising. The byte at offset k is the
+    /// The definitions of a byte of the frame that reach a site: Entry first, then sites ascending. The byte at offset k is the
     /// location 4,294,967,296 + k. It takes no memory.
     pub fn reaching(&self, site: u32, loc: i64) -> &[Def]
         requires { site < frame_sites self.now }

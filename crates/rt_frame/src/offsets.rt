@@ -1,7 +1,7 @@
 // Sets of offsets.
 ghost use Rattle.std.specs.Prelude.{◌≡◌, [], IfOk, OnOk};
-ghost use Rattle.rt_frame.specs.Frames.{AreRising};
-ghost use Rattle.rt_frame.specs.Gathering.{Gains};
+ghost use Rattle.rt_frame.specs.Frames.{AreAscending};
+ghost use Rattle.rt_frame.specs.Inside.Gathering.{Gains};
 
 use rt_base::{Memory, Sequence};
 use std::alloc::Global;
@@ -32,7 +32,7 @@ impl Offsets {
         }
     }
 
-    /// Adds an offset. The error is want of memory.
+    /// Adds an offset. The error is out of memory.
     pub(crate) fn insert(&mut self, offset: i32) -> Result<(), Memory>
         ensures { OnOk result (Gains self.old self.new (λ k. k ≡ offset)) }
     {
@@ -40,9 +40,9 @@ impl Offsets {
         Ok(())
     }
 
-    /// The offsets, rising. The error is want of memory.
-    pub(crate) fn rising(&self, alloc: Global) -> Result<Sequence<i32>, Memory>
-        ensures rising { IfOk result AreRising }
+    /// The offsets, ascending. The error is out of memory.
+    pub(crate) fn ascending(&self, alloc: Global) -> Result<Sequence<i32>, Memory>
+        ensures ascending { IfOk result AreAscending }
         ensures same { IfOk result (λ offsets. offsets ≡ self.now) }
     {
         let offsets = self.set.iter().copied().collect(alloc)?;

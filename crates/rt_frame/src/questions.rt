@@ -138,7 +138,7 @@ pub fn addition(body: &Body, site: u32, left: u8, right: u8) -> Addition
     }
 }
 
-/// The calls of a site: those that it makes, and then those in which it goes on for good; none where nothing is told of it.
+/// The calls of a site: those that it makes, and then those in which it goes on for good; none where nothing is stated of it.
 pub fn calls_at(calls: &[Sequence<Call>], site: u32) -> &[Call]
     ensures { result.now ≡ calls_at calls.now site }
 {
@@ -193,7 +193,7 @@ fn has_real(body: &Body, calls: &[Sequence<Call>], register: u8, defs: &[Def]) -
     false
 }
 
-// Whether a return tells of a definition: it is that of the entry, or a real one.
+// Whether a return says something of a definition: it is that of the entry, or a real one.
 fn is_result(body: &Body, calls: &[Sequence<Call>], register: u8, def: Def) -> bool
     requires { IsDefWithin (sites_in body.now) def }
     ensures { result ≡ is_result (reading_of body.now) calls.now register def }
@@ -201,8 +201,8 @@ fn is_result(body: &Body, calls: &[Sequence<Call>], register: u8, def: Def) -> b
     def == Def::Entry || is_real(body, calls, register, def)
 }
 
-/// The definitions of a result of which a return tells, Entry first and then sites rising; none if no real one reaches it: none that
-/// an instruction wrote that is no call, or a call whose callee gives the result. The error is want of memory.
+/// The definitions of a result of which a return says something, Entry first and then sites ascending; none if no real one reaches it: none that
+/// an instruction wrote that is no call, or a call whose callee gives the result. The error is out of memory.
 pub fn results(
     alloc: Global,
     body: &Body,

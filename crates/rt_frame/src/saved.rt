@@ -4,7 +4,7 @@ ghost use Rattle.rt_body.specs.Readings.{action_at};
 ghost use Rattle.rt_body.specs.Registers.{HasRegisters};
 ghost use Rattle.rt_body.specs.Told.{reading_of, sites_in};
 ghost use Rattle.rt_frame.specs.Frames.{IsSaved};
-ghost use Rattle.rt_frame.specs.Gathering.{Gains, keeps, saved_by, saved_offset};
+ghost use Rattle.rt_frame.specs.Inside.Gathering.{Gains, keeps, saved_by, saved_offset};
 
 use crate::offsets::Offsets;
 use crate::questions::address_value;
@@ -68,7 +68,7 @@ fn save_site(saved: &mut Offsets, body: &Body, site: u32) -> Result<(), Memory>
     Ok(())
 }
 
-/// The offsets of the words of the frame in which registers are saved. The error is want of memory.
+/// The offsets of the words of the frame in which registers are saved. The error is out of memory.
 pub(crate) fn saved(alloc: Global, body: &Body) -> Result<Offsets, Memory>
     ensures { IfOk result (λ saved. (k : ℤ) → Contains saved k ↔ IsSaved (reading_of body.now) k) }
 {

@@ -2,7 +2,7 @@
 ghost use Rattle.std.specs.Prelude.{◌≡◌, ◌<◌, ◌++◌, map, IfOk, OnOk};
 ghost use Rattle.rt_body.specs.Registers.{HasRegisters};
 ghost use Rattle.rt_body.specs.Told.{reading_of, sites_in};
-ghost use Rattle.rt_frame.specs.Frames.{AreRising, bytes_defined, bytes_from, frame_body, stored_at_spot, stored_by, width_bytes};
+ghost use Rattle.rt_frame.specs.Frames.{AreAscending, bytes_defined, bytes_from, frame_body, stored_at_spot, stored_by, width_bytes};
 
 use crate::questions::address_value;
 use crate::spot::{Spot, spot_in};
@@ -48,8 +48,8 @@ fn define_stored(
     address: Value,
 ) -> Result<(), Memory>
     requires site { site < graph.old.sites }
-    requires taken { AreRising taken.now }
-    requires saved { AreRising saved.now }
+    requires taken { AreAscending taken.now }
+    requires saved { AreAscending saved.now }
     ensures { OnOk result (graph.new ≡ record graph.old {
       defs = graph.old.defs ++ map (λ byte. (site, byte))
           (stored_by (record { taken = taken.now; saved = saved.now }) width address);
@@ -76,8 +76,8 @@ fn define_action(
     requires site { site < graph.old.sites }
     requires within { site < sites_in body.now }
     requires registers { HasRegisters action }
-    requires taken { AreRising taken.now }
-    requires saved { AreRising saved.now }
+    requires taken { AreAscending taken.now }
+    requires saved { AreAscending saved.now }
     ensures { OnOk result (graph.new ≡ record graph.old {
       defs = graph.old.defs ++ map (λ byte. (site, byte))
           (bytes_defined (reading_of body.now) (record { taken = taken.now; saved = saved.now }) site action);
@@ -93,15 +93,15 @@ fn define_action(
 }
 
 /// The sites and edges of a body, with the bytes of the frame that its sites define, by the offsets at which objects begin and
-/// those of saved registers. The error is want of memory.
+/// those of saved registers. The error is out of memory.
 pub(crate) fn stored(
     alloc: Global,
     body: &Body,
     taken: &[i32],
     saved: &[i32],
 ) -> Result<Graph, Memory>
-    requires taken { AreRising taken.now }
-    requires saved { AreRising saved.now }
+    requires taken { AreAscending taken.now }
+    requires saved { AreAscending saved.now }
     ensures { IfOk result (λ graph. graph ≡ frame_body (reading_of body.now) (record { taken = taken.now; saved = saved.now })) }
 {
     let mut graph = body.graph(alloc)?;

@@ -4,7 +4,7 @@ ghost use Rattle.rt_body.specs.Readings.{action_at};
 ghost use Rattle.rt_body.specs.Told.{reading_of, sites_in, IsDefWithin};
 ghost use Rattle.rt_liveness.specs.Calls.{HasCallRegister};
 ghost use Rattle.rt_frame.specs.Frames.{IsOfFrame, IsTaken};
-ghost use Rattle.rt_frame.specs.Gathering.{Among, Gains};
+ghost use Rattle.rt_frame.specs.Inside.Gathering.{Among, Gains};
 ghost use Rattle.rt_frame.specs.Questions.{def_value, questions, IsQuestionWithin};
 
 use crate::asked::asked;
@@ -80,7 +80,7 @@ fn take_site(
     Ok(())
 }
 
-/// The offsets of the frame at which objects begin. The error is want of memory.
+/// The offsets of the frame at which objects begin. The error is out of memory.
 pub(crate) fn taken(alloc: Global, body: &Body, calls: &[Sequence<Call>]) -> Result<Offsets, Memory>
     requires { All (All HasCallRegister) calls.now }
     ensures { IfOk result (λ taken. (k : ℤ) → Contains taken k ↔ IsTaken (reading_of body.now) calls.now k) }

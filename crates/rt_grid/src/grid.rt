@@ -50,7 +50,7 @@ impl Model for Grid {
 }
 
 impl Grid {
-    /// A table of so many places, without steps: a way of count nought leads from each place to itself. The error is want of
+    /// A table of so many places, without steps: a way of count nought leads from each place to itself. The error is out of
     /// memory.
     pub fn new(alloc: Global, size: usize) -> Result<Grid, Memory>
         ensures size { IfOk result (λ grid. size_of grid ≡ size) }
@@ -106,7 +106,7 @@ impl Grid {
         self.changed[place] > since
     }
 
-    /// Adds a step, if no way is known that is as short. Whether it was added. The error is want of memory.
+    /// Adds a step, if no way is known that is as short. Whether it was added. The error is out of memory.
     pub fn add(&mut self, alloc: Global, from: usize, to: usize, count: u8) -> Result<bool, Memory>
         requires from { from < size_of self.old }
         requires to { to < size_of self.old }
@@ -145,7 +145,7 @@ impl Grid {
         self.rows[place] = Sequence::from_vec(row);
     }
 
-    /// Takes in what steps lead to, until no count is less. The error is want of memory.
+    /// Takes in what steps lead to, until no count is less. The error is out of memory.
     pub fn close(&mut self, alloc: Global) -> Result<(), Memory>
         ensures size { OnOk result (size_of self.new ≡ size_of self.old) }
         ensures holds { OnOk result (Holds (Made (Says self.old)) self.new) }
@@ -159,7 +159,7 @@ impl Grid {
     }
 
     /// Takes in what steps lead to, once for each row from the first to the last and back. Whether a count became less. The error
-    /// is want of memory.
+    /// is out of memory.
     pub fn sweep(&mut self, alloc: Global) -> Result<bool, Memory>
         ensures size { OnOk result (size_of self.new ≡ size_of self.old) }
         ensures holds { OnOk result (Holds (Made (Says self.old)) self.new) }
@@ -205,7 +205,7 @@ impl Grid {
         Ok(any)
     }
 
-    /// Forgets steps without which the ways are as short. The error is want of memory.
+    /// Forgets steps without which the ways are as short. The error is out of memory.
     pub fn prune(&mut self, alloc: Global) -> Result<(), Memory>
         ensures size { OnOk result (size_of self.new ≡ size_of self.old) }
         ensures holds { OnOk result (Holds (Says self.old) self.new) }

@@ -13,7 +13,7 @@ use Rattle.rt_cdecl.specs.declared.declarations.CField.{CField}
 use Rattle.rt_cdecl.specs.declared.declarations.Decls.{Decls}
 use Rattle.rt_cdecl.specs.HeaderWords.{Letter, Pointee, At, OfType, after_all, field_in, is_field, scalar_of}
 use Rattle.rt_header.specs.Headers.{tail_in}
-use Rattle.rt_header.specs.Built.{Forest, Structs, IsForest, IsNodeOf, IsStructOf, IsTypeOf, AreBuilt, tree_of, pointer, scalar}
+use Rattle.rt_header.specs.Inside.Built.{Forest, Structs, IsForest, IsNodeOf, IsStructOf, IsTypeOf, AreBuilt, tree_of, pointer, scalar}
 use Rattle.rt_header.proofs.Telling as telling
 
 module _ (forest : Forest) (is : IsForest forest) (structs : Structs) (decls : Decls)

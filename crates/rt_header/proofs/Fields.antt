@@ -12,7 +12,7 @@ use Rattle.rt_cdecl.specs.declared.declarations.CField.{CField}
 use Rattle.rt_cdecl.specs.declared.declarations.CStruct.{CStruct}
 use Rattle.rt_cdecl.specs.GoodDecls.{LeadsBelow, FitFrom, IsStruct}
 use Rattle.rt_cdecl.specs.Types.{IsField, bits_of, end_of}
-use Rattle.rt_header.specs.Built.{Forest, Structs, tree_of, IsTypeOf, AreFieldsOf, IsStructBuilt}
+use Rattle.rt_header.specs.Inside.Built.{Forest, Structs, tree_of, IsTypeOf, AreFieldsOf, IsStructBuilt}
 use Rattle.rt_header.specs.Met.{struct_in, structs_of_fields}
 use Rattle.rt_header.proofs.Growing.{stand_append}
 

@@ -12,8 +12,8 @@ use Rattle.rt_cdecl.specs.declared.declarations.CField.{CField}
 use Rattle.rt_cdecl.specs.declared.declarations.CStruct.{CStruct}
 use Rattle.rt_cdecl.specs.declared.declarations.CFunction.{CFunction}
 use Rattle.rt_cdecl.specs.GoodDecls.{LeadsBelow, IsStruct, IsFunction, place_of}
-use Rattle.rt_header.specs.Built.{Forest, Structs, tree_of, class_of, IsStructOf, IsTypeOf, AreFieldsOf, IsStructBuilt, IsPortOf, IsFunctionBuilt, HasMore}
-use Rattle.rt_header.specs.Made.{AreMade}
+use Rattle.rt_header.specs.Inside.Built.{Forest, Structs, tree_of, class_of, IsStructOf, IsTypeOf, AreFieldsOf, IsStructBuilt, IsPortOf, IsFunctionBuilt, HasMore}
+use Rattle.rt_header.specs.Inside.Made.{AreMade}
 
 -- a list begins itself
 pub more_none : (structs : Structs) → HasMore structs structs

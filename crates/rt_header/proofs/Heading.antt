@@ -27,7 +27,7 @@ use Rattle.rt_cdecl.specs.HeaderWords.{HeaderWord, function_of, word_in}
 use Rattle.rt_header.specs.Erased.{word_in as erased_word}
 use Rattle.rt_header.specs.Headers.{IsHeaderOf}
 use Rattle.rt_header.specs.Met.{IsFirstMet}
-use Rattle.rt_header.specs.Built.{Forest, Structs, IsForest, IsFunctionBuilt, AreBuilt, tree_of}
+use Rattle.rt_header.specs.Inside.Built.{Forest, Structs, IsForest, IsFunctionBuilt, AreBuilt, tree_of}
 use Rattle.rt_header.proofs.Telling as telling
 use Rattle.rt_header.proofs.Telling.{none_found, found}
 use Rattle.rt_header.proofs.Apart as separate
@@ -35,16 +35,16 @@ use Rattle.rt_header.proofs.Reached.{met_reached}
 use Rattle.rt_base.proofs.Numbers.{apart}
 
 -- a function of a number that rises is found
-find_rising : (d : CFunction) (functions : List CFunction) (i : ℕ) → i < length functions
+find_ascending : (d : CFunction) (functions : List CFunction) (i : ℕ) → i < length functions
     → ((j : ℕ) → j < i → (get_or functions j d).number < (get_or functions i d).number)
     → find (λ (f : CFunction). f.number == (get_or functions i d).number) functions ≡ Some (get_or functions i d)
-find_rising d [] i less rise = absurd (omega (arith, less))
-find_rising d (f ∷ functions) zero less rise =
+find_ascending d [] i less rise = absurd (omega (arith, less))
+find_ascending d (f ∷ functions) zero less rise =
     ap (λ b. cond b (Some f) (find (λ (g : CFunction). g.number == f.number) functions)) (eq-eqb f.number f.number refl)
-find_rising d (f ∷ functions) (suc i) less rise =
+find_ascending d (f ∷ functions) (suc i) less rise =
     ap (λ b. cond b (Some f) (find (λ (g : CFunction). g.number == (get_or functions i d).number) functions))
     (apart f.number (get_or functions i d).number (λ e. let l = rise 0 (omega arith) in omega (arith, e, l))) ∙
-    find_rising d functions i (omega (arith, less)) (λ j h. rise (suc j) (omega (arith, h)))
+    find_ascending d functions i (omega (arith, less)) (λ j h. rise (suc j) (omega (arith, h)))
 
 -- places differ
 pub place_one : (i j : ℕ) → place_of i ≡ place_of j → i ≡ j
@@ -95,7 +95,7 @@ module _ (forest : Forest) (structs : Structs) (lattice : NamedOrder) (sketches 
 
   -- a function is found by its number
   called_at : (i : ℕ) → i < length decls.functions → function_of decls (get_or decls.functions i no_function).number ≡ Some (get_or decls.functions i no_function)
-  called_at i less = find_rising no_function decls.functions i less (λ j h.
+  called_at i less = find_ascending no_function decls.functions i less (λ j h.
       let pairs = AllPairs-from_increasing (function_numbers decls.functions) good.functions_rise j i 0 h (subst (λ n. i < n) (sym (length-map decls.functions (λ (f : CFunction). f.number))) less) in
       subst (λ a. a < (get_or decls.functions i no_function).number) (number_at j (omega (arith, h, less)))
       (subst (λ b. get_or (function_numbers decls.functions) j 0 < b) (number_at i less) pairs))

@@ -18,11 +18,11 @@ use Rattle.rt_cdecl.specs.declared.declarations.Decls.{Decls}
 use Rattle.rt_cdecl.specs.Types.{IsField, IsType, IsTypedef}
 use Rattle.rt_cdecl.specs.Lines.{HaveSame}
 use Rattle.rt_cdecl.specs.Rows.{typedef_text}
-use Rattle.rt_cdecl.specs.GoodDecls.{AreRising, IsArgument, IsFunction, IsGoodDecls, IsStruct, arg_types, function_numbers, function_types, named_types, result_types, struct_numbers, struct_types, used_types}
-use Rattle.rt_header.specs.Built.{Forest, HasMore, IsForest, IsFunctionBuilt, IsMaking, Structs}
-use Rattle.rt_header.specs.Whole.{AreDeclared, AreWhole, HasTypedefs, function_at}
+use Rattle.rt_cdecl.specs.GoodDecls.{AreAscending, IsArgument, IsFunction, IsGoodDecls, IsStruct, arg_types, function_numbers, function_types, named_types, result_types, struct_numbers, struct_types, used_types}
+use Rattle.rt_header.specs.Inside.Built.{Forest, HasMore, IsForest, IsFunctionBuilt, IsMaking, Structs}
+use Rattle.rt_header.specs.Inside.Whole.{AreDeclared, AreWhole, HasTypedefs, function_at}
 use Rattle.rt_header.specs.Headers.{IsHeaderOf}
-use Rattle.rt_header.specs.Made.{AreMade, struct_at}
+use Rattle.rt_header.specs.Inside.Made.{AreMade, struct_at}
 use Rattle.rt_header.specs.Met.{AreMet, AreSearched, structs_of_function}
 use Rattle.rt_header.proofs.Growing.{function_more, good_function_more, more_chain, more_length}
 use Rattle.rt_header.proofs.Heading.{header_of}
@@ -188,7 +188,7 @@ typed_whole forest made functions are =
     functions are.good_functions)
 
 -- declarations with the types that were found
-pub with_typedefs : (types : List CType) (structs made : List CStruct) (functions declared : List CFunction) → All IsTypedef types → AreRising (map typedef_text types) →
+pub with_typedefs : (types : List CType) (structs made : List CStruct) (functions declared : List CFunction) → All IsTypedef types → AreAscending (map typedef_text types) →
     HaveSame types (used_types made declared) → made ≡ structs → declared ≡ functions → HasTypedefs (record { typedefs = types; structs = structs; functions = functions })
 with_typedefs types structs made functions declared each rise exact same_structs same_functions = record {
   each = each;

@@ -3,8 +3,8 @@ use Rattle.std.proofs.Common.{◌≡◌, ℕ, zero, suc, ◌+◌, ◌<◌, ◌�
 use Rattle.std.proofs.lemmas.Bool.{cases_eq}
 use Rattle.std.proofs.lemmas.List.{get_or_append_left, get_or_push, length-set, get_or-set_same, get_or-set_other}
 use Rattle.rt_tree.specs.Trees.{Stand}
-use Rattle.rt_header.specs.Built.{Forest, Structs, HasMore, IsMaking, IsNodeOf, class_of, tree_of}
-use Rattle.rt_header.specs.Made.{IsNumberOf}
+use Rattle.rt_header.specs.Inside.Built.{Forest, Structs, HasMore, IsMaking, IsNodeOf, class_of, tree_of}
+use Rattle.rt_header.specs.Inside.Made.{IsNumberOf}
 
 -- the class of the struct of a number
 abbrev class_at : Forest → Structs → ℕ → ℕ

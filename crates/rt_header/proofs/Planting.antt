@@ -13,8 +13,8 @@ use Rattle.rt_tree.proofs.Words.{node_of, marked}
 use Rattle.rt_tree.proofs.Alike.{at_node}
 use Rattle.rt_erase.specs.declared.extremes.Extremes.{Extremes}
 use Rattle.rt_erase.specs.Erasures.{Erased, AreExtremes, HasNames, HasErased, HasNamesAt, HasGrown}
-use Rattle.rt_header.specs.Built.{Forest, IsForest, IsNodeOf, class_of}
-use Rattle.rt_header.specs.Made.{IsErased, AreErased}
+use Rattle.rt_header.specs.Inside.Built.{Forest, IsForest, IsNodeOf, class_of}
+use Rattle.rt_header.specs.Inside.Made.{IsErased, AreErased}
 
 -- the marks of each node are names where the marks of each word are, since words lead to each node
 pub names_at : (count : ℕ) (tree : Nodes) → IsReachedTree tree → HasMarksBelow count tree → HasNamesAt count tree

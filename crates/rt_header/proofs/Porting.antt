@@ -14,7 +14,7 @@ use Rattle.rt_lines.specs.Equality.{label_eq}
 use Rattle.rt_lines.specs.contracts.label.LabelEq.TheImpl.Laws as label_laws
 use Rattle.rt_lines.proofs.Equal.{label_equal}
 use Rattle.rt_cdecl.specs.GoodDecls.{place_of}
-use Rattle.rt_header.specs.Ports.{AreArguments, IsNoted, argument_in, index_of}
+use Rattle.rt_header.specs.Inside.Ports.{AreArguments, IsNoted, argument_in, index_of}
 use Rattle.rt_header.proofs.Heading.{place_one}
 use Rattle.rt_base.proofs.Options.{option_or-none}
 use Rattle.rt_lines.proofs.Same.{label_self}

@@ -4,8 +4,8 @@ use Rattle.std.proofs.lemmas.List.{get_or_append_left, get_or_push}
 use Rattle.rt_tree.specs.Trees.{Stand}
 use Rattle.rt_cdecl.specs.declared.declarations.CStruct.{CStruct}
 use Rattle.rt_cdecl.specs.GoodDecls.{IsStruct}
-use Rattle.rt_header.specs.Built.{Forest, Structs, HasMore, IsStructBuilt}
-use Rattle.rt_header.specs.Made.{struct_at, AreMade, AreSearchedTo, HasSearched}
+use Rattle.rt_header.specs.Inside.Built.{Forest, Structs, HasMore, IsStructBuilt}
+use Rattle.rt_header.specs.Inside.Made.{struct_at, AreMade, AreSearchedTo, HasSearched}
 use Rattle.rt_header.specs.Met.{AreSearched, structs_of_fields}
 use Rattle.rt_header.proofs.Growing.{more_length, made_more}
 

@@ -36,7 +36,7 @@ use Rattle.rt_cdecl.specs.GoodDecls.{place_of}
 use Rattle.rt_cdecl.specs.HeaderWords.{Letter, Pointee, At, HeaderWord, OfType, OfStruct, field_in, function_of, is_field, port_type, present, scalar_of, struct_of, word_in}
 use Rattle.rt_cdecl.specs.HeaderWords.{Spot as Told, after as told_after, after_all as told_all}
 use Rattle.rt_header.specs.Erased.{Spot, OfValue, OfPointee, after, after_all, port_spot, value_of, scalar_of as erased_scalar, word_in as erased_word}
-use Rattle.rt_header.specs.Built.{Forest, Structs, IsForest, IsNodeOf, IsStructOf, IsTypeOf, AreFieldsOf, IsPortOf, IsFunctionBuilt, AreBuilt, class_of, tree_of, pointer, scalar, used, unused}
+use Rattle.rt_header.specs.Inside.Built.{Forest, Structs, IsForest, IsNodeOf, IsStructOf, IsTypeOf, AreFieldsOf, IsPortOf, IsFunctionBuilt, AreBuilt, class_of, tree_of, pointer, scalar, used, unused}
 use Rattle.rt_base.proofs.Lists.{All-at}
 use Rattle.rt_base.proofs.Numbers.{apart}
 use Rattle.rt_header.proofs.Fields.{type_bits}

@@ -23,9 +23,9 @@ use Rattle.rt_cdecl.specs.declared.declarations.CType.TheVariants.{Unused, Scala
 use Rattle.rt_cdecl.specs.declared.declarations.CFunction.{CFunction}
 use Rattle.rt_cdecl.specs.Types.{IsPresent, IsWide}
 use Rattle.rt_cdecl.specs.GoodDecls.{AreArgs, ArePlaced, IsArgument, IsFunction, IsLastPresent, LeadsBelow, arg_types, place_of}
-use Rattle.rt_header.specs.Built.{Forest, HasMore, IsForest, IsFunctionBuilt, IsNodeOf, IsPortOf, IsTypeOf, Structs, tree_of, used, unused}
+use Rattle.rt_header.specs.Inside.Built.{Forest, HasMore, IsForest, IsFunctionBuilt, IsNodeOf, IsPortOf, IsTypeOf, Structs, tree_of, used, unused}
 use Rattle.rt_header.specs.Met.{struct_in, structs_of_function}
-use Rattle.rt_header.specs.Ports.{AreArguments, AreNodesOf, AreTyped, IsPortType, argument_in, index_of, no_argument, structs_of_arguments}
+use Rattle.rt_header.specs.Inside.Ports.{AreArguments, AreNodesOf, AreTyped, IsPortType, argument_in, index_of, no_argument, structs_of_arguments}
 use Rattle.rt_header.proofs.Growing.{leads_more, more_length, port_more, stand_append, type_more}
 use Rattle.rt_header.proofs.Porting.{place_index}
 

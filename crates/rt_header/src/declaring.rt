@@ -6,7 +6,7 @@ ghost use Rattle.rt_sketch.specs.Sketches.{HasMarksBelow};
 ghost use Rattle.rt_tree.specs.Trees.{Nodes};
 ghost use Rattle.rt_cdecl.specs.GoodDecls.{IsGoodDecls, function_numbers, used_types};
 ghost use Rattle.rt_cdecl.specs.Types.{IsTypedef};
-ghost use Rattle.rt_header.specs.Whole.{AreDeclared, AreWhole, HasTypedefs};
+ghost use Rattle.rt_header.specs.Inside.Whole.{AreDeclared, AreWhole, HasTypedefs};
 ghost use Rattle.rt_header.specs.Headers.{IsHeaderOf};
 
 use crate::forest::Forest;
@@ -91,10 +91,10 @@ fn decls_of(alloc: Global, parts: Parts) -> Result<Decls, Memory>
 }
 
 /// The declarations of procedures by their sketches. Structs are numbered as they are first met: breadth first from the
-/// arguments and then the results of each procedure, procedures in their order, fields by offset. The error is want of
+/// arguments and then the results of each procedure, procedures in their order, fields by offset. The error is out of
 /// memory, or of numbers of 32 bits.
 pub fn header(alloc: Global, sketches: &Sketches, lattice: &Lattice) -> Result<Decls, Memory>
-    requires rising { IsStrictlyIncreasing (map (λ (s : ℕ × Nodes). s.0) sketches.now) }
+    requires ascending { IsStrictlyIncreasing (map (λ (s : ℕ × Nodes). s.0) sketches.now) }
     requires marks { All (λ (s : ℕ × Nodes). HasMarksBelow (size_of lattice.now) s.1) sketches.now }
     ensures good { IfOk result IsGoodDecls }
     ensures header { IfOk result (IsHeaderOf lattice.now sketches.now) }

@@ -7,8 +7,8 @@ ghost use Rattle.rt_sketch.specs.Sketches.{HasMarksBelow};
 ghost use Rattle.rt_tree.specs.Trees.{Nodes, node_at};
 ghost use Rattle.rt_erase.specs.Erasures.{AreExtremes, HasGrown};
 ghost use Rattle.rt_erase.specs.Rows.{scalar_number};
-ghost use Rattle.rt_header.specs.Built.{IsForest, IsNodeOf, class_of, tree_of};
-ghost use Rattle.rt_header.specs.Made.{AreErased, IsErased};
+ghost use Rattle.rt_header.specs.Inside.Built.{IsForest, IsNodeOf, class_of, tree_of};
+ghost use Rattle.rt_header.specs.Inside.Made.{AreErased, IsErased};
 
 use crate::declaring::Sketches;
 use rt_base::Memory;
@@ -32,7 +32,7 @@ pub(crate) struct Forest<'a> {
 impl<'a> Model for Forest<'a> {
     ghost use Rattle.std.specs.Prelude.{ℕ, map};
     ghost use Rattle.rt_tree.specs.Trees.{Nodes};
-    ghost use Rattle.rt_header.specs.Built.{Forest as Trees, IsForest};
+    ghost use Rattle.rt_header.specs.Inside.Built.{Forest as Trees, IsForest};
 
     ghost Value = { Trees };
 
@@ -93,7 +93,7 @@ fn add_all(alloc: Global, erasure: &mut Erasure, sketches: &Sketches) -> Result<
 }
 
 impl<'a> Forest<'a> {
-    // The forest of sketches with the names of a lattice. The error is want of memory.
+    // The forest of sketches with the names of a lattice. The error is out of memory.
     pub(crate) fn of(
         alloc: Global,
         sketches: &'a Sketches,

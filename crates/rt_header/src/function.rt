@@ -3,9 +3,9 @@ ghost use Rattle.std.specs.Prelude.{◌≡◌, ◌<◌, ◌≤◌, IfOk, IfSome,
 ghost use Rattle.rt_tree.specs.Trees.{Stand};
 ghost use Rattle.rt_cdecl.specs.Types.{IsWide};
 ghost use Rattle.rt_cdecl.specs.GoodDecls.{IsFunction, LeadsBelow, place_of};
-ghost use Rattle.rt_header.specs.Built.{HasMore, IsFunctionBuilt, IsMaking, IsNodeOf};
+ghost use Rattle.rt_header.specs.Inside.Built.{HasMore, IsFunctionBuilt, IsMaking, IsNodeOf};
 ghost use Rattle.rt_header.specs.Met.{struct_in, structs_of_function};
-ghost use Rattle.rt_header.specs.Ports.{AreNodesOf, AreTyped, IsPortType, structs_of_arguments};
+ghost use Rattle.rt_header.specs.Inside.Ports.{AreNodesOf, AreTyped, IsPortType, structs_of_arguments};
 
 use crate::forest::Forest;
 use crate::making::Making;

@@ -3,8 +3,8 @@ ghost use Rattle.std.specs.Prelude.{◌≡◌, ◌<◌, [], MatchOption, IfOk, O
 ghost use Rattle.rt_tree.specs.Trees.{Stand, node_at};
 ghost use Rattle.rt_erase.specs.Rows.{is_pointer, scalar_number};
 ghost use Rattle.rt_cdecl.specs.Types.{IsPresent, IsType, IsWidth, bits_of};
-ghost use Rattle.rt_header.specs.Built.{HasMore, IsMaking, IsNodeOf, IsTypeOf, tree_of};
-ghost use Rattle.rt_header.specs.Made.{IsNumberOf, IsPointee};
+ghost use Rattle.rt_header.specs.Inside.Built.{HasMore, IsMaking, IsNodeOf, IsTypeOf, tree_of};
+ghost use Rattle.rt_header.specs.Inside.Made.{IsNumberOf, IsPointee};
 ghost use Rattle.rt_header.specs.Met.{struct_in};
 
 use crate::forest::Forest;

@@ -7,7 +7,7 @@ ghost use Rattle.rt_lines.specs.declared.label.Label.TheVariants.{Out};
 ghost use Rattle.rt_lines.specs.Equality.{label_eq};
 ghost use Rattle.rt_lines.specs.Words.{IsLabel, IsLoc};
 ghost use Rattle.rt_tree.specs.Trees.{IsEdge};
-ghost use Rattle.rt_header.specs.Ports.{AreArguments, IsNoted, index_of};
+ghost use Rattle.rt_header.specs.Inside.Ports.{AreArguments, IsNoted, index_of};
 
 use rt_base::Memory;
 use rt_lines::{Label, Loc};

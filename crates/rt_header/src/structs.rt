@@ -5,8 +5,8 @@ ghost use Rattle.rt_cdecl.specs.declared.declarations.CStruct.{CStruct};
 ghost use Rattle.rt_cdecl.specs.GoodDecls.{IsStruct};
 ghost use Rattle.rt_cdecl.specs.Types.{IsField};
 ghost use Rattle.rt_erase.specs.Rows.{IsRow};
-ghost use Rattle.rt_header.specs.Built.{AreFieldsOf, HasMore, IsMaking, IsStructBuilt, tree_of};
-ghost use Rattle.rt_header.specs.Made.{AreMade};
+ghost use Rattle.rt_header.specs.Inside.Built.{AreFieldsOf, HasMore, IsMaking, IsStructBuilt, tree_of};
+ghost use Rattle.rt_header.specs.Inside.Made.{AreMade};
 ghost use Rattle.rt_header.specs.Met.{AreSearched, structs_of_fields};
 
 use crate::forest::Forest;

@@ -1,6 +1,6 @@
 use Rattle.std.proofs.Common.{◌≡◌, ℕ, Some}
 use Rattle.rt_insn.specs.Table.{IsCode}
-use Rattle.rt_insn.specs.Reading.{jalr_of, branch_of, load_of, store_of, shift_imm_of, op_imm_of, op_of, fence_of, system_of, insn_of}
+use Rattle.rt_insn.specs.Inside.Reading.{jalr_of, branch_of, load_of, store_of, shift_imm_of, op_imm_of, op_of, fence_of, system_of, insn_of}
 use Rattle.rt_insn.specs.declared.insn.Insn.{Insn}
 use Rattle.rt_insn.specs.declared.insn.Insn.TheVariants.{Lui, Auipc, Jal, Jalr, Beq, Bne, Blt, Bge, Bltu, Bgeu, Lb, Lh, Lw, Lbu, Lhu, Sb, Sh, Sw, Addi, Slti, Sltiu, Xori, Ori, Andi, Slli, Srli, Srai, Add, Sub, Sll, Slt, Sltu, Xor, Srl, Sra, Or, And, Mul, Mulh, Mulhsu, Mulhu, Div, Divu, Rem, Remu, Fence, Ecall, Ebreak}
 

@@ -2,4 +2,4 @@ pub mod Word
 pub mod Format
 pub mod Table
 pub mod Range
-pub mod Reading
+pub mod Inside

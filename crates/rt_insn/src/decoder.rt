@@ -2,8 +2,8 @@ ghost use Rattle.std.specs.Prelude.{◌≡◌, ◌↔◌, IfSome, IsNone};
 ghost use Rattle.rt_insn.specs.Word.{field};
 ghost use Rattle.rt_insn.specs.Table.{IsCode};
 ghost use Rattle.rt_insn.specs.Range.{HasRange};
-ghost use Rattle.rt_insn.specs.Reading.{jalr_of, branch_of, load_of, store_of, op_imm_of};
-ghost use Rattle.rt_insn.specs.Reading.{shift_imm_of, op_of, fence_of, system_of, insn_of};
+ghost use Rattle.rt_insn.specs.Inside.Reading.{jalr_of, branch_of, load_of, store_of, op_imm_of};
+ghost use Rattle.rt_insn.specs.Inside.Reading.{shift_imm_of, op_of, fence_of, system_of, insn_of};
 ghost use Rattle.rt_insn.specs.declared.insn.Insn.{Insn};
 
 use crate::fields::{funct3, funct7, opcode, rd, rs1, rs2};
@@ -22,7 +22,7 @@ pub fn decode(word: u32) -> Option<Insn>
     by_opcode(word)
 }
 
-#[tactic(auto, unfolding(crate::specs::Reading::insn_of))]
+#[tactic(auto, unfolding(crate::specs::Inside::Reading::insn_of))]
 fn by_opcode(word: u32) -> Option<Insn>
     ensures found { IfSome result (IsCode word) }
     ensures exact { result ≡ insn_of word }
@@ -43,7 +43,7 @@ fn by_opcode(word: u32) -> Option<Insn>
     }
 }
 
-#[tactic(auto, unfolding(crate::specs::Reading::jalr_of))]
+#[tactic(auto, unfolding(crate::specs::Inside::Reading::jalr_of))]
 fn jalr(word: u32) -> Option<Insn>
     requires { field word 0 7 ≡ 0x67 }
     ensures found { IfSome result (IsCode word) }
@@ -55,7 +55,7 @@ fn jalr(word: u32) -> Option<Insn>
     Some(Insn::Jalr(rd(word), rs1(word), immediates::of_i(word)))
 }
 
-#[tactic(auto, unfolding(crate::specs::Reading::branch_of))]
+#[tactic(auto, unfolding(crate::specs::Inside::Reading::branch_of))]
 fn branch(word: u32) -> Option<Insn>
     requires { field word 0 7 ≡ 0x63 }
     ensures found { IfSome result (IsCode word) }
@@ -73,7 +73,7 @@ fn branch(word: u32) -> Option<Insn>
     }
 }
 
-#[tactic(auto, unfolding(crate::specs::Reading::load_of))]
+#[tactic(auto, unfolding(crate::specs::Inside::Reading::load_of))]
 fn load(word: u32) -> Option<Insn>
     requires { field word 0 7 ≡ 0x03 }
     ensures found { IfSome result (IsCode word) }
@@ -90,7 +90,7 @@ fn load(word: u32) -> Option<Insn>
     }
 }
 
-#[tactic(auto, unfolding(crate::specs::Reading::store_of))]
+#[tactic(auto, unfolding(crate::specs::Inside::Reading::store_of))]
 fn store(word: u32) -> Option<Insn>
     requires { field word 0 7 ≡ 0x23 }
     ensures found { IfSome result (IsCode word) }
@@ -105,7 +105,7 @@ fn store(word: u32) -> Option<Insn>
     }
 }
 
-#[tactic(auto, unfolding(crate::specs::Reading::op_imm_of))]
+#[tactic(auto, unfolding(crate::specs::Inside::Reading::op_imm_of))]
 fn op_imm(word: u32) -> Option<Insn>
     requires { field word 0 7 ≡ 0x13 }
     ensures found { IfSome result (IsCode word) }
@@ -123,7 +123,7 @@ fn op_imm(word: u32) -> Option<Insn>
     }
 }
 
-#[tactic(auto, unfolding(crate::specs::Reading::shift_imm_of))]
+#[tactic(auto, unfolding(crate::specs::Inside::Reading::shift_imm_of))]
 fn shift_imm(word: u32) -> Option<Insn>
     requires { field word 0 7 ≡ 0x13 }
     ensures found { IfSome result (IsCode word) }
@@ -138,7 +138,7 @@ fn shift_imm(word: u32) -> Option<Insn>
     }
 }
 
-#[tactic(auto, unfolding(crate::specs::Reading::op_of))]
+#[tactic(auto, unfolding(crate::specs::Inside::Reading::op_of))]
 fn op(word: u32) -> Option<Insn>
     requires { field word 0 7 ≡ 0x33 }
     ensures found { IfSome result (IsCode word) }
@@ -168,7 +168,7 @@ fn op(word: u32) -> Option<Insn>
     }
 }
 
-#[tactic(auto, unfolding(crate::specs::Reading::fence_of))]
+#[tactic(auto, unfolding(crate::specs::Inside::Reading::fence_of))]
 fn fence(word: u32) -> Option<Insn>
     requires { field word 0 7 ≡ 0x0f }
     ensures found { IfSome result (IsCode word) }
@@ -181,7 +181,7 @@ fn fence(word: u32) -> Option<Insn>
     Some(Insn::Fence(word >> 7 << 7))
 }
 
-#[tactic(auto, unfolding(crate::specs::Reading::system_of))]
+#[tactic(auto, unfolding(crate::specs::Inside::Reading::system_of))]
 fn system(word: u32) -> Option<Insn>
     requires { field word 0 7 ≡ 0x73 }
     ensures found { IfSome result (IsCode word) }

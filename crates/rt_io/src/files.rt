@@ -17,7 +17,7 @@ pub enum FileFault {
 
 /// Files by name.
 pub trait Files {
-    /// What the name holds, where it is told.
+    /// What the name holds, where it is said.
     ghost content: { Self → List ℕ → Option (List ℕ) };
 
     /// How often reads of the name have failed. A missing file counts.

@@ -12,7 +12,7 @@ pub enum SinkFault {
 
 /// What takes a text in pieces.
 pub trait Sink {
-    /// What was written, where it is told.
+    /// What was written, where it is said.
     ghost written: { Self → Option (List ℕ) };
 
     /// How often puts have failed.

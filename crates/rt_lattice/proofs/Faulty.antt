@@ -34,7 +34,7 @@ unknown_fault file (NoJoin first second) h m = absurd h
 unknown_fault file (NoRole role) h m = absurd h
 unknown_fault file TooMany h m = absurd h
 
--- an error that isn't want of memory is the fault
+-- an error that isn't out of memory is the fault
 pub fault_is : (found : Option LatFault) (fault : LatFault) → IsFaultOf found fault → fault ≢ Memory → found ≡ Some fault
 fault_is found Memory h m = absurd (m refl)
 fault_is found (Unknown name) h m = h

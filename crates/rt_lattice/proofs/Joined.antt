@@ -3,7 +3,7 @@ use Rattle.std.proofs.Common.{ℕ, ◌+◌, ◌*◌, ◌<◌, ◌≤◌, inl, in
 use Rattle.std.proofs.lemmas.Bool.{cases_lt, cases_eq}
 use Rattle.std.proofs.lemmas.Nat.{mul-add-lt}
 use Rattle.rt_lattice.specs.Bounds.{IsLeastUpper, HaveJoin, Precedes, IsFirstWithoutJoin}
-use Rattle.rt_lattice.specs.Searches.{IsLowUpper, IsBelowUppers}
+use Rattle.rt_lattice.specs.Inside.Searches.{IsLowUpper, IsBelowUppers}
 
 -- the relation is transitive below the count
 abbrev pub Chains : (ℕ → ℕ → Type 0) → ℕ → Type 0

@@ -1,7 +1,7 @@
 -- Greatest lower bounds in a relation that is transitive below a count.
 use Rattle.std.proofs.Common.{ℕ, ◌+◌, ◌<◌, ◌≤◌, arith, below_more}
 use Rattle.rt_lattice.specs.Bounds.{IsLeastUpper, IsGreatestLower}
-use Rattle.rt_lattice.specs.Searches.{IsHighLower}
+use Rattle.rt_lattice.specs.Inside.Searches.{IsHighLower}
 use Rattle.rt_lattice.proofs.Joined.{Chains}
 
 pub high_begins : (R : ℕ → ℕ → Type 0) (n a b bottom : ℕ) → bottom < n → R bottom a → R bottom b → IsHighLower R n a b 0 bottom

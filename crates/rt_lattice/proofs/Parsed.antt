@@ -70,7 +70,7 @@ no_standard_fault _ utf8 (is_of_file table file fault is form says h) =
     let same : file ≡ standard_file = one_file table file standard_file says (says_standard table is) in
     no_file_fault standard_file fault known standard_order told_roles (subst (λ (f : File). IsFileFault f fault) same h)
 
--- a fault of the text can only be want of memory
+-- a fault of the text can only be out of memory
 pub only_memory : (fault : LatFault) → IsUtf8 text → (fault ≢ Memory → IsFirstFault text fault) → fault ≡ Memory
 only_memory fault utf8 may =
     elim (is_memory fault) [

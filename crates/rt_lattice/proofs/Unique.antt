@@ -181,7 +181,7 @@ no_fault text lattice _ says (is_of_file n file f table form tells p) =
     (record { no_cycle = no_cycle_from (IsUnderIn says.file) (length says.file.names) are.antisymmetric; top = are.top; bottom = are.bottom; joins = are.joins })
     (no_missing says.file are.roles) (subst (λ x. IsFileFault x f) same p)
 
--- an error is the one first fault, or want of memory
+-- an error is the one first fault, or out of memory
 pub exact_error : (text : List ℕ) (result : Result NamedOrder LatFault) (f g : LatFault) → result ≡ Err f → (f ≢ Memory → IsFirstFault text f) → IsFirstFault text g
     → (result ≡ Err g) ⊎ (result ≡ Err Memory)
 exact_error text result f g is may p =

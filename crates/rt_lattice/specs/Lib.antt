@@ -1,6 +1,5 @@
 pub mod Roles
 pub mod Bounds
-pub mod Searches
 pub mod Spelling
 pub mod Files
 pub mod Closures
@@ -8,3 +7,4 @@ pub mod Grids
 pub mod Lattices
 pub mod Faults
 pub mod Standard
+pub mod Inside

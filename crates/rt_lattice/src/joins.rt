@@ -3,7 +3,7 @@ ghost use Rattle.std.specs.Prelude.{◌≡◌, ◌↔◌, ◌+◌, ◌<◌, IsTr
 ghost use Rattle.rt_lines.specs.Orders.{IsAtOrBelow};
 ghost use Rattle.rt_lines.specs.OrderFacts.{IsTransitive};
 ghost use Rattle.rt_lattice.specs.Bounds.{IsTop, IsLeastUpper, HaveJoin, IsFirstWithoutJoin};
-ghost use Rattle.rt_lattice.specs.Searches.{IsLowUpper, IsBelowUppers};
+ghost use Rattle.rt_lattice.specs.Inside.Searches.{IsLowUpper, IsBelowUppers};
 ghost use Rattle.rt_lattice.specs.Faults.{IsJoinFault};
 ghost use Rattle.rt_lattice.specs.Grids.{IsFilledTo};
 

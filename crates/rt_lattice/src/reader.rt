@@ -34,7 +34,7 @@ fn table_of(alloc: Global, text: &[u8]) -> Result<Table, LatFault>
     }
 }
 
-/// The lattice that a file says. A fault is the first one of the text, in the order of [`LatFault`]; want of memory may
+/// The lattice that a file says. A fault is the first one of the text, in the order of [`LatFault`]; out of memory may
 /// come in its place.
 ///
 /// There are at most 256 names. Time is at most cubic in their number, and for each pair of `below` at most square.

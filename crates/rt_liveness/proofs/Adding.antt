@@ -7,7 +7,7 @@ use Rattle.std.proofs.lemmas.List.Elements.{Contains-append_left, Contains-push,
 use Rattle.std.proofs.lemmas.Option.{slice_get-get_or, slice_get_within, get_or_from_slice_get}
 use Rattle.indexmap.specs.IndexSet.{insert_key}
 use Rattle.indexmap.proofs.CallerLemmas.{Contains-insert_key}
-use Rattle.rt_liveness.specs.Additions.{Adds}
+use Rattle.rt_liveness.specs.Inside.Additions.{Adds}
 use Rattle.rt_base.proofs.Lists.{Contains-none}
 
 cases_bool : (b : Bool) → (b ≡ true) ⊎ (b ≡ Bool.false)

@@ -23,12 +23,12 @@ use Rattle.rt_sigs.specs.Signatures.{Signature}
 use Rattle.rt_liveness.specs.declared.call.Call.{Call}
 use Rattle.rt_liveness.specs.declared.interface.Interface.{Interface}
 use Rattle.rt_liveness.specs.Calls.{takes_register, gives_result, IsPlainJump, IsCallOf, AreCallsAt, AreCallsIn, AreCallsOf, HasCalleeRegister, HasCallRegister}
-use Rattle.rt_liveness.specs.Closures.{is_met}
-use Rattle.rt_liveness.specs.Conditions.{when_given, when_taken}
-use Rattle.rt_liveness.specs.Found.{IsCallFound, IsSiteFound, IsProcFound, AreCallsFoundAt, AreCallsFoundIn, AreCallsFound}
+use Rattle.rt_liveness.specs.Inside.Closures.{is_met}
+use Rattle.rt_liveness.specs.Inside.Conditions.{when_given, when_taken}
+use Rattle.rt_liveness.specs.Inside.Found.{IsCallFound, IsSiteFound, IsProcFound, AreCallsFoundAt, AreCallsFoundIn, AreCallsFound}
 use Rattle.rt_liveness.specs.Gives.{Gives}
-use Rattle.rt_liveness.specs.GivesRules.{IsProcedure}
-use Rattle.rt_liveness.specs.Interfaces.{IsInterface}
+use Rattle.rt_liveness.specs.Inside.GivesRules.{IsProcedure}
+use Rattle.rt_liveness.specs.Inside.Interfaces.{IsInterface}
 use Rattle.rt_liveness.specs.Programs.{Program, IsProgram, callees_of}
 use Rattle.rt_liveness.specs.Takes.{Taker, Takes, is_argument}
 use Rattle.rt_liveness.specs.Told.{program_of}

@@ -13,7 +13,7 @@ use Rattle.rt_body.specs.Symbols.{symbol_of}
 use Rattle.rt_sigs.specs.Signatures.{Signature, signature_of, args_of}
 use Rattle.rt_liveness.specs.declared.named.Named.{Named}
 use Rattle.rt_liveness.specs.Ends.{is_end, ends_of}
-use Rattle.rt_liveness.specs.Signed.{IsNamedBy}
+use Rattle.rt_liveness.specs.Inside.Signed.{IsNamedBy}
 use Rattle.std.proofs.lemmas.Bool.{cases_Bool}
 
 module _ (object : Object) (signatures : List Signature) where

@@ -11,8 +11,8 @@ use Rattle.rt_liveness.specs.declared.rule.Port.{Port}
 use Rattle.rt_liveness.specs.declared.rule.Rule.{Rule}
 use Rattle.rt_liveness.specs.declared.rule.When.{When}
 use Rattle.rt_liveness.specs.declared.rule.When.TheVariants.{Never, Always, If}
-use Rattle.rt_liveness.specs.Additions.{Adds}
-use Rattle.rt_liveness.specs.Closures.{port_eq, Says, IsSaid, IsPremise, Follows, rules_at}
+use Rattle.rt_liveness.specs.Inside.Additions.{Adds}
+use Rattle.rt_liveness.specs.Inside.Closures.{port_eq, Says, IsSaid, IsPremise, Follows, rules_at}
 use Rattle.rt_liveness.proofs.Adding.{found_at, kept, nothing, alike, pushed, inserted, from_none}
 use Rattle.rt_base.proofs.Lists.{Contains-none}
 

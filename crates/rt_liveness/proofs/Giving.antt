@@ -27,13 +27,13 @@ use Rattle.rt_liveness.specs.declared.rule.Port.{Port}
 use Rattle.rt_liveness.specs.declared.rule.Rule.{Rule}
 use Rattle.rt_liveness.specs.declared.rule.When.{When}
 use Rattle.rt_liveness.specs.declared.rule.When.TheVariants.{Never, Always, If}
-use Rattle.rt_liveness.specs.Closures.{Follows}
-use Rattle.rt_liveness.specs.Conditions.{port_of, gives_named, gives_of, when_given, when_written, when_true}
+use Rattle.rt_liveness.specs.Inside.Closures.{Follows}
+use Rattle.rt_liveness.specs.Inside.Conditions.{port_of, gives_named, gives_of, when_given, when_written, when_true}
 use Rattle.rt_liveness.specs.Gives.{Gives, ReachesReturn}
-use Rattle.rt_liveness.specs.GivesRules.{IsWriterRule, AreWriterRules, AreReturnRules, AreTailRules, AreSiteRules, AreGivesRules, AreAllRules, IsProcedure}
-use Rattle.rt_liveness.specs.Interfaces.{IsClosure}
+use Rattle.rt_liveness.specs.Inside.GivesRules.{IsWriterRule, AreWriterRules, AreReturnRules, AreTailRules, AreSiteRules, AreGivesRules, AreAllRules, IsProcedure}
+use Rattle.rt_liveness.specs.Inside.Interfaces.{IsClosure}
 use Rattle.rt_liveness.specs.Programs.{Program, IsSiteOf, is_call, signature_at, IsSigned}
-use Rattle.rt_liveness.specs.Signed.{AreNamed, names_result}
+use Rattle.rt_liveness.specs.Inside.Signed.{AreNamed, names_result}
 use Rattle.rt_liveness.specs.Told.{program_of}
 use Rattle.rt_liveness.proofs.Adding.{found_at}
 use Rattle.rt_liveness.proofs.Meeting.{Holds, holds_of, met, holds_true, true_holds}

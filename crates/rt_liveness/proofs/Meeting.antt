@@ -11,8 +11,8 @@ use Rattle.rt_proc.specs.declared.site.Kind.TheVariants as kind
 use Rattle.rt_liveness.specs.declared.rule.Port.{Port}
 use Rattle.rt_liveness.specs.declared.rule.When.{When}
 use Rattle.rt_liveness.specs.declared.rule.When.TheVariants.{Never, Always, If}
-use Rattle.rt_liveness.specs.Closures.{port_eq, is_met}
-use Rattle.rt_liveness.specs.Conditions.{is_among, is_return, when_true}
+use Rattle.rt_liveness.specs.Inside.Closures.{port_eq, is_met}
+use Rattle.rt_liveness.specs.Inside.Conditions.{is_among, is_return, when_true}
 use Rattle.rt_liveness.proofs.Following.{one_port}
 
 module _ {X : Type 0} (p : X → Bool) where

@@ -4,7 +4,7 @@ use Rattle.std.proofs.lemmas.Bool.{cases_lt}
 use Rattle.std.proofs.lemmas.List.{get_or_append_left, length_push}
 use Rattle.std.proofs.lemmas.Option.{slice_get-get_or, slice_get_within, get_or_from_slice_get}
 use Rattle.std.proofs.Math.Seq.{get_or-append_seam}
-use Rattle.rt_liveness.specs.Found.{ArePaired}
+use Rattle.rt_liveness.specs.Inside.Found.{ArePaired}
 
 module _ {X Y : Type 0} (P : ℕ → X → Y → Type 0) (firsts : List X) where
   pub no_pair : (seconds : List Y) → seconds ≡ [] → ArePaired P firsts 0 seconds

@@ -5,7 +5,7 @@ use Rattle.std.proofs.lemmas.Bool.Decides.{Decides-int_eq}
 use Rattle.rt_insn.specs.Table.{IsCode}
 use Rattle.rt_insn.specs.declared.insn.Insn.{Insn}
 use Rattle.rt_insn.specs.declared.insn.Insn.TheVariants.{Jalr}
-use Rattle.rt_liveness.specs.Found.{is_plain_insn}
+use Rattle.rt_liveness.specs.Inside.Found.{is_plain_insn}
 
 plain_is : (insn : Insn) → is_plain_insn insn ≡ true → (link : ℕ) × (register : ℕ) × (insn ≡ Jalr link register (pos 0))
 plain_is (Jalr link register offset) e = (link, register, ap (Jalr link register) ((Decides-int_eq offset (pos 0)).0 e))

@@ -10,9 +10,9 @@ use Rattle.rt_liveness.specs.declared.named.Named.{Named}
 use Rattle.rt_liveness.specs.declared.rule.Port.{Port}
 use Rattle.rt_liveness.specs.declared.rule.Rule.{Rule}
 use Rattle.rt_liveness.specs.declared.rule.When.{When}
-use Rattle.rt_liveness.specs.Additions.{Adds}
-use Rattle.rt_liveness.specs.Conditions.{port_of, when_written}
-use Rattle.rt_liveness.specs.GivesRules.{IsProcedure, IsWriterRule}
+use Rattle.rt_liveness.specs.Inside.Additions.{Adds}
+use Rattle.rt_liveness.specs.Inside.Conditions.{port_of, when_written}
+use Rattle.rt_liveness.specs.Inside.GivesRules.{IsProcedure, IsWriterRule}
 use Rattle.rt_liveness.proofs.Adding.{alike, nothing, pushed}
 
 -- one rule, of which the condition is known in other words

@@ -27,16 +27,16 @@ use Rattle.rt_liveness.specs.declared.rule.Port.{Port}
 use Rattle.rt_liveness.specs.declared.rule.Rule.{Rule}
 use Rattle.rt_liveness.specs.declared.rule.When.{When}
 use Rattle.rt_liveness.specs.declared.rule.When.TheVariants.{Never, Always, If}
-use Rattle.rt_liveness.specs.Closures.{Follows, is_met}
-use Rattle.rt_liveness.specs.Conditions.{port_of, begins_with_entry, is_among, is_own, is_own_at, is_real, is_real_at, is_return, returns_real, takes_named, takes_of, when_taken, when_written, when_true}
+use Rattle.rt_liveness.specs.Inside.Closures.{Follows, is_met}
+use Rattle.rt_liveness.specs.Inside.Conditions.{port_of, begins_with_entry, is_among, is_own, is_own_at, is_real, is_real_at, is_return, returns_real, takes_named, takes_of, when_taken, when_written, when_true}
 use Rattle.rt_liveness.specs.Gives.{Gives, HasReal, result_register}
-use Rattle.rt_liveness.specs.GivesRules.{IsProcedure, AreAllRules as AreGivesRules}
-use Rattle.rt_liveness.specs.Interfaces.{IsClosure}
+use Rattle.rt_liveness.specs.Inside.GivesRules.{IsProcedure, AreAllRules as AreGivesRules}
+use Rattle.rt_liveness.specs.Inside.Interfaces.{IsClosure}
 use Rattle.rt_liveness.specs.Programs.{Program, callees_of, called_by, is_call, signature_at, args_at}
 use Rattle.rt_liveness.specs.Reads.{reads_of}
-use Rattle.rt_liveness.specs.Signed.{AreNamed, names_argument, counts_argument}
+use Rattle.rt_liveness.specs.Inside.Signed.{AreNamed, names_argument, counts_argument}
 use Rattle.rt_liveness.specs.Takes.{Taker, Takes, ReachesSite, IsPassed, is_argument}
-use Rattle.rt_liveness.specs.TakesRules.{IsReadRule, AreTakenRules, AreRegisterRules, AreAllRules}
+use Rattle.rt_liveness.specs.Inside.TakesRules.{IsReadRule, AreTakenRules, AreRegisterRules, AreAllRules}
 use Rattle.rt_liveness.specs.Told.{program_of}
 use Rattle.rt_liveness.proofs.Giving.{KnownCallees, HasBody, site_of, body_of, same_proc, known_site, known_callee, written_own, found_given, given_found}
 use Rattle.rt_liveness.proofs.Meeting.{Holds, holds_of, met, holds_true, true_holds, any_some, some_any, among, return_kind}

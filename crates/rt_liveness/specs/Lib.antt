@@ -4,12 +4,5 @@ pub mod Gives
 pub mod Takes
 pub mod Calls
 pub mod Told
-pub mod Additions
-pub mod Closures
-pub mod Conditions
-pub mod Signed
-pub mod GivesRules
-pub mod TakesRules
-pub mod Interfaces
 pub mod Ends
-pub mod Found
+pub mod Inside

@@ -10,10 +10,10 @@ ghost use Rattle.rt_body.specs.declared.body.Body.{Body as TheBody};
 ghost use Rattle.rt_body.specs.Told.{reading_of, sites_in};
 ghost use Rattle.rt_liveness.specs.Programs.{IsProgram};
 ghost use Rattle.rt_liveness.specs.Calls.{AreCallsOf, HasCallRegister, IsPlainJump};
-ghost use Rattle.rt_liveness.specs.Closures.{is_met};
+ghost use Rattle.rt_liveness.specs.Inside.Closures.{is_met};
 ghost use Rattle.rt_liveness.specs.Ends.{ends_of};
-ghost use Rattle.rt_liveness.specs.Conditions.{when_taken};
-ghost use Rattle.rt_liveness.specs.Found.{is_plain_insn, IsCallFound, AreCallsFoundAt, AreCallsFoundIn, AreCallsFound};
+ghost use Rattle.rt_liveness.specs.Inside.Conditions.{when_taken};
+ghost use Rattle.rt_liveness.specs.Inside.Found.{is_plain_insn, IsCallFound, AreCallsFoundAt, AreCallsFoundIn, AreCallsFound};
 ghost use Rattle.rt_liveness.specs.Told.{program_of};
 
 use crate::call::{Call, Calls};

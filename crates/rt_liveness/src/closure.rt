@@ -2,8 +2,8 @@
 ghost use Rattle.std.specs.Prelude.{◌≡◌, ◌↔◌, ◌≤◌, ℕ, Contains, IfOk, OnOk, IsTrue, length};
 ghost use Rattle.rt_liveness.specs.declared.rule.Port.{Port};
 ghost use Rattle.rt_liveness.specs.declared.rule.Rule.{Rule};
-ghost use Rattle.rt_liveness.specs.Additions.{Adds};
-ghost use Rattle.rt_liveness.specs.Closures.{Says, IsSaid, Follows, is_met, IsPremise, rules_at};
+ghost use Rattle.rt_liveness.specs.Inside.Additions.{Adds};
+ghost use Rattle.rt_liveness.specs.Inside.Closures.{Says, IsSaid, Follows, is_met, IsPremise, rules_at};
 
 use crate::rule::{Port, Rule, When};
 use indexmap::IndexSet;
@@ -78,7 +78,7 @@ fn follow(found: &mut IndexSet<Port>, table: &[Sequence<Rule>], premise: Port) -
     }
 }
 
-/// What follows from rules. The error is want of memory.
+/// What follows from rules. The error is out of memory.
 ///
 /// Time and memory are linear in the rules.
 pub(crate) fn closure(alloc: Global, rules: &[Rule]) -> Result<IndexSet<Port>, Memory>

@@ -4,10 +4,10 @@ ghost use Rattle.rt_body.specs.declared.body.Body.{Body as TheBody};
 ghost use Rattle.rt_proc.specs.declared.proc.Proc.{Proc as TheProc};
 ghost use Rattle.rt_body.specs.Told.{reading_of, sites_in};
 ghost use Rattle.rt_liveness.specs.declared.rule.Rule.{Rule};
-ghost use Rattle.rt_liveness.specs.Additions.{Adds};
-ghost use Rattle.rt_liveness.specs.Conditions.{when_true, when_given, when_written};
-ghost use Rattle.rt_liveness.specs.GivesRules.{IsWriterRule, AreWriterRules, AreReturnRules, AreReturnedRules, AreCalleeRules};
-ghost use Rattle.rt_liveness.specs.GivesRules.{AreTailRules, AreSiteRules, AreGivesRules, AreAllRules};
+ghost use Rattle.rt_liveness.specs.Inside.Additions.{Adds};
+ghost use Rattle.rt_liveness.specs.Inside.Conditions.{when_true, when_given, when_written};
+ghost use Rattle.rt_liveness.specs.Inside.GivesRules.{IsWriterRule, AreWriterRules, AreReturnRules, AreReturnedRules, AreCalleeRules};
+ghost use Rattle.rt_liveness.specs.Inside.GivesRules.{AreTailRules, AreSiteRules, AreGivesRules, AreAllRules};
 
 use crate::named::{Named, is_given};
 use crate::procedure::Procedure;

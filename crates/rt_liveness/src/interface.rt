@@ -3,7 +3,7 @@ ghost use Rattle.std.specs.Prelude.{◌≡◌, ◌<◌, ℕ, IfOk, get_or, lengt
 ghost use Rattle.rt_proc.specs.declared.proc.Proc.{Proc as TheProc};
 ghost use Rattle.rt_body.specs.declared.body.Body.{Body as TheBody};
 ghost use Rattle.rt_body.specs.Told.{sites_in};
-ghost use Rattle.rt_liveness.specs.Interfaces.{IsInterface};
+ghost use Rattle.rt_liveness.specs.Inside.Interfaces.{IsInterface};
 
 use crate::closure::closure;
 use crate::gives::gives_rules;

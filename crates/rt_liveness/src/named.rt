@@ -4,8 +4,8 @@ ghost use Rattle.rt_lines.specs.declared.label.Loc.TheVariants.{Arg};
 ghost use Rattle.rt_lines.specs.declared.label.Label.TheVariants.{In, Out};
 ghost use Rattle.rt_scheme.specs.Ports.{names_label};
 ghost use Rattle.rt_sigs.specs.Signatures.{signature_of, args_of};
-ghost use Rattle.rt_liveness.specs.Conditions.{takes_named, gives_named};
-ghost use Rattle.rt_liveness.specs.Signed.{counts_argument, IsNamedBy, AreNamed};
+ghost use Rattle.rt_liveness.specs.Inside.Conditions.{takes_named, gives_named};
+ghost use Rattle.rt_liveness.specs.Inside.Signed.{counts_argument, IsNamedBy, AreNamed};
 
 use rt_base::Memory;
 use rt_elf::Object;

@@ -1,6 +1,6 @@
 // The registers that instructions read.
 ghost use Rattle.std.specs.Prelude.{◌≡◌, [], ◌∷◌};
-ghost use Rattle.rt_liveness.specs.Conditions.{is_among, is_return};
+ghost use Rattle.rt_liveness.specs.Inside.Conditions.{is_among, is_return};
 ghost use Rattle.rt_liveness.specs.Reads.{operands_of, reads_of};
 
 use rt_insn::Insn;

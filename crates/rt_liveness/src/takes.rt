@@ -5,11 +5,11 @@ ghost use Rattle.rt_proc.specs.declared.proc.Proc.{Proc as TheProc};
 ghost use Rattle.rt_body.specs.declared.body.Body.{Body as TheBody};
 ghost use Rattle.rt_body.specs.Told.{reading_of, sites_in};
 ghost use Rattle.rt_liveness.specs.declared.rule.Rule.{Rule};
-ghost use Rattle.rt_liveness.specs.Additions.{Adds};
-ghost use Rattle.rt_liveness.specs.Conditions.{begins_with_entry, is_among, is_own, is_real, returns_real, when_taken};
+ghost use Rattle.rt_liveness.specs.Inside.Additions.{Adds};
+ghost use Rattle.rt_liveness.specs.Inside.Conditions.{begins_with_entry, is_among, is_own, is_real, returns_real, when_taken};
 ghost use Rattle.rt_liveness.specs.Programs.{callees_of};
 ghost use Rattle.rt_liveness.specs.Reads.{reads_of};
-ghost use Rattle.rt_liveness.specs.TakesRules.{IsReadRule, AreTakenRules, AreRegisterRules, AreRegistersRules, AreTakesRules, AreAllRules};
+ghost use Rattle.rt_liveness.specs.Inside.TakesRules.{IsReadRule, AreTakenRules, AreRegisterRules, AreRegistersRules, AreTakesRules, AreAllRules};
 
 use crate::closure::is_met;
 use crate::gives::{when_true, when_written};
@@ -24,7 +24,7 @@ use rt_flow::Def;
 use rt_proc::{Callee, Callees, Kind, Proc, Site};
 use std::alloc::Global;
 
-/// Whom a site calls, and in whom it goes on for good. The error is want of memory.
+/// Whom a site calls, and in whom it goes on for good. The error is out of memory.
 pub(crate) fn callees_of(alloc: Global, site: &Site) -> Result<Callees, Memory>
     ensures { IfOk result (λ callees. callees ≡ callees_of site.now) }
 {

@@ -107,7 +107,7 @@ fn push_section_headers(out: &mut Vec<u8>, layout: &Layout) -> Result<(), Memory
 /// The bytes of a relocatable object (ELF gABI, "Object Files"): the file header; the code; the relocations, all of
 /// the code; the symbol table, with a zero symbol before the given ones; the string table, with each name that isn't
 /// empty, in order; zero bytes up to a multiple of 4; and five section headers, SHT_NULL, the code, the symbol table,
-/// the string table and the relocations. The sections of the given relocations aren't looked at. The error is want of
+/// the string table and the relocations. The sections of the given relocations aren't looked at. The error is out of
 /// memory.
 ///
 /// Conditions: the object's length is below 2^32, each relocation's symbol is below 2^24, and each symbol's binding and

@@ -10,7 +10,7 @@ use rt_lines::{Dtv, Word};
 use rt_shape::Shape;
 use std::alloc::Global;
 
-/// The node of each named variable, or `None` where it has none. The error is want of memory.
+/// The node of each named variable, or `None` where it has none. The error is out of memory.
 pub fn nodes(alloc: Global, named: &Named, shape: &Shape) -> Result<Vec<Option<u32>>, Memory>
     ensures { IfOk result (λ nodes. AreNodesOf shape.now named.now nodes.items) }
 {
@@ -42,7 +42,7 @@ fn node(alloc: Global, shape: &Shape, nodes: &[Option<u32>], origin: Origin) -> 
     }
 }
 
-/// For each node of a list whether it can be read and written through. The error is want of memory.
+/// For each node of a list whether it can be read and written through. The error is out of memory.
 pub fn flips(alloc: Global, shape: &Shape, nodes: &[Option<u32>]) -> Result<Vec<bool>, Memory>
     ensures { IfOk result (λ flips. AreFlipsOf shape.now nodes.now flips.items) }
 {

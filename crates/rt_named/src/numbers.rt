@@ -31,7 +31,7 @@ impl Numbers {
         }
     }
 
-    /// Adds a number, unless it is there. The error is want of memory.
+    /// Adds a number, unless it is there. The error is out of memory.
     pub fn note(&mut self, number: u32) -> Result<(), Memory>
         ensures { OnOk result (IsLeft (λ (w : ℕ). number ≡ w) self.old self.new) }
     {
@@ -39,7 +39,7 @@ impl Numbers {
         Ok(())
     }
 
-    /// Adds those of the numbers that are not there yet. The error is want of memory.
+    /// Adds those of the numbers that are not there yet. The error is out of memory.
     pub fn note_all(&mut self, numbers: &[u32]) -> Result<(), Memory>
         ensures { OnOk result (IsLeft (Contains numbers.now) self.old self.new) }
     {

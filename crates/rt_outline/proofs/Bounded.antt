@@ -17,7 +17,7 @@ use Rattle.rt_rules.specs.Rules.Derivable.{named as is_named, sub_self}
 use Rattle.rt_bridge.specs.Bounds.{HasLow, HasUp}
 use Rattle.rt_named.specs.Origins.{no_variable}
 use Rattle.rt_outline.specs.declared.bounds.Bound.{Bound}
-use Rattle.rt_outline.specs.Bounds.{AreBounds, AreBoundsAt, IsAtOrAbove, IsBoundEntered, upper_bound}
+use Rattle.rt_outline.specs.Inside.Bounds.{AreBounds, AreBoundsAt, IsAtOrAbove, IsBoundEntered, upper_bound}
 use Rattle.rt_outline.specs.Frames.{variable_at}
 use Rattle.rt_outline.specs.Lines.{AreNumbers, HasBelow, IsNumber, Lined, standing}
 use Rattle.rt_outline.proofs.Leading.{standing_in}

@@ -3,7 +3,7 @@ use Rattle.std.proofs.Common.{◌≡◌, ℕ, ◌<◌, inl, inr, Bool, true, Lis
 use Rattle.std.proofs.lemmas.Option.{slice_get_within}
 use borrow.Author.Count.{below_more}
 use Rattle.rt_lines.specs.declared.label.Label.TheVariants.{Load, Store}
-use Rattle.rt_outline.specs.Sweeps.{IsDoneAt}
+use Rattle.rt_outline.specs.Inside.Sweeps.{IsDoneAt}
 use Rattle.rt_outline.proofs.Pushing.{done_closed}
 use Rattle.rt_components.specs.Groups.{Reaches}
 use Rattle.rt_components.specs.Groups.Reaches.{there, onward}

@@ -5,7 +5,7 @@ use Rattle.std.proofs.lemmas.Bool.{cases_eq}
 use Rattle.std.proofs.lemmas.List.{get_or_default, get_or_past}
 use Rattle.std.proofs.lemmas.List.Elements.{Contains-append_left, Contains-push, Contains-push_cases}
 use Rattle.rt_base.proofs.Lists.{Contains-none}
-use Rattle.rt_outline.specs.Found.{AreFlagged}
+use Rattle.rt_outline.specs.Inside.Found.{AreFlagged}
 
 -- a number more with its flag
 pub flagged_more : (flags wide : List Bool) (numbers more : List ℕ) (n : ℕ) → AreFlagged flags numbers → ((k : ℕ) → get_or wide k false ≡ get_or flags k false) → n < length wide → more ≡ numbers ++ n ∷ [] → AreFlagged (set wide n true) more

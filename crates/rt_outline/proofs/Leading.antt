@@ -17,7 +17,7 @@ use Rattle.rt_outline.specs.Arcs.{AreTurned, Leads, MayLead}
 use Rattle.rt_outline.specs.Enclosing.{IsOuter}
 use Rattle.rt_outline.specs.Frames.{variable_at}
 use Rattle.rt_outline.specs.Lines.{IsNumber, AreNumbers, IsLineArc, AreLineArcs, HasBelow, Lined, standing}
-use Rattle.rt_outline.specs.Resting.{AreBelowSome}
+use Rattle.rt_outline.specs.Inside.Resting.{AreBelowSome}
 
 -- a line whose flag is set stands
 pub standing_in : (lines : List Line) (stands : List Bool) (i : ℕ) (l : Line) → slice_get lines i ≡ Some l → get_or stands i false ≡ true → Contains (standing lines stands) l

@@ -11,7 +11,7 @@ use Rattle.rt_outline.specs.declared.arc.Arc.{Arc}
 use Rattle.rt_outline.specs.Arcs.{Leads}
 use Rattle.rt_outline.specs.Frames.{Origins, IsMade, IsPushed, IsFrame, IsClosed, step_of}
 use Rattle.rt_outline.specs.Frames.IsPushed.{co, contra}
-use Rattle.rt_outline.specs.Sweeps.{IsSwept, IsDoneAt, IsEnd, end_of, toward, side_of}
+use Rattle.rt_outline.specs.Inside.Sweeps.{IsSwept, IsDoneAt, IsEnd, end_of, toward, side_of}
 use Rattle.rt_base.proofs.Numbers.{nat_same, nat_itself}
 use Rattle.rt_components.proofs.Reaching.{reaches_by}
 

@@ -19,7 +19,7 @@ use Rattle.rt_outline.specs.Arcs.{AreLed, AreTurned, Leads}
 use Rattle.rt_outline.specs.Frames.{variable_at}
 use Rattle.rt_outline.specs.Lines.{AreLineArcs, standing}
 use Rattle.rt_outline.specs.declared.resting.Kept.{Kept}
-use Rattle.rt_outline.specs.Resting.{AreBelowSome, AreKnown, AreMoreRested, AreRested, IsBehind, IsBelowSome, IsOrdered, IsPointer, IsSide, Rests}
+use Rattle.rt_outline.specs.Inside.Resting.{AreBelowSome, AreKnown, AreMoreRested, AreRested, IsBehind, IsBelowSome, IsOrdered, IsPointer, IsSide, Rests}
 use Rattle.rt_outline.proofs.Leading.{chained, line_derived}
 
 -- by the rules, where a variable lies below another if one of the two exists

@@ -7,7 +7,7 @@ use Rattle.std.proofs.lemmas.Option.{get_or_from_slice_get, slice_get_within}
 use Rattle.rt_components.specs.Groups.{Reaches}
 use Rattle.rt_outline.specs.declared.arc.Arc.{Arc}
 use Rattle.rt_outline.specs.Arcs.{Leads}
-use Rattle.rt_outline.specs.Sweeps.{AreReached}
+use Rattle.rt_outline.specs.Inside.Sweeps.{AreReached}
 use Rattle.rt_outline.proofs.Pushing.{reaches_end}
 
 -- what edges lead to from those that are known, from one of them after another

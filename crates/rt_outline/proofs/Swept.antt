@@ -7,7 +7,7 @@ use Rattle.rt_lines.specs.declared.label.Label.{Label}
 use Rattle.rt_components.specs.Groups.{Reaches}
 use Rattle.rt_components.specs.Groups.Reaches.{there}
 use Rattle.rt_named.specs.Numbers.{IsLeft}
-use Rattle.rt_outline.specs.Sweeps.{IsSwept, IsEnd, end_of}
+use Rattle.rt_outline.specs.Inside.Sweeps.{IsSwept, IsEnd, end_of}
 use Rattle.rt_named.proofs.Noting.{left_kept}
 use Rattle.rt_outline.proofs.Pushing.{end_some, reaches_end}
 

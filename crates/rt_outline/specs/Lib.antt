@@ -1,13 +1,10 @@
 pub mod Built
-pub mod Found
 pub mod Arcs
 pub mod Frames
-pub mod Sweeps
 pub mod Lines
 pub mod Enclosing
 pub mod Together
 pub mod Equal
 pub mod Hubs
 pub mod Accesses
-pub mod Resting
-pub mod Bounds
+pub mod Inside

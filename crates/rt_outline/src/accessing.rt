@@ -11,7 +11,7 @@ use rt_shape::Shape;
 use std::alloc::Global;
 
 /// The variables, and behind them more that exist by the lines: loads and stores of what the lines name. Arcs from inside
-/// that are given these lead between more of the variables. The error is want of memory.
+/// that are given these lead between more of the variables. The error is out of memory.
 pub fn with_accesses(alloc: Global, lines: &[Line], variables: Vec<Dtv>) -> Result<Vec<Dtv>, Memory>
     ensures { IfOk result (λ all. AreThereBehind lines.now variables.items all.items) }
 {

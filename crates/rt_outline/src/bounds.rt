@@ -6,7 +6,7 @@ ghost use Rattle.rt_lines.specs.declared.variable.Dtv.{Dtv as Variable};
 ghost use Rattle.rt_lines.specs.Orders.{IsAtOrBelow};
 ghost use Rattle.rt_rules.specs.Rules.{HasSide};
 ghost use Rattle.rt_outline.specs.declared.bounds.Bound.{Bound as Entry};
-ghost use Rattle.rt_outline.specs.Bounds.{AreBounds, AreBoundsAt, IsAtOrAbove, IsBoundEntered, upper_bound};
+ghost use Rattle.rt_outline.specs.Inside.Bounds.{AreBounds, AreBoundsAt, IsAtOrAbove, IsBoundEntered, upper_bound};
 
 use crate::spreading::is_open;
 use rt_base::Memory;

@@ -1,7 +1,7 @@
 // Arcs with all that is pushed from their ways.
 ghost use Rattle.std.specs.Prelude.{◌≡◌, ℕ, ◌<◌, false, [], Contains, IfOk, OnOk, length};
 ghost use Rattle.rt_outline.specs.Frames.{AreKept, AreMore, IsClosed, IsFrame, IsPushedMore};
-ghost use Rattle.rt_outline.specs.Sweeps.{IsDoneAt};
+ghost use Rattle.rt_outline.specs.Inside.Sweeps.{IsDoneAt};
 
 use crate::arc::Arc;
 use crate::frame::Frame;

@@ -1,7 +1,7 @@
 // Numbers in the order in which they are found, each once.
 ghost use Rattle.std.specs.Prelude.{◌≡◌, ◌<◌, ℕ, [], Contains, IsTrue, ◌↔◌, OnOk, IfOk, false, length, slice_get, slice_index_or};
 ghost use Rattle.rt_named.specs.Numbers.{IsLeft};
-ghost use Rattle.rt_outline.specs.Found.{AreFlagged};
+ghost use Rattle.rt_outline.specs.Inside.Found.{AreFlagged};
 
 use rt_base::Memory;
 use std::alloc::Global;
@@ -16,7 +16,7 @@ pub(crate) struct Found {
 
 impl Model for Found {
     ghost use Rattle.std.specs.Prelude.{List, ℕ};
-    ghost use Rattle.rt_outline.specs.Found.{AreFlagged};
+    ghost use Rattle.rt_outline.specs.Inside.Found.{AreFlagged};
 
     ghost Value = { List ℕ };
 
@@ -35,7 +35,7 @@ impl Found {
         Ok(Found { flags, numbers })
     }
 
-    // Adds a number. After want of memory they are as they were.
+    // Adds a number. When out of memory, they are as they were.
     pub(crate) fn insert(&mut self, number: u32) -> Result<(), Memory>
         ensures { OnOk result (IsLeft (λ (w : ℕ). number ≡ w) self.old self.new) }
     {

@@ -16,7 +16,7 @@ pub struct Classes {
     pub count: usize,
 }
 
-/// The classes of so many nodes: two are in one exactly where pairs lead both ways. The error is want of memory.
+/// The classes of so many nodes: two are in one exactly where pairs lead both ways. The error is out of memory.
 pub fn together(alloc: Global, count: usize, pairs: &[(u32, u32)]) -> Result<Classes, Memory>
     requires few { count < 4294967296 }
     requires within { (v w : ℕ) → Contains pairs.now (v, w) → (v < count) × (w < count) }

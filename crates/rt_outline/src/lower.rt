@@ -47,7 +47,7 @@ impl Model for Lower {
 }
 
 impl Lower {
-    /// The arcs of the lines, closed under what is pushed from ways of them. The error is want of memory.
+    /// The arcs of the lines, closed under what is pushed from ways of them. The error is out of memory.
     pub fn of(alloc: Global, lines: &[Line], extra: &[Dtv]) -> Result<Lower, Memory>
         requires { AreThere lines.now extra.now }
         ensures { IfOk result (λ lower. lower ≡ record { lines = lines.now; named = named lines.now extra.now }) }
@@ -74,7 +74,7 @@ impl Lower {
         self.named.index(x)
     }
 
-    /// Whether arcs lead from the variable of a number to that of another one. The error is want of memory.
+    /// Whether arcs lead from the variable of a number to that of another one. The error is out of memory.
     pub fn leads_number(&self, alloc: Global, from: u32, to: u32) -> Result<bool, Memory>
         requires from { from < length self.now.named }
         requires to { to < length self.now.named }
@@ -85,7 +85,7 @@ impl Lower {
         Ok(yes)
     }
 
-    /// Whether arcs lead from one of the variables to one of the others. All are named. The error is want of memory.
+    /// Whether arcs lead from one of the variables to one of the others. All are named. The error is out of memory.
     pub fn leads(&self, alloc: Global, from: &[Dtv], to: &[Dtv]) -> Result<bool, Memory>
         requires from { (x : Variable) → Contains from.now x → Contains self.now.named x }
         requires to { (x : Variable) → Contains to.now x → Contains self.now.named x }
@@ -97,7 +97,7 @@ impl Lower {
         Ok(yes)
     }
 
-    /// Classes of the variables; those of one class lie below each other. The error is want of memory.
+    /// Classes of the variables; those of one class lie below each other. The error is out of memory.
     pub fn equals(&self, alloc: Global) -> Result<Classes, Memory>
         ensures { IfOk result (λ classes. AreInnerEquals self.now.lines self.now.named classes.numbers.items) }
     {

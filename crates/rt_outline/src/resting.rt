@@ -1,8 +1,8 @@
 // Ways of arcs of lines that stand, and of pushed arcs that rest on such ways.
 ghost use Rattle.std.specs.Prelude.{◌≡◌, ℕ, true, false, Contains, Some, IsTrue, IfOk, IfSome, OnOk};
 ghost use Rattle.rt_outline.specs.Arcs.{AreTurned, HasArc, Leads, MayLead};
-ghost use Rattle.rt_outline.specs.Resting.{AreBelowSome, AreKnown, AreMoreRested, AreRested};
-ghost use Rattle.rt_outline.specs.Resting.{IsBehind, IsBelowSome, IsOrdered, IsPointer, IsSide, Rests};
+ghost use Rattle.rt_outline.specs.Inside.Resting.{AreBelowSome, AreKnown, AreMoreRested, AreRested};
+ghost use Rattle.rt_outline.specs.Inside.Resting.{IsBehind, IsBelowSome, IsOrdered, IsPointer, IsSide, Rests};
 ghost use Rattle.rt_outline.specs.declared.resting.Kept.{Kept as Told};
 ghost use Rattle.rt_outline.specs.declared.led.Led.TheVariants.{No as Never, Yes as Always};
 

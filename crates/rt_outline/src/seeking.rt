@@ -2,7 +2,7 @@
 ghost use Rattle.std.specs.Prelude.{◌≡◌, ◌⊎◌, ℕ, [], true, Contains, None, IfOk, OnOk};
 ghost use Rattle.rt_components.specs.Groups.{Reaches};
 ghost use Rattle.rt_outline.specs.Arcs.{Leads};
-ghost use Rattle.rt_outline.specs.Sweeps.{AreReached};
+ghost use Rattle.rt_outline.specs.Inside.Sweeps.{AreReached};
 
 use crate::arc::Arc;
 use crate::found::Found;

@@ -52,7 +52,7 @@ fn are_led(
 }
 
 /// Whether one of the targets is one of the sources, or arcs of lines that stand and pushed arcs lead to it from one. The
-/// error is want of memory.
+/// error is out of memory.
 pub fn may_lead(
     alloc: Global,
     arcs: &[Sequence<Arc>],

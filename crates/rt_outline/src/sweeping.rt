@@ -4,7 +4,7 @@ ghost use Rattle.rt_lines.specs.Words.{label_variance};
 ghost use Rattle.rt_named.specs.Numbers.{IsLeft};
 ghost use Rattle.rt_outline.specs.Arcs.{Leads};
 ghost use Rattle.rt_outline.specs.Frames.{IsFrame, IsMade, IsPushed};
-ghost use Rattle.rt_outline.specs.Sweeps.{IsDoneAt, IsEnd, IsSwept, end_of, side_of};
+ghost use Rattle.rt_outline.specs.Inside.Sweeps.{IsDoneAt, IsEnd, IsSwept, end_of, side_of};
 
 use crate::arc::Arc;
 use crate::found::Found;

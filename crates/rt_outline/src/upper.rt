@@ -43,7 +43,7 @@ pub struct Upper {
 impl Model for Upper {
     ghost use Rattle.std.specs.Prelude.{◌≤◌, length};
     ghost use Rattle.rt_lines.specs.declared.line.Line.TheVariants.{Low as LowerBound};
-    ghost use Rattle.rt_outline.specs.Bounds.{AreBounds, upper_bound};
+    ghost use Rattle.rt_outline.specs.Inside.Bounds.{AreBounds, upper_bound};
     ghost use Rattle.rt_outline.specs.Lines.{AreLineArcs, Lined};
     ghost use Rattle.rt_outline.specs.Enclosing.{IsOuter};
     ghost use Rattle.rt_outline.specs.Frames.{IsFrame};
@@ -61,7 +61,7 @@ impl Model for Upper {
 }
 
 impl Upper {
-    /// The arcs of the lines and of hubs, closed under what is pushed from ways of them. The error is want of memory.
+    /// The arcs of the lines and of hubs, closed under what is pushed from ways of them. The error is out of memory.
     pub fn of(alloc: Global, lines: &[Line], extra: &[Dtv]) -> Result<Upper, Memory>
         ensures { IfOk result (λ upper. upper ≡ record { lines = lines.now; named = named lines.now extra.now }) }
     {
@@ -80,7 +80,7 @@ impl Upper {
     }
 
     /// Whether one of the variables lies below the last one by the lines that stand, those whose flags are set. All are
-    /// named. The error is want of memory.
+    /// named. The error is out of memory.
     pub fn led(&self, alloc: Global, stands: &[bool], from: &[Dtv], to: &Dtv) -> Result<Led, Memory>
         requires from { (x : Variable) → Contains from.now x → Contains self.now.named x }
         requires to { Contains self.now.named to.now }
@@ -102,7 +102,7 @@ impl Upper {
     }
 
     /// Whether the constant is a lower bound of the variable by the lines that stand, those whose flags are set: whether the
-    /// variable of a lower bound at or above it among them lies below the variable, which is named. The error is want of memory.
+    /// variable of a lower bound at or above it among them lies below the variable, which is named. The error is out of memory.
     pub fn led_low(
         &self,
         alloc: Global,
@@ -138,7 +138,7 @@ impl Upper {
     }
 
     /// Whether the constant is an upper bound of the variable by the lines that stand, those whose flags are set: whether the
-    /// variable, which is named, lies below that of an upper bound at or below it among them. The error is want of memory.
+    /// variable, which is named, lies below that of an upper bound at or below it among them. The error is out of memory.
     pub fn led_up(
         &self,
         alloc: Global,
@@ -173,7 +173,7 @@ impl Upper {
         Ok(led)
     }
 
-    /// Classes of the variables; those that lie below each other are in one class. The error is want of memory.
+    /// Classes of the variables; those that lie below each other are in one class. The error is out of memory.
     pub fn equals(&self, alloc: Global) -> Result<Classes, Memory>
         ensures { IfOk result (λ classes. AreOuterEquals self.now.lines self.now.named classes.count classes.numbers.items) }
     {

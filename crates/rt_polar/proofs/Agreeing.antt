@@ -7,8 +7,8 @@ use Rattle.rt_lines.specs.declared.variable.Dtv.{Dtv}
 use Rattle.rt_lines.specs.declared.line.Line.{Line}
 use Rattle.rt_rules.specs.Put.{HasUse, use_of}
 use Rattle.rt_polar.specs.Index.{Names}
-use Rattle.rt_polar.specs.Places.{Agrees, ArePending, Holds, IsFound, IsSoleAt, Settles, Stands}
-use Rattle.rt_polar.specs.Places.Settles.{stands_before, moves, fills}
+use Rattle.rt_polar.specs.Inside.Places.{Agrees, ArePending, Holds, IsFound, IsSoleAt, Settles, Stands}
+use Rattle.rt_polar.specs.Inside.Places.Settles.{stands_before, moves, fills}
 use Rattle.rt_polar.proofs.Cuts.{use_has}
 use Rattle.rt_polar.proofs.Holding.{use_names}
 use Rattle.rt_polar.proofs.Slots.{cleared_here, cleared_source, filled_here, filled_source, one_line}

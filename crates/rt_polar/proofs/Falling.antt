@@ -12,9 +12,9 @@ use Rattle.rt_lines.specs.Equality.{line_eq, variable_eq}
 use Rattle.rt_rules.specs.Alike.{map_line}
 use Rattle.rt_rules.specs.Laws.{NamesBase}
 use Rattle.rt_rules.specs.Put.{put, put_lines, use_of}
-use Rattle.rt_polar.specs.Places.{lines_of}
+use Rattle.rt_polar.specs.Inside.Places.{lines_of}
 use Rattle.rt_polar.specs.Tidied.{tidied, without_self}
-use Rattle.rt_polar.specs.Turns.{GivesAway, IsNextTurn}
+use Rattle.rt_polar.specs.Inside.Turns.{GivesAway, IsNextTurn}
 use Rattle.rt_polar.proofs.Slots.{lines_cut}
 
 -- 1 where the line says that a variable lies below another

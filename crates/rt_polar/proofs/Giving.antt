@@ -13,12 +13,12 @@ use Rattle.rt_rules.specs.Put.{put_lines, use_of}
 use Rattle.rt_lines.specs.Numbering.{deduplicated}
 use Rattle.rt_polar.specs.declared.index.Kind.TheVariants.{Naming}
 use Rattle.rt_polar.specs.Index.{Names}
-use Rattle.rt_polar.specs.Places.{Agrees, ArePending, Holds, IsFound, IsIndexed, IsSoleAt, Settles, lines_of, moved}
+use Rattle.rt_polar.specs.Inside.Places.{Agrees, ArePending, Holds, IsFound, IsIndexed, IsSoleAt, Settles, lines_of, moved}
 use Rattle.rt_polar.specs.Puts.{Exchanges, IsLeast, Puts}
 use Rattle.rt_polar.specs.Puts.Exchanges.{goes, exists_still}
 use Rattle.rt_polar.specs.Puts.Puts.{none_left, puts}
 use Rattle.rt_polar.specs.Tidied.{tidied, without_self}
-use Rattle.rt_polar.specs.Turns.{GivesAway, IsNextTurn, other_lines}
+use Rattle.rt_polar.specs.Inside.Turns.{GivesAway, IsNextTurn, other_lines}
 use Rattle.rt_polar.proofs.Agreeing.{Agrees-cleared, Agrees-settled, Agrees-trans, ArePending-after}
 use Rattle.rt_polar.proofs.Moved.{changed_same, map-replaced, moved-again, moved-apart, tidied-moved}
 use Rattle.rt_polar.proofs.Settling.{settled}

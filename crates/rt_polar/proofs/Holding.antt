@@ -8,9 +8,9 @@ use Rattle.rt_lines.specs.declared.line.Line.TheVariants.{Var, Same, Sub, Low, U
 use Rattle.rt_rules.specs.Put.{HasUse}
 use Rattle.rt_polar.specs.declared.index.Kind.{Kind}
 use Rattle.rt_polar.specs.declared.index.Kind.TheVariants.{Naming, Defining, Consuming}
-use Rattle.rt_polar.specs.Digests.{digest_of}
+use Rattle.rt_polar.specs.Inside.Digests.{digest_of}
 use Rattle.rt_polar.specs.Index.{IsBareForgotten, IsBareNoted, IsForgotten, IsNoted, IsOfKind, Names}
-use Rattle.rt_polar.specs.Places.{AreHeld, Holds, IsFound, IsIndexed}
+use Rattle.rt_polar.specs.Inside.Places.{AreHeld, Holds, IsFound, IsIndexed}
 use Rattle.rt_polar.specs.Tidied.{without_self}
 use Rattle.rt_polar.proofs.Slots.{cleared_here, cleared_source, filled_here, filled_self, filled_source, one_line}
 

@@ -17,7 +17,7 @@ use Rattle.rt_rules.proofs.Lists.{All-from_contains, Contains-here, Contains-the
 use Rattle.rt_lines.specs.Numbering.{deduplicated}
 use Rattle.rt_polar.specs.Index.{Names}
 use Rattle.rt_polar.specs.Laws.{StayingLaw}
-use Rattle.rt_polar.specs.Places.{Holds, IsFound, lines_of, moved}
+use Rattle.rt_polar.specs.Inside.Places.{Holds, IsFound, lines_of, moved}
 use Rattle.rt_polar.specs.Tidied.{without_self, tidied}
 use Rattle.rt_polar.proofs.Exchanging.{put-apart, put_line-apart}
 use Rattle.rt_polar.proofs.Settling.{deduplicated-same}

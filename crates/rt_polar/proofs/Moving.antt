@@ -9,8 +9,8 @@ use Rattle.rt_rules.specs.Put.{put_lines}
 use Rattle.rt_lines.specs.Numbering.{deduplicated}
 use Rattle.rt_polar.specs.declared.index.Kind.TheVariants.{Naming}
 use Rattle.rt_polar.specs.Index.{Names}
-use Rattle.rt_polar.specs.Places.{Agrees, Holds, IsFound, IsIndexed, Settles, lines_of, moved}
-use Rattle.rt_polar.specs.Places.Settles.{stands_before, moves, fills}
+use Rattle.rt_polar.specs.Inside.Places.{Agrees, Holds, IsFound, IsIndexed, Settles, lines_of, moved}
+use Rattle.rt_polar.specs.Inside.Places.Settles.{stands_before, moves, fills}
 use Rattle.rt_polar.specs.Tidied.{tidied, without_self}
 use Rattle.rt_polar.proofs.Agreeing.{Agrees-cleared, Agrees-opened, Agrees-refl, Agrees-settled, Agrees-trans}
 use Rattle.rt_polar.proofs.Giving.{moved_all, step_same}

@@ -9,7 +9,7 @@ use Rattle.rt_lines.specs.Equality.{line_eq}
 use Rattle.rt_lines.specs.Numbering.{deduplicated}
 use Rattle.rt_polar.specs.declared.index.Kind.{Kind}
 use Rattle.rt_polar.specs.declared.index.Kind.TheVariants.{Naming, Defining, Consuming}
-use Rattle.rt_polar.specs.Places.{AreHeld, Holds, IsFound, IsIndexed, Settles, lines_of}
+use Rattle.rt_polar.specs.Inside.Places.{AreHeld, Holds, IsFound, IsIndexed, Settles, lines_of}
 use Rattle.rt_polar.specs.Tidied.{tidied, without_self}
 use Rattle.rt_polar.proofs.Moved.{changed_same, lines_distinct, map-same}
 use Rattle.rt_polar.proofs.Settling.{deduplicated-same, settled}

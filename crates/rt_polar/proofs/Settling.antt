@@ -7,8 +7,8 @@ use Rattle.rt_lines.specs.declared.line.Line.{Line}
 use Rattle.rt_lines.specs.contracts.line.LineEq.TheImpl.Laws as line_laws
 use Rattle.rt_lines.specs.Equality.{line_eq}
 use Rattle.rt_lines.specs.Numbering.{deduplicated}
-use Rattle.rt_polar.specs.Places.{Holds, lines_of, Settles}
-use Rattle.rt_polar.specs.Places.Settles.{stands_before, moves, fills}
+use Rattle.rt_polar.specs.Inside.Places.{Holds, lines_of, Settles}
+use Rattle.rt_polar.specs.Inside.Places.Settles.{stands_before, moves, fills}
 use Rattle.rt_lines.proofs.Equal.{line_equal}
 use Rattle.rt_polar.proofs.Cuts.{cut_at, cut_length}
 use Rattle.rt_lines.proofs.Same.{line_self}

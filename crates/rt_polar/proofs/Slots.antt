@@ -4,7 +4,7 @@ use Rattle.std.proofs.Math.ListN.{set}
 use Rattle.std.proofs.lemmas.List.{get_or-set_same, get_or-set_other}
 use Rattle.rt_lines.specs.declared.line.Line.{Line}
 use Rattle.rt_rules.proofs.Lists.{Contains-none, Contains-here, Contains-there, Contains-cons_cases}
-use Rattle.rt_polar.specs.Places.{Holds, Stands, lines_of}
+use Rattle.rt_polar.specs.Inside.Places.{Holds, Stands, lines_of}
 
 -- a slot that holds a line is one of them
 pub within : (slots : List (Option Line)) (i : ℕ) (l : Line) → Holds slots i l → i < length slots

@@ -8,7 +8,7 @@ use Rattle.rt_lines.specs.declared.variable.Dtv.{Dtv}
 use Rattle.rt_lines.specs.declared.line.Line.{Line}
 use Rattle.rt_rules.specs.Put.{HasUse, use_of}
 use Rattle.rt_rules.proofs.Lists.{All-from_contains}
-use Rattle.rt_polar.specs.Places.{AreUses, Holds, IsFound, IsSoleAt, IsTurn, lines_of}
+use Rattle.rt_polar.specs.Inside.Places.{AreUses, Holds, IsFound, IsSoleAt, IsTurn, lines_of}
 use Rattle.rt_polar.specs.Polar.{HasCandidate, IsCandidate, IsOnlyPlace, IsSole}
 use Rattle.rt_polar.specs.Polar.IsCandidate.{defines, consumes}
 use Rattle.rt_polar.proofs.Cuts.{sole_line, sole_place, use_has}

@@ -10,8 +10,8 @@ use Rattle.rt_lines.specs.declared.label.Variance.{Variance}
 use Rattle.rt_lines.specs.declared.label.Variance.TheVariants.{Co, Contra}
 use Rattle.rt_lines.specs.declared.variable.Dtv.{Dtv}
 use Rattle.rt_lines.specs.declared.line.Line.{Line}
-use Rattle.rt_polar.specs.Places.{ArePending, IsSoleAt, IsTurn}
-use Rattle.rt_polar.specs.Turns.{IsNextTurn}
+use Rattle.rt_polar.specs.Inside.Places.{ArePending, IsSoleAt, IsTurn}
+use Rattle.rt_polar.specs.Inside.Turns.{IsNextTurn}
 use Rattle.rt_base.proofs.Numbers.{equal_number}
 
 -- what was pending is the one that was taken out, or is pending still

@@ -3,6 +3,4 @@ pub mod Tidied
 pub mod Puts
 pub mod Laws
 pub mod Index
-pub mod Digests
-pub mod Places
-pub mod Turns
+pub mod Inside

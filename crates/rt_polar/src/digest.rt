@@ -1,6 +1,6 @@
 // What is known of words and lines without reading all their letters again.
 ghost use Rattle.std.specs.Prelude.{◌≡◌};
-ghost use Rattle.rt_polar.specs.Digests.{base_code, followed, form_code, letter_code, mixed, summary, with_word};
+ghost use Rattle.rt_polar.specs.Inside.Digests.{base_code, followed, form_code, letter_code, mixed, summary, with_word};
 
 use rt_lines::{Base, Dtv, Label, Line, Loc, Variance, Word, variance_of};
 

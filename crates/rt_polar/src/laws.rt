@@ -23,7 +23,7 @@ pub fn none_left()
     ensures { NoneLeftLaw }
 {}
 
-/// Tidied lines tell the outside the same; and lines that say nothing twice stay as they are, when they are tidied.
+/// Tidied lines judge the same; and lines that say nothing twice stay as they are, when they are tidied.
 pub fn tidying()
     ensures alike { TidyingLaw }
     ensures stay { StayingLaw }

@@ -3,7 +3,7 @@ ghost use Rattle.std.specs.Prelude.{◌≡◌, ℕ, ◌<◌, [], ◌∷◌, ◌+
 ghost use Rattle.std.specs.Prelude.{slice_index_or, slice_set, IfOk, IsTrue, MatchOption, OnOk, ◌↔◌};
 ghost use Rattle.rt_lines.specs.declared.variable.Dtv.{Dtv as Variable};
 ghost use Rattle.rt_polar.specs.Index.{has};
-ghost use Rattle.rt_polar.specs.Places.{ArePlaces, AreUses, Holds, IsSoleAt, Settles};
+ghost use Rattle.rt_polar.specs.Inside.Places.{ArePlaces, AreUses, Holds, IsSoleAt, Settles};
 ghost use Rattle.rt_polar.specs.Tidied.{without_self};
 
 use crate::choosing::beside;

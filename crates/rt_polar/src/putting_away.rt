@@ -9,8 +9,8 @@ ghost use Rattle.rt_lines.specs.declared.variable.Base.TheVariants.{Exist as Exi
 ghost use Rattle.rt_lines.specs.declared.line.Line.{Line as TheLine};
 ghost use Rattle.rt_rules.specs.Put.{put_lines};
 ghost use Rattle.rt_polar.specs.Index.{has, Names};
-ghost use Rattle.rt_polar.specs.Places.{Agrees, ArePending, ArePlaces, Holds, IsSoleAt, IsTurn, Settles, lines_of, moved};
-ghost use Rattle.rt_polar.specs.Turns.{GivesAway, IsNextTurn};
+ghost use Rattle.rt_polar.specs.Inside.Places.{Agrees, ArePending, ArePlaces, Holds, IsSoleAt, IsTurn, Settles, lines_of, moved};
+ghost use Rattle.rt_polar.specs.Inside.Turns.{GivesAway, IsNextTurn};
 ghost use Rattle.rt_polar.specs.Puts.{Puts};
 ghost use Rattle.rt_polar.specs.Tidied.{tidied};
 

@@ -5,8 +5,8 @@ ghost use Rattle.rt_lines.specs.declared.variable.Dtv.{Dtv as Variable};
 ghost use Rattle.rt_lines.specs.declared.variable.Base.TheVariants.{Exist as Existential};
 ghost use Rattle.rt_lines.specs.declared.line.Line.TheVariants.{Var as Exists, Same as OneShape, Sub as Below};
 ghost use Rattle.rt_rules.specs.Put.{HasUse, put as put_there, use_of};
-ghost use Rattle.rt_polar.specs.Digests.{digest_of, summary};
-ghost use Rattle.rt_polar.specs.Places.{moved};
+ghost use Rattle.rt_polar.specs.Inside.Digests.{digest_of, summary};
+ghost use Rattle.rt_polar.specs.Inside.Places.{moved};
 ghost use Rattle.rt_polar.specs.Tidied.{without_self};
 
 use crate::digest::{Summary, form_code, mixed};
@@ -24,7 +24,7 @@ pub struct KnownSide {
 impl Model for KnownSide {
     ghost use Rattle.std.specs.Prelude.{◌≡◌};
     ghost use Rattle.rt_lines.specs.declared.variable.Dtv.{Dtv as Variable};
-    ghost use Rattle.rt_polar.specs.Digests.{summary};
+    ghost use Rattle.rt_polar.specs.Inside.Digests.{summary};
 
     ghost Value = { Variable };
 
@@ -89,7 +89,7 @@ pub struct Row {
 impl Model for Row {
     ghost use Rattle.std.specs.Prelude.{◌≡◌};
     ghost use Rattle.rt_lines.specs.declared.line.Line.{Line as TheLine};
-    ghost use Rattle.rt_polar.specs.Digests.{summary, first_side, last_side};
+    ghost use Rattle.rt_polar.specs.Inside.Digests.{summary, first_side, last_side};
 
     ghost Value = { TheLine };
 

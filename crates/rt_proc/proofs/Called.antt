@@ -7,7 +7,7 @@ use Rattle.rt_link.specs.declared.place.Place.{Place}
 use Rattle.rt_control.specs.Laws.{IsGood, IsLawOfPlaces}
 use Rattle.rt_proc.specs.Bodies.{AreEntries}
 use Rattle.rt_proc.specs.Entries.{IsFunction, IsReached, Calls, IsCalledFrom, IsEntry}
-use Rattle.rt_proc.specs.Order.{AreRising}
+use Rattle.rt_proc.specs.Order.{AreAscending}
 use Rattle.rt_proc.specs.Steps.{callees}
 use Rattle.rt_proc.proofs.Ended.{good-look}
 use Rattle.rt_proc.proofs.Forms.{good-callees}
@@ -60,7 +60,7 @@ good_entry object ends law p (IsEntry.of_function f) = f.is_good
 good_entry object ends law p (IsEntry.of_call from reaches calls) = All-contains (IsGood object) (callees calls.form) p (good-callees object calls.form (good-look law object ends from calls.form calls.is_at)) calls.calls
 
 -- functions and what reached sites call are the entries
-module _ (object : Object) (ends : List ℕ) (functions reached entries : List Place) (rising : AreRising entries) (are_functions : (p : Place) → Contains functions p ↔ IsFunction object p)
+module _ (object : Object) (ends : List ℕ) (functions reached entries : List Place) (ascending : AreAscending entries) (are_functions : (p : Place) → Contains functions p ↔ IsFunction object p)
     (are_reached : (p : Place) → Contains reached p ↔ IsReached object ends p) (same : (p : Place) → Contains entries p ↔ (Contains functions p ⊎ IsCalledFrom object ends reached p)) where
   is_entry : (p : Place) → Contains functions p ⊎ IsCalledFrom object ends reached p → IsEntry object ends p
   is_entry p (inl f) = IsEntry.of_function ((are_functions p).0 f)
@@ -72,7 +72,7 @@ module _ (object : Object) (ends : List ℕ) (functions reached entries : List P
 
   pub are_entries : IsLawOfPlaces → AreEntries object ends entries
   are_entries law = record {
-    rising = rising;
+    ascending = ascending;
     same = λ p. ((λ h. is_entry p ((same p).0 h)), λ e. (same p).1 (entry_is p e));
     good = λ k d within. let p = get_or entries k d in good_entry object ends law p (is_entry p ((same p).0 (Contains-get_or entries k d within)));
   }

@@ -48,7 +48,7 @@ module _ (object : Object) (ends : List ℕ) (entries : List Place) (are : AreEn
   pub first-body : (i : ℕ) (d : Place) (fault : CodeFault) → symbols_fault object ≡ None → i < length entries → AreSound object ends (take i entries) → IsBodyFault object ends (get_or entries i d) fault → IsFaultOf object ends fault
   first-body i d (Bad number place) none within sound first =
       IsFirstFault.of_site (get_or entries i d) none ((are.same (get_or entries i d)).0 (Contains-get_or entries i d within)) first
-      (λ other entry below. sound other (earlier entries i d other are.rising within ((are.same other).1 entry) below))
+      (λ other entry below. sound other (earlier entries i d other are.ascending within ((are.same other).1 entry) below))
   first-body i d Memory none within sound first = tt
 
   module _ (i : ℕ) (procs : List Proc) (whole : length entries ≤ i) (first : AreFirst object ends entries i procs) where
@@ -59,7 +59,7 @@ module _ (object : Object) (ends : List ℕ) (entries : List Place) (are : AreEn
     are_procs =
         let same : entries_of procs ≡ entries = first.places ∙ all in
         record {
-          rising = rw same are.rising;
+          ascending = rw same are.ascending;
           entries = λ p. rw same (are.same p);
           each = rw same first.each;
         }

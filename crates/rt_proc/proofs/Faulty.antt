@@ -12,7 +12,7 @@ use Rattle.rt_proc.specs.Ends.{IsLookAt}
 use Rattle.rt_proc.specs.declared.site.Site.{Site}
 use Rattle.rt_proc.specs.Bodies.{IsInBody}
 use Rattle.rt_proc.specs.Faults.{IsSound, IsFirstIn}
-use Rattle.rt_proc.specs.Order.{IsBelow, AreRising}
+use Rattle.rt_proc.specs.Order.{IsBelow, AreAscending}
 use Rattle.rt_proc.specs.Procs.{places_of, IsSite}
 use Rattle.rt_proc.specs.Sites.{site_of}
 use Rattle.rt_proc.proofs.Forms.{no_form}
@@ -30,9 +30,9 @@ taken ps i j d less within =
     let there : j < length (take i ps) = omega (arith, length-take i ps) in
     (j, there, get_or-take i ps j (get_or ps j d) less ∙ get_or_default ps j (get_or ps j d) d within)
 
--- what comes before the place of an index in a rising list stands before it
-pub earlier : (ps : List Place) (i : ℕ) (d q : Place) → AreRising ps → i < length ps → Contains ps q → IsBelow q (get_or ps i d) → Contains (take i ps) q
-earlier ps i d q rising within h below = elim (cases_lt h.0 i) [
+-- what comes before the place of an index in a ascending list stands before it
+pub earlier : (ps : List Place) (i : ℕ) (d q : Place) → AreAscending ps → i < length ps → Contains ps q → IsBelow q (get_or ps i d) → Contains (take i ps) q
+earlier ps i d q ascending within h below = elim (cases_lt h.0 i) [
   | inl less ↦ subst (Contains (take i ps)) h.2 (taken ps i h.0 q less h.1)
   | inr more ↦ absurd (later (cases_eq h.0 i) more)
 ]
@@ -43,7 +43,7 @@ earlier ps i d q rising within h below = elim (cases_lt h.0 i) [
         IsBelow-irreflexive q (subst (IsBelow q) here below)
     later (inr ne) more =
         let there : get_or ps h.0 d ≡ q = get_or_default ps h.0 d q h.1 ∙ h.2 in
-        let after : IsBelow (get_or ps i d) q = subst (IsBelow (get_or ps i d)) there (rising i h.0 d (omega arith) h.1) in
+        let after : IsBelow (get_or ps i d) q = subst (IsBelow (get_or ps i d)) there (ascending i h.0 d (omega arith) h.1) in
         IsBelow-asymmetric q (get_or ps i d) below after
 
 -- the site at a place has no fault
@@ -63,11 +63,11 @@ sound-more object ends places i d within old new = λ p h. elim (Contains-push_c
   | inr e ↦ subst (IsSoundAt object ends) e new
 ]
 
-module _ (object : Object) (ends : List ℕ) (own : Place) (body : List Place) (rising : AreRising body) (is_body : (p : Place) → Contains body p ↔ IsInBody object ends own p) where
+module _ (object : Object) (ends : List ℕ) (own : Place) (body : List Place) (ascending : AreAscending body) (is_body : (p : Place) → Contains body p ↔ IsInBody object ends own p) where
   pub first-fault : (i : ℕ) (d : Place) (fault : SiteFault) (number : ℕ) → number ≡ number_of fault → i < length body → AreSoundAt object ends (take i body) → IsLookAt object ends (get_or body i d) (Err fault) → IsFirstIn object ends own number (get_or body i d)
   first-fault i d fault number is within sound is_at = record {
     has_fault = record { in_body = (is_body (get_or body i d)).0 (Contains-get_or body i d within); fault = fault; is_at = is_at; is_number = is };
-    is_first = λ other n below h. sound other (earlier body i d other rising within ((is_body other).1 h.in_body) below) h.fault h.is_at;
+    is_first = λ other n below h. sound other (earlier body i d other ascending within ((is_body other).1 h.in_body) below) h.fault h.is_at;
   }
 
   pub no-fault : (i : ℕ) → length body ≤ i → AreSoundAt object ends (take i body) → IsSound object ends own

@@ -16,7 +16,7 @@ use Rattle.rt_control.specs.declared.form.Way.TheVariants.{On, Jump, Branch, Lea
 use Rattle.rt_control.specs.Laws.{IsGood, IsGoodWay, IsGoodCalled, IsGoodTarget, IsGoodForm}
 use Rattle.rt_proc.specs.Ends.{Look, IsLookAt}
 use Rattle.rt_proc.specs.Entries.{LeadsTo, Calls}
-use Rattle.rt_proc.specs.Looks.{led_by, called_by}
+use Rattle.rt_proc.specs.Inside.Looks.{led_by, called_by}
 use Rattle.rt_proc.specs.Steps.{way_steps, steps, called_code, target_code, callees}
 use Rattle.rt_proc.proofs.Ended.{same_look, look-good}
 use Rattle.rt_base.proofs.Lists.{Contains-none}

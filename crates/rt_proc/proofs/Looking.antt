@@ -9,7 +9,7 @@ use Rattle.rt_link.specs.declared.place.Place.{Place}
 use Rattle.rt_proc.specs.Ends.{Look, IsLookAt}
 use Rattle.rt_proc.specs.declared.look.Looks.{Looks}
 use Rattle.rt_proc.specs.Entries.{IsReached}
-use Rattle.rt_proc.specs.Looks.{look_in, AreLooksOf}
+use Rattle.rt_proc.specs.Inside.Looks.{look_in, AreLooksOf}
 use Rattle.rt_proc.proofs.Walking.{followed-next}
 use Rattle.rt_base.proofs.Lists.{Contains-none}
 use Rattle.std.proofs.lemmas.Bool.{cases_Bool}

@@ -1,4 +1,4 @@
--- Look-ups in rising lists of places.
+-- Look-ups in ascending lists of places.
 use Rattle.std.proofs.Common.{◌≡◌, ℕ, zero, suc, ◌+◌, ◌<◌, inl, inr, true, false, Some, None, Err, List, [], ◌∷◌, length, get_or, refl, sym, subst, ◌∙◌, arith, add-one}
 use Rattle.std.specs.declared.cmp.Ordering.TheVariants.{Less, Equal, Greater}
 use Rattle.std.specs.List.{AllWithin, HoldsAt}
@@ -10,7 +10,7 @@ use Rattle.std.proofs.lemmas.List.Folds.{list_any_at}
 use Rattle.std.proofs.lemmas.List.Sorted.{searchable_from_sorted}
 use Rattle.rt_link.specs.Effects.{is_place}
 use Rattle.rt_link.specs.declared.place.Place.{Place}
-use Rattle.rt_proc.specs.Order.{IsBelow, AreRising, place_cmp}
+use Rattle.rt_proc.specs.Order.{IsBelow, AreAscending, place_cmp}
 use Rattle.rt_proc.specs.Sites.{is_entry, number_of, IsIndex}
 use Rattle.rt_proc.proofs.PlaceLaws.{place_cmp-exact, place_cmp-total, IsBelow-irreflexive}
 use Rattle.rt_link.proofs.Held.{is_place-same}
@@ -34,19 +34,19 @@ is_place-below p q below = elim (cases_Bool (is_place p q)) [
   | inr apart ↦ apart
 ]
 
-pub AreRising-tail : (p : Place) (places : List Place) → AreRising (p ∷ places) → AreRising places
-AreRising-tail p places rising = λ i j d less within. rising (suc i) (suc j) d (omega arith) (omega arith)
+pub AreAscending-tail : (p : Place) (places : List Place) → AreAscending (p ∷ places) → AreAscending places
+AreAscending-tail p places ascending = λ i j d less within. ascending (suc i) (suc j) d (omega arith) (omega arith)
 
-searchable : (places : List Place) (p : Place) → AreRising places → IsNonDecreasingBy (λ q. ordering_index (place_cmp q p)) places
-searchable places p rising =
-    searchable_from_sorted place_cmp-total (λ (q : Place). q) places p (λ k d low high. not_after (get_or places k d) (get_or places (k + 1) d) (rising k (k + 1) d (omega arith) high))
+searchable : (places : List Place) (p : Place) → AreAscending places → IsNonDecreasingBy (λ q. ordering_index (place_cmp q p)) places
+searchable places p ascending =
+    searchable_from_sorted place_cmp-total (λ (q : Place). q) places p (λ k d low high. not_after (get_or places k d) (get_or places (k + 1) d) (ascending k (k + 1) d (omega arith) high))
 
-number_of-at : (places : List Place) (p : Place) (i : ℕ) → AreRising places → i < length places → get_or places i p ≡ p → number_of places p ≡ i
-number_of-at [] p i rising h e = absurd (omega arith)
-number_of-at (q ∷ qs) p zero rising h e = rw (e, is_place-self p) refl
-number_of-at (q ∷ qs) p (suc i) rising h e =
-    let below : IsBelow q p = subst (λ (x : Place). IsBelow q x) e (rising 0 (suc i) p (omega arith) h) in
-    let rest : number_of qs p ≡ i = number_of-at qs p i (AreRising-tail q qs rising) (omega arith) e in
+number_of-at : (places : List Place) (p : Place) (i : ℕ) → AreAscending places → i < length places → get_or places i p ≡ p → number_of places p ≡ i
+number_of-at [] p i ascending h e = absurd (omega arith)
+number_of-at (q ∷ qs) p zero ascending h e = rw (e, is_place-self p) refl
+number_of-at (q ∷ qs) p (suc i) ascending h e =
+    let below : IsBelow q p = subst (λ (x : Place). IsBelow q x) e (ascending 0 (suc i) p (omega arith) h) in
+    let rest : number_of qs p ≡ i = number_of-at qs p i (AreAscending-tail q qs ascending) (omega arith) e in
     rw (is_place-below q p below, rest) (add-one i)
 
 number_of-none : (places : List Place) (p : Place) → is_entry places p ≡ false → number_of places p ≡ length places
@@ -64,12 +64,12 @@ none-found (q ∷ qs) p h = elim (cases_Bool (is_place q p)) [
 ]
 
 -- what a binary search finds
-pub found : (places : List Place) (p : Place) (i : ℕ) → AreRising places → i < length places → HoldsAt (λ q. place_cmp q p ≡ Equal) places i → IsIndex places p (Some i)
-found places p i rising within at =
+pub found : (places : List Place) (p : Place) (i : ℕ) → AreAscending places → i < length places → HoldsAt (λ q. place_cmp q p ≡ Equal) places i → IsIndex places p (Some i)
+found places p i ascending within at =
     let here : get_or places i p ≡ p = place_cmp-exact (get_or places i p) p (at p) in
     record {
       found = sym (list_any_at (λ q. is_place q p) places i p within (rw here (is_place-self p)));
-      number = sym (number_of-at places p i rising within here);
+      number = sym (number_of-at places p i ascending within here);
     }
 
 equal-self : (p : Place) → place_cmp p p ≡ Equal
@@ -83,8 +83,8 @@ module _ (places : List Place) (p : Place) (i : ℕ) (before : AllWithin (λ q. 
     | inr more ↦ let found : Equal ≡ Greater = sym (equal-self p) ∙ rw e at (after k p more within) in cc
   ]
 
-pub missed : (places : List Place) (p : Place) (i : ℕ) → AreRising places → IsBinarySearchResult (λ q. place_cmp q p) places (Err i) → IsIndex places p None
-missed places p i rising answer =
-    let point = answer (searchable places p rising) in
+pub missed : (places : List Place) (p : Place) (i : ℕ) → AreAscending places → IsBinarySearchResult (λ q. place_cmp q p) places (Err i) → IsIndex places p None
+missed places p i ascending answer =
+    let point = answer (searchable places p ascending) in
     let none : is_entry places p ≡ false = none-found places p (apart places p i point.0 point.1) in
     record { found = sym none; number = sym (number_of-none places p none) }

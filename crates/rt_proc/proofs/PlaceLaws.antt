@@ -14,7 +14,7 @@ use Rattle.rt_link.specs.declared.place.Place.{Place}
 use Rattle.rt_link.specs.contracts.place.PlaceEq.TheImpl.Laws as eq_laws
 use Rattle.rt_link.specs.contracts.place.PlaceOrd.TheImpl.Laws as ord_laws
 use Rattle.rt_elf.proofs.Booleans.{eqb-is}
-use Rattle.rt_proc.specs.Order.{IsBelow, AreRising, place_cmp}
+use Rattle.rt_proc.specs.Order.{IsBelow, AreAscending, place_cmp}
 use Rattle.rt_base.proofs.Numbers.{nat_cmp-less, nat_cmp-equal, then-equal}
 use Rattle.std.proofs.lemmas.Bool.{and_parts}
 use Rattle.rt_link.proofs.Held.{place-same}
@@ -47,8 +47,8 @@ IsBelow-irreflexive p (inl h) = absurd (omega arith)
 IsBelow-irreflexive p (inr h) = let lt = h.1 in absurd (omega arith)
 
 -- the keys of a set rise
-pub AreRising-keys : (set : BTreeSet Place) → IsOrdered place_cmp set → AreRising set.keys
-AreRising-keys set ordered = λ i j d less within. IsBelow-from_less _ _ (Less-from_sorted place_cmp set.keys i j d ordered less within)
+pub AreAscending-keys : (set : BTreeSet Place) → IsOrdered place_cmp set → AreAscending set.keys
+AreAscending-keys set ordered = λ i j d less within. IsBelow-from_less _ _ (Less-from_sorted place_cmp set.keys i j d ordered less within)
 
 -- a set of a list's places has them
 pub Contains-keys : (places : List Place) (set : BTreeSet Place) → IsFromIterResult place_cmp places set → (p : Place) → Contains set.keys p ↔ Contains places p

@@ -8,7 +8,7 @@ use Rattle.rt_control.specs.declared.form.Form.{Form}
 use Rattle.rt_proc.specs.Ends.{Look, IsLookAt}
 use Rattle.rt_proc.specs.Bodies.{StepsTo}
 use Rattle.rt_proc.specs.Entries.{IsEntry}
-use Rattle.rt_proc.specs.Looks.{stepped_by}
+use Rattle.rt_proc.specs.Inside.Looks.{stepped_by}
 use Rattle.rt_proc.specs.Sites.{is_entry, is_other}
 use Rattle.rt_proc.specs.Steps.{steps}
 use Rattle.rt_proc.proofs.Forms.{one_form, no_form}

@@ -41,7 +41,7 @@ module _ (object : Object) (ends : List ℕ) (one_form : IsLawOfOneForm) where
 
     places_same : places_of p.sites ≡ places_of q.sites
     places_same =
-        one_ordered IsBelow IsBelow-asymmetric (IsInBody object ends p.entry) (places_of p.sites) (places_of q.sites) a.rising a.body there.rising
+        one_ordered IsBelow IsBelow-asymmetric (IsInBody object ends p.entry) (places_of p.sites) (places_of q.sites) a.ascending a.body there.ascending
         (subst (λ own. (place : Place) → Contains (places_of q.sites) place ↔ IsInBody object ends own place) (sym entry) there.body)
 
     count_same : length p.sites ≡ length q.sites
@@ -66,7 +66,7 @@ module _ (object : Object) (ends : List ℕ) (one_form : IsLawOfOneForm) where
   module _ (first second : List Proc) (a : AreProcs object ends first) (b : AreProcs object ends second) where
     entries_same : entries_of first ≡ entries_of second
     entries_same =
-        one_ordered IsBelow IsBelow-asymmetric (IsEntry object ends) (entries_of first) (entries_of second) a.rising a.entries b.rising b.entries
+        one_ordered IsBelow IsBelow-asymmetric (IsEntry object ends) (entries_of first) (entries_of second) a.ascending a.entries b.ascending b.entries
 
     counts_same : length first ≡ length second
     counts_same =

@@ -6,7 +6,7 @@ use Rattle.rt_control.specs.declared.form.Form.{Form}
 use Rattle.rt_control.specs.Laws.{IsGood}
 use Rattle.rt_proc.specs.Ends.{IsLookAt}
 use Rattle.rt_proc.specs.Entries.{IsEntry}
-use Rattle.rt_proc.specs.Order.{AreRising}
+use Rattle.rt_proc.specs.Order.{AreAscending}
 use Rattle.rt_proc.specs.Steps.{steps}
 use Rattle.rt_proc.specs.Walks.{Walk}
 
@@ -24,6 +24,6 @@ IsInBody object ends own place = Walk (λ p. p ≡ own) (StepsTo object ends own
 
 -- the entries of all procedures, in order
 pub record AreEntries (object : Object) (ends : List ℕ) (entries : List Place) : Type 0 where
-  pub rising : AreRising entries
+  pub ascending : AreAscending entries
   pub same : (place : Place) → Contains entries place ↔ IsEntry object ends place
   pub good : All (IsGood object) entries

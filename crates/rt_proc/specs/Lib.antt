@@ -2,12 +2,10 @@ pub mod Bodies
 pub mod Ends
 pub mod Entries
 pub mod Faults
-pub mod Founds
 pub mod Laws
-pub mod Looks
 pub mod Order
 pub mod Procs
-pub mod Ready
 pub mod Sites
 pub mod Steps
 pub mod Walks
+pub mod Inside

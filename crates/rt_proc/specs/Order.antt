@@ -9,8 +9,8 @@ abbrev pub IsBelow : Place → Place → Type 0
 IsBelow p q = (p.section < q.section) ⊎ ((p.section ≡ q.section) × (p.offset < q.offset))
 
 -- each place comes before those after it in the list
-abbrev pub AreRising : List Place → Type 0
-AreRising places = AllPairs IsBelow places
+abbrev pub AreAscending : List Place → Type 0
+AreAscending places = AllPairs IsBelow places
 
 -- the same order as `cmp` computes it
 abbrev pub place_cmp : Place → Place → Ordering

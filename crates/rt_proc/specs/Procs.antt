@@ -11,7 +11,7 @@ use Rattle.rt_proc.specs.declared.proc.Proc.{Proc}
 use Rattle.rt_proc.specs.declared.site.Site.{Site}
 use Rattle.rt_proc.specs.Bodies.{IsInBody}
 use Rattle.rt_proc.specs.Entries.{is_function, place_of, IsEntry}
-use Rattle.rt_proc.specs.Order.{AreRising}
+use Rattle.rt_proc.specs.Order.{AreAscending}
 use Rattle.rt_proc.specs.Sites.{site_of}
 
 -- a function at a place
@@ -46,12 +46,12 @@ pub record IsSite (object : Object) (ends : List ℕ) (entries : List Place) (ow
 -- a procedure of an object: its sites are those of its body
 pub record IsProc (object : Object) (ends : List ℕ) (entries : List Place) (proc : Proc) : Type 0 where
   pub name : proc.name ≡ name_at object proc.entry
-  pub rising : AreRising (places_of proc.sites)
+  pub ascending : AreAscending (places_of proc.sites)
   pub body : (place : Place) → Contains (places_of proc.sites) place ↔ IsInBody object ends proc.entry place
   pub sites : All (IsSite object ends entries proc.entry) proc.sites
 
 -- the procedures of an object: one for each entry
 pub record AreProcs (object : Object) (ends : List ℕ) (procs : List Proc) : Type 0 where
-  pub rising : AreRising (entries_of procs)
+  pub ascending : AreAscending (entries_of procs)
   pub entries : (place : Place) → Contains (entries_of procs) place ↔ IsEntry object ends place
   pub each : All (IsProc object ends (entries_of procs)) procs

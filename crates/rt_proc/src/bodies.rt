@@ -2,8 +2,8 @@
 ghost use Rattle.std.specs.Prelude.{◌≡◌, ◌↔◌, IfOk, Contains};
 ghost use Rattle.rt_proc.specs.Bodies.{IsInBody, AreEntries};
 ghost use Rattle.rt_proc.specs.Entries.{IsEntry};
-ghost use Rattle.rt_proc.specs.Looks.{stepped_by, AreLooksOf};
-ghost use Rattle.rt_proc.specs.Order.{AreRising};
+ghost use Rattle.rt_proc.specs.Inside.Looks.{stepped_by, AreLooksOf};
+ghost use Rattle.rt_proc.specs.Order.{AreAscending};
 
 use crate::found::Found;
 use crate::look::{Code, Look};
@@ -19,7 +19,7 @@ fn stepped_by(
     own: Place,
     look: &Look,
 ) -> Result<Vec<Place>, AllocError>
-    requires { AreRising entries.now }
+    requires { AreAscending entries.now }
     ensures { IfOk result (λ stepped. stepped.items ≡ stepped_by entries.now own look.now) }
 {
     match look {
@@ -62,7 +62,7 @@ pub(crate) fn body(
     requires looks { AreLooksOf code.now.source.object.now code.now.source.ends.now code.now.looks.now }
     requires entries { AreEntries code.now.source.object.now code.now.source.ends.now entries.now }
     requires entry { IsEntry code.now.source.object.now code.now.source.ends.now own }
-    ensures rising { IfOk result (λ body. AreRising body.items) }
+    ensures ascending { IfOk result (λ body. AreAscending body.items) }
     ensures found { IfOk result (λ body. (place : Place)
         → Contains body.items place ↔ IsInBody code.now.source.object.now code.now.source.ends.now own place) }
 {

@@ -1,8 +1,8 @@
 // The entries of procedures.
 ghost use Rattle.std.specs.Prelude.{◌↔◌, ◌⊎◌, IfOk, All, Contains};
 ghost use Rattle.rt_proc.specs.Entries.{IsCalledFrom, IsReached};
-ghost use Rattle.rt_proc.specs.Looks.{AreLooksOf};
-ghost use Rattle.rt_proc.specs.Order.{AreRising};
+ghost use Rattle.rt_proc.specs.Inside.Looks.{AreLooksOf};
+ghost use Rattle.rt_proc.specs.Order.{AreAscending};
 
 use crate::look::{Code, called_by};
 use crate::places::in_order;
@@ -33,7 +33,7 @@ pub(crate) fn entries(
 ) -> Result<Vec<Place>, AllocError>
     requires looks { AreLooksOf code.now.source.object.now code.now.source.ends.now code.now.looks.now }
     requires reached { All (IsReached code.now.source.object.now code.now.source.ends.now) reached.now }
-    ensures rising { IfOk result (λ entries. AreRising entries.items) }
+    ensures ascending { IfOk result (λ entries. AreAscending entries.items) }
     ensures same { IfOk result (λ entries. (place : Place)
         → Contains entries.items place
         ↔ (Contains functions.now place ⊎ IsCalledFrom code.now.source.object.now code.now.source.ends.now reached.now place)) }

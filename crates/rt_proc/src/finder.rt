@@ -6,8 +6,8 @@ ghost use Rattle.rt_link.specs.Links.{AreLinksOf, place_cmp};
 ghost use Rattle.rt_proc.specs.Bodies.{IsInBody, AreEntries};
 ghost use Rattle.rt_proc.specs.Entries.{IsEntry, IsFunction, IsReached};
 ghost use Rattle.rt_proc.specs.Faults.{symbols_fault, IsSound, IsBodyFault, IsFaultOf, HasNoFault};
-ghost use Rattle.rt_proc.specs.Looks.{AreLooksOf};
-ghost use Rattle.rt_proc.specs.Order.{AreRising};
+ghost use Rattle.rt_proc.specs.Inside.Looks.{AreLooksOf};
+ghost use Rattle.rt_proc.specs.Order.{AreAscending};
 ghost use Rattle.rt_proc.specs.Procs.{name_of_first, places_of, entries_of, IsSite, IsProc, AreProcs};
 
 use crate::bodies::body;
@@ -38,8 +38,8 @@ fn sites(
 ) -> Result<Sites, CodeFault>
     requires looks { AreLooksOf code.now.source.object.now code.now.source.ends.now code.now.looks.now }
     requires entry { IsEntry code.now.source.object.now code.now.source.ends.now own }
-    requires entries { AreRising entries.now }
-    requires rising { AreRising body.now }
+    requires entries { AreAscending entries.now }
+    requires ascending { AreAscending body.now }
     requires body { (place : Place) → Contains body.now place ↔ IsInBody code.now.source.object.now code.now.source.ends.now own place }
     ensures bad { IfErr result (IsBodyFault code.now.source.object.now code.now.source.ends.now own) }
     ensures sound { OnOk result (IsSound code.now.source.object.now code.now.source.ends.now own) }

@@ -1,7 +1,7 @@
 // Places as they are found.
 ghost use Rattle.std.specs.Prelude.{◌≡◌, [], OnOk};
 ghost use Rattle.rt_control.specs.Tables.{with_place, with_places};
-ghost use Rattle.rt_proc.specs.Founds.{HasFound};
+ghost use Rattle.rt_proc.specs.Inside.Founds.{HasFound};
 
 use rt_control::Place;
 use std::alloc::{AllocError, Global};

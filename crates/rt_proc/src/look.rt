@@ -4,8 +4,8 @@ ghost use Rattle.rt_control.specs.Laws.{IsGood};
 ghost use Rattle.rt_link.specs.Effects.{is_place};
 ghost use Rattle.rt_proc.specs.Ends.{IsLookAt};
 ghost use Rattle.rt_proc.specs.Entries.{IsReached};
-ghost use Rattle.rt_proc.specs.Looks.{led_by, called_by, look_in, AreLooksOf};
-ghost use Rattle.rt_proc.specs.Ready.{AreReady};
+ghost use Rattle.rt_proc.specs.Inside.Looks.{led_by, called_by, look_in, AreLooksOf};
+ghost use Rattle.rt_proc.specs.Inside.Ready.{AreReady};
 
 use crate::ends::ended;
 use crate::steps::{callees, steps};

@@ -1,7 +1,7 @@
 // Sets of places.
 ghost use Rattle.std.specs.Prelude.{◌≡◌, ◌↔◌, Contains, IfOk};
 ghost use Rattle.std.specs.BTreeSet.{IsFromIterResult};
-ghost use Rattle.rt_proc.specs.Order.{AreRising, place_cmp};
+ghost use Rattle.rt_proc.specs.Order.{AreAscending, place_cmp};
 
 use rt_control::Place;
 use std::alloc::{AllocError, Global};
@@ -23,7 +23,7 @@ fn listed(alloc: Global, set: &BTreeSet<Place>) -> Result<Vec<Place>, AllocError
 
 // The places in their order, each once.
 pub(crate) fn in_order(alloc: Global, places: &[Place]) -> Result<Vec<Place>, AllocError>
-    ensures rising { IfOk result (λ sorted. AreRising sorted.items) }
+    ensures ascending { IfOk result (λ sorted. AreAscending sorted.items) }
     ensures same { IfOk result (λ sorted. (place : Place) → Contains sorted.items place ↔ Contains places.now place) }
 {
     listed(alloc, &set_of(alloc, places)?)

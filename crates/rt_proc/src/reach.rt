@@ -1,8 +1,8 @@
 // What is reached from functions.
 ghost use Rattle.std.specs.Prelude.{◌<◌, ◌↔◌, IfOk, AllPairs, Contains};
 ghost use Rattle.rt_proc.specs.Entries.{IsFunction, IsReached};
-ghost use Rattle.rt_proc.specs.Looks.{AreLooksOf};
-ghost use Rattle.rt_proc.specs.Ready.{AreReady};
+ghost use Rattle.rt_proc.specs.Inside.Looks.{AreLooksOf};
+ghost use Rattle.rt_proc.specs.Inside.Ready.{AreReady};
 
 use crate::found::Found;
 use crate::look::{Looks, Source, led_by};

@@ -1,6 +1,6 @@
 // Sites, from what they do.
 ghost use Rattle.std.specs.Prelude.{◌≡◌, IfOk};
-ghost use Rattle.rt_proc.specs.Order.{AreRising};
+ghost use Rattle.rt_proc.specs.Order.{AreAscending};
 ghost use Rattle.rt_proc.specs.Sites.{callee_of, target_of, kind_of, next_of, step_tails, tails_of, site_of};
 ghost use Rattle.rt_proc.specs.Steps.{steps};
 
@@ -12,7 +12,7 @@ use rt_control::{Called, Form, Place, Target, Way};
 use std::alloc::{AllocError, Global};
 
 fn callee_of(entries: &[Place], called: Called) -> Result<Callee, AllocError>
-    requires { AreRising entries.now }
+    requires { AreAscending entries.now }
     ensures { IfOk result (λ callee. callee ≡ callee_of entries.now called) }
 {
     match called {
@@ -23,7 +23,7 @@ fn callee_of(entries: &[Place], called: Called) -> Result<Callee, AllocError>
 }
 
 fn target_of(entries: &[Place], target: Target) -> Result<Callee, AllocError>
-    requires { AreRising entries.now }
+    requires { AreAscending entries.now }
     ensures { IfOk result (λ callee. callee ≡ target_of entries.now target) }
 {
     match target {
@@ -33,7 +33,7 @@ fn target_of(entries: &[Place], target: Target) -> Result<Callee, AllocError>
 }
 
 fn kind_of(entries: &[Place], form: &Form) -> Result<Kind, AllocError>
-    requires { AreRising entries.now }
+    requires { AreAscending entries.now }
     ensures { IfOk result (λ kind. kind ≡ kind_of entries.now form.now) }
 {
     match form {
@@ -51,7 +51,7 @@ pub(crate) fn next_of(
     own: Place,
     form: &Form,
 ) -> Result<Vec<Place>, AllocError>
-    requires { AreRising entries.now }
+    requires { AreAscending entries.now }
     ensures { IfOk result (λ next. next.items ≡ next_of entries.now own form.now) }
 {
     let mut next = Vec::new(alloc);
@@ -70,7 +70,7 @@ fn step_tails(
     own: Place,
     steps: &[Place],
 ) -> Result<Vec<Callee>, AllocError>
-    requires { AreRising entries.now }
+    requires { AreAscending entries.now }
     ensures { IfOk result (λ tails. tails.items ≡ step_tails entries.now own steps.now) }
 {
     let mut tails = Vec::new(alloc);
@@ -88,7 +88,7 @@ fn tails_of(
     own: Place,
     form: &Form,
 ) -> Result<Vec<Callee>, AllocError>
-    requires { AreRising entries.now }
+    requires { AreAscending entries.now }
     ensures { IfOk result (λ tails. tails.items ≡ tails_of entries.now own form.now) }
 {
     match form {
@@ -110,7 +110,7 @@ pub(crate) fn site_of(
     place: Place,
     form: &Form,
 ) -> Result<Site, AllocError>
-    requires { AreRising entries.now }
+    requires { AreAscending entries.now }
     ensures { IfOk result (λ site. site ≡ site_of entries.now own place form.now) }
 {
     Ok(Site {

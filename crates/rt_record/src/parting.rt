@@ -13,7 +13,7 @@ use std::alloc::Global;
 /// The lines with an existential for each field of existentials that do nothing but hold fields, and behind them the shapes
 /// of these. The fields are numbered as they come first in `<=` lines and bounds, from the number above all existentials of
 /// the lines on; one whose number would not fit stays where it is. So there are as many `<=` lines and bounds as before,
-/// with fewer letters. None where no field gets a number. It takes time nearly linear in the lines. The error is want of
+/// with fewer letters. None where no field gets a number. It takes time nearly linear in the lines. The error is out of
 /// memory.
 pub fn split(alloc: Global, lines: &[Line]) -> Result<Option<Lines>, Memory>
     ensures split { IfOk result (λ after. MatchOption after (HasNoneSplit lines.now) (IsSplit lines.now)) }

@@ -7,7 +7,7 @@ use Rattle.rt_named.specs.Naming.{named as named_by}
 use Rattle.rt_sat.proofs.Frames.{extra_named, side_named}
 use Rattle.rt_outline.specs.Lines.{Lined, standing}
 use Rattle.rt_outline.proofs.Standing.{all_set, standing_whole}
-use Rattle.rt_reduce.specs.Deciding.{IsOuterFor, IsUpperWith}
+use Rattle.rt_reduce.specs.Inside.Deciding.{IsOuterFor, IsUpperWith}
 use Rattle.rt_rules.proofs.LineSides.{Contains-sides}
 
 -- between the variables that lines and the sides of another one name

@@ -11,7 +11,7 @@ use Rattle.rt_reduction.specs.Rounds.{Reduces, done, again}
 use Rattle.rt_reduction.proofs.Losing.{round_loses_lem, round_names_lem}
 use Rattle.rt_reduction.proofs.NamesFrom.{named_from, names_tidied}
 use Rattle.rt_simplify.proofs.Staying.{round_tidied_lem}
-use Rattle.rt_reduce.specs.Settling.{AreUsed, IsSimplified}
+use Rattle.rt_reduce.specs.Inside.Settling.{AreUsed, IsSimplified}
 use Rattle.rt_reduce.proofs.Falling.{AreOfNumbers, named_count, named_falls, number_of}
 use Rattle.rt_reduce.proofs.Joined.{round_anchored}
 

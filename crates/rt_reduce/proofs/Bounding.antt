@@ -6,7 +6,7 @@ use Rattle.rt_lines.specs.declared.variable.Dtv.{Dtv}
 use Rattle.rt_lines.specs.declared.line.Line.{Line}
 use Rattle.rt_lines.specs.declared.line.Line.TheVariants.{Low, Up}
 use Rattle.rt_lines.specs.Orders.{Below, IsAtOrBelow}
-use Rattle.rt_reduce.specs.Deciding.{AreAbove, AreBelow}
+use Rattle.rt_reduce.specs.Inside.Deciding.{AreAbove, AreBelow}
 
 module _ (order : Below) (k : ℕ) where
   pub above_none : AreAbove order [] k []

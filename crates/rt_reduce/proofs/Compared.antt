@@ -33,9 +33,9 @@ use Rattle.rt_reduction.proofs.FromSides.{without_side}
 use Rattle.rt_reduction.proofs.Merging.{Alike-equal, near}
 use Rattle.rt_reduction.proofs.Naming.{base_named}
 use Rattle.rt_named.specs.Naming.{named as named_by}
-use Rattle.rt_reduce.specs.Alike.{AreNumbered, IsAlike, no_side}
-use Rattle.rt_reduce.specs.Compared.{IsCompared}
-use Rattle.rt_reduce.specs.Merging.{IsFirstAmong, IsFirstEqual, IsSide}
+use Rattle.rt_reduce.specs.Inside.Alike.{AreNumbered, IsAlike, no_side}
+use Rattle.rt_reduce.specs.Inside.Compared.{IsCompared}
+use Rattle.rt_reduce.specs.Inside.Merging.{IsFirstAmong, IsFirstEqual, IsSide}
 use Rattle.rt_equals.specs.Comparing.{AreEquals}
 use Rattle.rt_reduce.proofs.Firsts.{first_of_sides}
 use Rattle.rt_reduce.proofs.Numbering.{alike_at, own_in}

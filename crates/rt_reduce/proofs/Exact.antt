@@ -13,7 +13,7 @@ use Rattle.rt_rules.proofs.Carry.{are_there, given}
 use Rattle.rt_rules.proofs.Covering.{derives_more}
 use Rattle.rt_outline.specs.declared.led.Led.TheVariants.{No}
 use Rattle.rt_outline.specs.Lines.{HasBelow, Lined}
-use Rattle.rt_reduce.specs.Deciding.{AreAbove, AreBelow, IsWaysFor}
+use Rattle.rt_reduce.specs.Inside.Deciding.{AreAbove, AreBelow, IsWaysFor}
 use Rattle.rt_reduce.proofs.Opening.{low_seen, up_seen}
 use Rattle.rt_reduce.proofs.Telling.{low_tells, up_tells}
 use Rattle.rt_reduce.proofs.Unbounded.{low_below, up_below}

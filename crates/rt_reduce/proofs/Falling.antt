@@ -24,7 +24,7 @@ use Rattle.rt_rules.specs.Put.{put, put_lines}
 use Rattle.rt_rules.proofs.LineSides.{Contains-sides, HasSide-in_sides}
 use Rattle.rt_polar.specs.Tidied.{without_self, tidied}
 use Rattle.rt_reduction.proofs.NamesFrom.{NamesFrom, named_from, names_chain, names_tidied, put_source}
-use Rattle.rt_reduce.specs.Merging.{IsNamedPair}
+use Rattle.rt_reduce.specs.Inside.Merging.{IsNamedPair}
 
 -- the numbers of the existentials that lines name
 abbrev pub numbers : List Line → List ℕ

@@ -12,8 +12,8 @@ use Rattle.rt_outline.specs.Lines.{standing}
 use Rattle.rt_sure.specs.declared.fate.Fate.{Fate}
 use Rattle.rt_sure.specs.declared.fate.Fate.TheVariants.{Stays, Goes, Open}
 use Rattle.rt_sure.specs.Fates.{AreGoing, AreStaying, HasBefore, HasSure, IsSure, fate_at}
-use Rattle.rt_reduce.specs.Deciding.{AreWitnessed}
-use Rattle.rt_reduce.specs.Dropping.{AreFated, IsFatedAt, IsMoved}
+use Rattle.rt_reduce.specs.Inside.Deciding.{AreWitnessed}
+use Rattle.rt_reduce.specs.Inside.Dropping.{AreFated, IsFatedAt, IsMoved}
 use Rattle.rt_reduce.proofs.Flags.{set_again, standing_at, standing_gone, standing_has}
 
 -- a flag that was cleared

@@ -21,7 +21,7 @@ use Rattle.rt_reduction.specs.Before.{comes_before}
 use Rattle.rt_reduction.specs.Merges.{IsEqualTo, HasEqual, IsMerge}
 use Rattle.rt_reduction.proofs.Before.{before_chain, not_before_self}
 use Rattle.rt_reduction.proofs.Naming.{base_named}
-use Rattle.rt_reduce.specs.Merging.{IsEarlier, IsFirstAmong, IsFirstEqual, IsLike}
+use Rattle.rt_reduce.specs.Inside.Merging.{IsEarlier, IsFirstAmong, IsFirstEqual, IsLike}
 use Rattle.rt_base.proofs.Numbers.{equal_number}
 
 -- an element that is gone through is one of those before, or the last one

@@ -16,8 +16,8 @@ use Rattle.rt_sat.proofs.Frames.{side_named}
 use Rattle.rt_outline.specs.Lines.{Lined, standing}
 use Rattle.rt_outline.proofs.Standing.{Stands, standing_line}
 use Rattle.rt_witness.specs.Witnesses.{IsLeft}
-use Rattle.rt_reduce.specs.Deciding.{AreStanding, AreWitnessed, IsOwnOuter, IsOuterFor}
-use Rattle.rt_reduce.specs.Dropping.{IsMoved}
+use Rattle.rt_reduce.specs.Inside.Deciding.{AreStanding, AreWitnessed, IsOwnOuter, IsOuterFor}
+use Rattle.rt_reduce.specs.Inside.Dropping.{IsMoved}
 use Rattle.rt_reduce.proofs.Places.{All-removed}
 
 remove_none : {X : Type 0} (i : ℕ) → remove {X = X} [] i ≡ []

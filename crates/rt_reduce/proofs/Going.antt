@@ -12,8 +12,8 @@ use Rattle.rt_polar.specs.Tidied.{tidied}
 use Rattle.rt_reduction.specs.Emits.{AreOfScheme}
 use Rattle.rt_reduction.specs.Merges.{HasEqual, Merges}
 use Rattle.rt_reduction.specs.Merges.Merges.{merges}
-use Rattle.rt_reduce.specs.Compared.{IsCompared}
-use Rattle.rt_reduce.specs.Merging.{IsFirstEqual, IsSide}
+use Rattle.rt_reduce.specs.Inside.Compared.{IsCompared}
+use Rattle.rt_reduce.specs.Inside.Merging.{IsFirstEqual, IsSide}
 use Rattle.rt_reduce.proofs.Compared.{any, compared_next, had_equal, was_named}
 use Rattle.rt_reduce.proofs.Falling.{put-below}
 use Rattle.rt_reduce.proofs.Firsts.{merge_of, still_pending}

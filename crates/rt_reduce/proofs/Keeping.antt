@@ -32,7 +32,7 @@ use Rattle.rt_reduction.proofs.FromSides.{from_chain, from_put, from_scheme, fro
 use Rattle.rt_reduction.proofs.Prepared.{from_prepares}
 use Rattle.rt_reduction.proofs.Simplifying.{twinned_lines}
 use Rattle.rt_reduction.proofs.Split.{from_splits}
-use Rattle.rt_reduce.specs.Merging.{IsSide}
+use Rattle.rt_reduce.specs.Inside.Merging.{IsSide}
 use Rattle.rt_reduce.proofs.Falling.{put-below, tidied-below}
 
 -- a side in an existential's place

@@ -13,7 +13,7 @@ use Rattle.rt_rules.specs.Rules.{Derivable}
 use Rattle.rt_rules.specs.Put.{exist}
 use Rattle.rt_reduction.specs.Drops.{Drops}
 use Rattle.rt_reduction.specs.Drops.Drops.{ends, goes, stays}
-use Rattle.rt_reduce.specs.Dropping.{AreLeft, Decides, IsKeptOrGone}
+use Rattle.rt_reduce.specs.Inside.Dropping.{AreLeft, Decides, IsKeptOrGone}
 use Rattle.rt_reduce.proofs.Places.{remove_middle, get_or_middle, All-removed}
 
 -- before the first step

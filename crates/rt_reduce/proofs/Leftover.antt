@@ -12,7 +12,7 @@ use Rattle.rt_lines.specs.Equality.{line_eq}
 use Rattle.rt_lines.proofs.Equal.{line_equal}
 use Rattle.rt_rules.specs.Laws.{NamesBase}
 use Rattle.rt_twins.specs.Twinnings.{IsTwinning}
-use Rattle.rt_twins.specs.Leading.{AreOfLines}
+use Rattle.rt_twins.specs.Inside.Leading.{AreOfLines}
 use Rattle.rt_polar.specs.Polar.{HasCandidate}
 use Rattle.rt_polar.specs.Puts.{Puts}
 use Rattle.rt_polar.specs.Puts.Puts.{none_left, puts}
@@ -20,7 +20,7 @@ use Rattle.rt_reduction.specs.Simplifies.{Simplifies, simple, twins_go}
 use Rattle.rt_reduction.specs.Rounds.{IsUnfinished, of_candidate, of_twins, of_unused}
 use Rattle.rt_reduction.proofs.Losing.{IsSimple, simple_loses}
 use Rattle.rt_reduction.proofs.NamesFrom.{Loses}
-use Rattle.rt_reduce.specs.Settling.{AreUsed, HasMissing, HaveMissing, IsMissing, IsSimplified, IsUnused, IsUsedBy}
+use Rattle.rt_reduce.specs.Inside.Settling.{AreUsed, HasMissing, HaveMissing, IsMissing, IsSimplified, IsUnused, IsUsedBy}
 use Rattle.rt_reduce.proofs.Firsts.{more_cases}
 use Rattle.rt_lines.proofs.Same.{line_self}
 

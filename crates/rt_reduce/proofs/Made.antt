@@ -13,8 +13,8 @@ use Rattle.rt_rules.proofs.Carry.{given}
 use Rattle.rt_rules.proofs.Covering.{derives_more}
 use Rattle.rt_sat.proofs.Frames.{side_named}
 use Rattle.rt_outline.specs.Lines.{Lined}
-use Rattle.rt_reduce.specs.Deciding.{IsInnerFor, IsLowerWith, IsOwnOuter, IsWaysFor}
-use Rattle.rt_reduce.specs.Dropping.{Decides, IsKeptOrGone}
+use Rattle.rt_reduce.specs.Inside.Deciding.{IsInnerFor, IsLowerWith, IsOwnOuter, IsWaysFor}
+use Rattle.rt_reduce.specs.Inside.Dropping.{Decides, IsKeptOrGone}
 use Rattle.rt_reduce.proofs.Places.{All-removed}
 
 -- an element that is taken out, before the others

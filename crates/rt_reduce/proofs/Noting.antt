@@ -7,8 +7,8 @@ use Rattle.rt_lines.specs.declared.variable.Base.{Base}
 use Rattle.rt_lines.specs.declared.variable.Dtv.{Dtv}
 use Rattle.rt_reduce.specs.declared.bases.Bases.{Bases}
 use Rattle.rt_reduce.specs.declared.bases.Bases.TheVariants.{Several}
-use Rattle.rt_reduce.specs.Alike.{no_side}
-use Rattle.rt_reduce.specs.Bases.{IsNoted, Notes}
+use Rattle.rt_reduce.specs.Inside.Alike.{no_side}
+use Rattle.rt_reduce.specs.Inside.Bases.{IsNoted, Notes}
 
 pub noted_set : (number : ℕ) (base : Base) (old : List Bases) (value : Bases) → number < length old → Notes value base →
     ((b : Base) → Notes (get_or old number Several) b → Notes value b) → IsNoted number base old (set old number value)

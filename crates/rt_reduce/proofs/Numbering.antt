@@ -27,9 +27,9 @@ use Rattle.rt_reduction.specs.Merges.{HasEqual, IsMerge}
 use Rattle.rt_reduction.proofs.Naming.{base_named}
 use Rattle.rt_reduce.specs.declared.bases.Bases.{Bases}
 use Rattle.rt_reduce.specs.declared.bases.Bases.TheVariants.{Several}
-use Rattle.rt_reduce.specs.Alike.{AreAlikeAt, AreNumbered, HasNumber, IsAlike, no_side}
-use Rattle.rt_reduce.specs.Bases.{AreNoted, IsAloneAt, Notes}
-use Rattle.rt_reduce.specs.Merging.{IsNamedPair}
+use Rattle.rt_reduce.specs.Inside.Alike.{AreAlikeAt, AreNumbered, HasNumber, IsAlike, no_side}
+use Rattle.rt_reduce.specs.Inside.Bases.{AreNoted, IsAloneAt, Notes}
+use Rattle.rt_reduce.specs.Inside.Merging.{IsNamedPair}
 use Rattle.rt_reduce.proofs.Firsts.{side_of}
 
 -- equal numbers are those of variables that lie below each other

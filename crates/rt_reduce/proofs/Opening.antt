@@ -18,7 +18,7 @@ use Rattle.rt_outline.specs.declared.led.Led.TheVariants.{Yes}
 use Rattle.rt_outline.specs.Accesses.{AreThereBehind}
 use Rattle.rt_outline.specs.Enclosing.{AreThere}
 use Rattle.rt_outline.specs.Lines.{HasBelow, Lined}
-use Rattle.rt_reduce.specs.Deciding.{AreAbove, AreBelow, IsLowerWith}
+use Rattle.rt_reduce.specs.Inside.Deciding.{AreAbove, AreBelow, IsLowerWith}
 use Rattle.rt_reduce.proofs.Telling.{low_tells, tells_below, up_tells}
 
 -- what holds, and what doesn't

@@ -19,7 +19,7 @@ use Rattle.rt_bridge.proofs.Lawful.{low_law, up_law}
 use Rattle.rt_outline.specs.declared.led.Led.{Led}
 use Rattle.rt_outline.specs.declared.led.Led.TheVariants.{No, Yes, Open}
 use Rattle.rt_outline.specs.Lines.{HasBelow}
-use Rattle.rt_reduce.specs.Deciding.{AreAbove, AreBelow, Tells}
+use Rattle.rt_reduce.specs.Inside.Deciding.{AreAbove, AreBelow, Tells}
 use Rattle.rt_reduce.proofs.Firsts.{more_cases}
 
 -- none of the elements that are gone through

@@ -9,8 +9,8 @@ use Rattle.rt_lines.specs.Orders.{Below}
 use Rattle.rt_rules.specs.Rules.{Derivable}
 use Rattle.rt_rules.proofs.Carry.{given}
 use Rattle.rt_rules.proofs.Covering.{derives_more}
-use Rattle.rt_reduce.specs.Deciding.{AreWitnessed}
-use Rattle.rt_reduce.specs.Dropping.{AreLeft, AreTold, IsToldAt}
+use Rattle.rt_reduce.specs.Inside.Deciding.{AreWitnessed}
+use Rattle.rt_reduce.specs.Inside.Dropping.{AreLeft, AreTold, IsToldAt}
 use Rattle.rt_reduce.proofs.Flags.{standing_at, standing_before}
 
 -- an element of so many first ones

@@ -32,7 +32,7 @@ use Rattle.rt_rules.specs.Rules.Derivable.{
 use Rattle.rt_rules.proofs.Carry.{given}
 use Rattle.rt_rules.proofs.Covering.{derives_more}
 use Rattle.rt_outline.specs.Lines.{HasBelow, Lined}
-use Rattle.rt_reduce.specs.Deciding.{IsInnerFor}
+use Rattle.rt_reduce.specs.Inside.Deciding.{IsInnerFor}
 
 -- a second list has the variables of the first one, and derives the lines of it that are no bounds
 module _ (order other : Below) (lines others : List Line)

@@ -1,8 +1,2 @@
-pub mod Deciding
-pub mod Alike
-pub mod Bases
-pub mod Dropping
-pub mod Merging
-pub mod Compared
 pub mod Rounds
-pub mod Settling
+pub mod Inside

@@ -1,7 +1,7 @@
 // Numbers of variables, equal exactly for those that lie below each other.
 ghost use Rattle.std.specs.Prelude.{◌≡◌, Contains, length, IfOk, MatchOption};
 ghost use Rattle.rt_lines.specs.declared.variable.Dtv.{Dtv as Variable};
-ghost use Rattle.rt_reduce.specs.Alike.{AreNumbered, HasNumber};
+ghost use Rattle.rt_reduce.specs.Inside.Alike.{AreNumbered, HasNumber};
 
 use rt_base::Memory;
 use rt_equals::Comparison;
@@ -19,7 +19,7 @@ pub fn number(comparison: &Comparison, equals: &[usize], x: &Dtv) -> Option<usiz
     }
 }
 
-/// The numbers that stand for named variables. The error is want of memory.
+/// The numbers that stand for named variables. The error is out of memory.
 pub fn numbers(
     alloc: Global,
     comparison: &Comparison,

@@ -2,7 +2,7 @@
 ghost use Rattle.std.specs.Prelude.{◌≡◌, length, slice_index_or, IsTrue, IfOk};
 ghost use Rattle.rt_lines.specs.declared.variable.Base.{Base as Origin};
 ghost use Rattle.rt_lines.specs.declared.variable.Base.TheVariants.{Exist as Existential};
-ghost use Rattle.rt_reduce.specs.Bases.{AreNoted, IsNoted, Notes};
+ghost use Rattle.rt_reduce.specs.Inside.Bases.{AreNoted, IsNoted, Notes};
 ghost use Rattle.rt_reduce.specs.declared.bases.Bases.TheVariants.{Several as Unknown};
 
 use rt_base::Memory;
@@ -20,7 +20,7 @@ pub enum Bases {
     Several,
 }
 
-/// For each number below the count what bases the sides that have it have. The error is want of memory.
+/// For each number below the count what bases the sides that have it have. The error is out of memory.
 pub fn noted(
     alloc: Global,
     sides: &[Dtv],

@@ -8,7 +8,7 @@ use rt_lines::Dtv;
 use std::alloc::Global;
 
 /// Whether the first variable comes before the second in the order in which the first of several stands for the others: by
-/// letters after the base, then by bases, then by the texts of the letters. The error is want of memory.
+/// letters after the base, then by bases, then by the texts of the letters. The error is out of memory.
 pub fn comes_before(alloc: Global, x: &Dtv, y: &Dtv) -> Result<bool, Memory>
     ensures { IfOk result (λ yes. yes ≡ is_before x.now y.now) }
 {

@@ -2,7 +2,7 @@
 ghost use Rattle.std.specs.Prelude.{◌∷◌, ◌++◌, ◌<◌, [], List, All, IfOk, OnOk};
 ghost use Rattle.rt_lines.specs.declared.line.Line.{Line as Given};
 ghost use Rattle.rt_lines.specs.Lines.{HasConstantsBelow};
-ghost use Rattle.rt_reduce.specs.Deciding.{AreAbove, AreBelow};
+ghost use Rattle.rt_reduce.specs.Inside.Deciding.{AreAbove, AreBelow};
 
 use rt_base::Memory;
 use rt_lines::{Dtv, Line, Order};

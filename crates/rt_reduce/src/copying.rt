@@ -5,7 +5,7 @@ use rt_base::Memory;
 use rt_lines::Line;
 use std::alloc::Global;
 
-/// Equal lines. The error is want of memory.
+/// Equal lines. The error is out of memory.
 pub fn copies(alloc: Global, lines: &[Line]) -> Result<Vec<Line>, Memory>
     ensures { IfOk result (λ copies. copies.items ≡ lines.now) }
 {

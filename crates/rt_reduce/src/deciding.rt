@@ -8,7 +8,7 @@ ghost use Rattle.rt_lines.specs.Orders.{Below};
 ghost use Rattle.rt_rules.specs.Rules.{Derivable, HasSide};
 ghost use Rattle.rt_outline.specs.Lines.{standing};
 ghost use Rattle.rt_witness.specs.Witnesses.{IsLeft, IsWitnesses};
-ghost use Rattle.rt_reduce.specs.Deciding.{IsAskable, IsInnerFor, IsUpperWith, IsWaysFor, Tells};
+ghost use Rattle.rt_reduce.specs.Inside.Deciding.{IsAskable, IsInnerFor, IsUpperWith, IsWaysFor, Tells};
 
 use crate::derivable::derives_line;
 use crate::dropping::is_flow;
@@ -71,7 +71,7 @@ fn derives_open(
     derives_unseen(alloc, left, order, line, effort)
 }
 
-// Whether the line is derivable from the lines left: by arcs from outside of these alone, where they tell, else by a
+// Whether the line is derivable from the lines left: by arcs from outside of these alone, where they say, else by a
 // saturation.
 fn derives_unseen(
     alloc: Global,
@@ -109,7 +109,7 @@ fn saturates(
     derives_line(alloc, left, order, line)
 }
 
-// What arcs from outside of the lines left alone tell of a `<=` line or a bound.
+// What arcs from outside of the lines left alone say of a `<=` line or a bound.
 fn told_anew(alloc: Global, left: &[Line], order: &Order, line: &Line) -> Result<Led, Memory>
     requires constants { All (HasConstantsBelow order.now.count) left.now }
     requires constant { HasConstantsBelow order.now.count line.now }
@@ -123,7 +123,7 @@ fn told_anew(alloc: Global, left: &[Line], order: &Order, line: &Line) -> Result
     }
 }
 
-// What arcs from outside of the lines left alone tell of a line.
+// What arcs from outside of the lines left alone say of a line.
 fn told_alone(alloc: Global, left: &[Line], order: &Order, line: &Line) -> Result<Led, Memory>
     requires constants { All (HasConstantsBelow order.now.count) left.now }
     requires constant { HasConstantsBelow order.now.count line.now }
@@ -145,7 +145,7 @@ fn upper_with(alloc: Global, lines: &[Line], line: &Line) -> Result<Upper, Memor
     Ok(outer)
 }
 
-// Whether the line is derivable from the lines that stand, as far as their sides and arcs from outside tell. It needs no list of
+// Whether the line is derivable from the lines that stand, as far as their sides and arcs from outside say. It needs no list of
 // these lines.
 pub fn told(
     alloc: Global,
@@ -186,7 +186,7 @@ pub(crate) fn is_spare(witnesses: &Witnesses, stands: &[bool], line: &Line) -> b
     }
 }
 
-// Whether the variable exists, as far as the lines that stand tell which name it, and which name one of its shape.
+// Whether the variable exists, as far as the lines that stand say which name it, and which name one of its shape.
 pub(crate) fn told_named(witnesses: &Witnesses, stands: &[bool], x: &Dtv) -> Led
     ensures { (order : Below) (lines left : List Given) → IsWitnesses lines witnesses.now → IsLeft lines stands.now left →
         Tells order left (Exists x.now) result }
@@ -201,7 +201,7 @@ pub(crate) fn told_named(witnesses: &Witnesses, stands: &[bool], x: &Dtv) -> Led
     }
 }
 
-// Whether the line is derivable from the lines that stand, as far as arcs from outside tell.
+// Whether the line is derivable from the lines that stand, as far as arcs from outside say.
 fn told_by(
     alloc: Global,
     outer: &Upper,
@@ -223,7 +223,7 @@ fn told_by(
     }
 }
 
-// Whether the first variable is a subtype of the second by the lines that stand, as far as arcs from outside tell.
+// Whether the first variable is a subtype of the second by the lines that stand, as far as arcs from outside say.
 fn told_below(
     alloc: Global,
     outer: &Upper,
@@ -240,7 +240,7 @@ fn told_below(
     Ok(led)
 }
 
-// Whether the constant is a lower bound of the variable by the lines that stand, as far as arcs from outside tell.
+// Whether the constant is a lower bound of the variable by the lines that stand, as far as arcs from outside say.
 fn told_low(
     alloc: Global,
     outer: &Upper,
@@ -260,7 +260,7 @@ fn told_low(
     Ok(led)
 }
 
-// Whether the constant is an upper bound of the variable by the lines that stand, as far as arcs from outside tell.
+// Whether the constant is an upper bound of the variable by the lines that stand, as far as arcs from outside say.
 fn told_up(
     alloc: Global,
     outer: &Upper,

@@ -7,11 +7,11 @@ ghost use Rattle.rt_lines.specs.Lines.{HasConstantsBelow};
 ghost use Rattle.rt_reduction.specs.Drops.{Drops};
 ghost use Rattle.rt_reduction.specs.Emits.{is_flow as is_flow_line};
 ghost use Rattle.rt_witness.specs.Witnesses.{IsWitnesses};
-ghost use Rattle.rt_reduce.specs.Deciding.{AreStanding, AreWitnessed, IsInnerFor, IsLowerWith, IsOwnOuter, IsWaysFor};
+ghost use Rattle.rt_reduce.specs.Inside.Deciding.{AreStanding, AreWitnessed, IsInnerFor, IsLowerWith, IsOwnOuter, IsWaysFor};
 ghost use Rattle.rt_named.specs.Naming.{named as named_by};
 ghost use Rattle.rt_sure.specs.Fates.{fate_at};
 ghost use Rattle.rt_sure.specs.declared.fate.Fate.TheVariants.{Stays as Staying};
-ghost use Rattle.rt_reduce.specs.Dropping.{AreFated, AreLeft, AreTold, Decides, IsFatedAt, IsKeptOrGone, IsMoved, IsSpared, IsToldAt};
+ghost use Rattle.rt_reduce.specs.Inside.Dropping.{AreFated, AreLeft, AreTold, Decides, IsFatedAt, IsKeptOrGone, IsMoved, IsSpared, IsToldAt};
 
 use crate::copying::copies;
 use crate::deciding::{is_derivable_open, is_spare, told};
@@ -24,11 +24,11 @@ use rt_witness::Witnesses;
 use std::alloc::Global;
 
 /// What stays of the lines when, from the last to the first, each line goes that the lines before it and those that stayed
-/// behind it derive with the order of constants. One of which `rt_earlier` tells that the lines before it derive it goes at
-/// once. Another one that arcs from outside don't give isn't derivable; else arcs from inside of all lines tell, which are made
+/// behind it derive with the order of constants. One of which `rt_earlier` says that the lines before it derive it goes at
+/// once. Another one that arcs from outside don't give isn't derivable; else arcs from inside of all lines say, which are made
 /// once, or arcs from inside and from outside of what is left, or it is saturated. Once questions have cost much, be it about
 /// these lines or before them, the lines that are left take the place of all: arcs from outside are made of them, and ways,
-/// which decide each bound, and `rt_sure` tells beforehand what becomes of lines. The error is want of memory.
+/// which decide each bound, and `rt_sure` says beforehand what becomes of lines. The error is out of memory.
 pub fn drop_derivable(
     alloc: Global,
     lines: &[Line],
@@ -351,8 +351,8 @@ pub(crate) fn is_flow(line: &Line) -> bool
     }
 }
 
-// Lets the line at the place go, if the others but for those behind it and before the next one derive it. One that is told to
-// follow from those before it, of which it is known that it goes, or of which the lines that name which variables tell that it
+// Lets the line at the place go, if the others but for those behind it and before the next one derive it. One that is said to
+// follow from those before it, of which it is known that it goes, or of which the lines that name which variables say that it
 // goes, isn't taken out yet. The place from which on lines that went weren't taken out ends at the result.
 fn drop_before(
     alloc: Global,
@@ -431,7 +431,7 @@ fn goes(witnesses: &Witnesses, stands: &mut Vec<bool>, line: &Line, place: usize
 }
 
 // Takes out the line at the place, if the others derive it. It is asked about where it stands, and isn't moved where arcs from
-// outside or which lines name which variables tell that it stays.
+// outside or which lines name which variables say that it stays.
 fn drop_at(
     alloc: Global,
     outer: Option<&Upper>,

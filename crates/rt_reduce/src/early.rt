@@ -1,4 +1,4 @@
-// Bounds of which arcs from inside or ways, which were made before, tell whether they are derivable.
+// Bounds of which arcs from inside or ways, which were made before, say whether they are derivable.
 ghost use Rattle.std.specs.Prelude.{◌∷◌, ◌<◌, ◌↔◌, List, All, IsTrue, IfOk, IfSome};
 ghost use Rattle.rt_lines.specs.declared.line.Line.{Line as Given};
 ghost use Rattle.rt_lines.specs.declared.line.Line.TheVariants.{Low as LowerBound, Up as UpperBound, Var as Exists};
@@ -6,7 +6,7 @@ ghost use Rattle.rt_lines.specs.Lines.{HasConstantsBelow};
 ghost use Rattle.rt_lines.specs.Orders.{Below};
 ghost use Rattle.rt_rules.specs.Rules.{Derivable};
 ghost use Rattle.rt_witness.specs.Witnesses.{IsLeft, IsWitnesses};
-ghost use Rattle.rt_reduce.specs.Deciding.{IsInnerFor, IsWaysFor};
+ghost use Rattle.rt_reduce.specs.Inside.Deciding.{IsInnerFor, IsWaysFor};
 
 use crate::bounds::{lows, ups};
 use crate::deciding::told_named;
@@ -110,7 +110,7 @@ fn is_up(
     Ok(there)
 }
 
-// Whether the line is derivable from the lines left, as far as arcs from inside tell, of lines that these and the line derive.
+// Whether the line is derivable from the lines left, as far as arcs from inside say, of lines that these and the line derive.
 // No bound has an arc, so a bound itself may be among those.
 pub(crate) fn is_told(
     alloc: Global,
@@ -140,7 +140,7 @@ pub(crate) fn is_told(
     }
 }
 
-// Whether the variable exists, as far as the lines that stand tell which name it, else by the shape of what is left.
+// Whether the variable exists, as far as the lines that stand say which name it, else by the shape of what is left.
 fn is_there(
     alloc: Global,
     witnesses: &Witnesses,
@@ -161,7 +161,7 @@ fn is_there(
     }
 }
 
-// Whether the constant is a lower bound of the variable, as far as arcs tell that lead from those of other lower bounds.
+// Whether the constant is a lower bound of the variable, as far as arcs say that lead from those of other lower bounds.
 fn has_low(
     alloc: Global,
     inner: &Lower,
@@ -188,7 +188,7 @@ fn has_low(
     Ok(led)
 }
 
-// Whether the constant is an upper bound of the variable, as far as arcs tell that lead to those of other upper bounds.
+// Whether the constant is an upper bound of the variable, as far as arcs say that lead to those of other upper bounds.
 fn has_up(
     alloc: Global,
     inner: &Lower,

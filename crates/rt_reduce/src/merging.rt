@@ -15,10 +15,10 @@ ghost use Rattle.rt_rules.specs.Put.{exist, put as put_side, put_lines};
 ghost use Rattle.rt_polar.specs.Tidied.{tidied};
 ghost use Rattle.rt_reduction.specs.Emits.{AreOfScheme};
 ghost use Rattle.rt_reduction.specs.Merges.{HasEqual, Merges};
-ghost use Rattle.rt_reduce.specs.Alike.{AreAlikeAt, IsAlike, HasNumber};
-ghost use Rattle.rt_reduce.specs.Bases.{IsAloneAt};
-ghost use Rattle.rt_reduce.specs.Compared.{IsCompared};
-ghost use Rattle.rt_reduce.specs.Merging.{IsEarlier, IsFirstAmong, IsFirstEqual};
+ghost use Rattle.rt_reduce.specs.Inside.Alike.{AreAlikeAt, IsAlike, HasNumber};
+ghost use Rattle.rt_reduce.specs.Inside.Bases.{IsAloneAt};
+ghost use Rattle.rt_reduce.specs.Inside.Compared.{IsCompared};
+ghost use Rattle.rt_reduce.specs.Inside.Merging.{IsEarlier, IsFirstAmong, IsFirstEqual};
 
 use crate::alike::{number, numbers};
 use crate::bases::{Bases, is_alone, noted};
@@ -34,7 +34,7 @@ use std::collections::BTreeSet;
 /// What is left of the lines when each existential that equals a side of another base gave its place to the first of its
 /// equals, the least such existential first, again and again until none has one; the lines are tidied each time. Each side
 /// is one of the lines, with letters more, and each existential is one of them. The variables are compared once: a side keeps
-/// its equals as others give their places away. The error is want of memory.
+/// its equals as others give their places away. The error is out of memory.
 pub fn merge_equal(alloc: Global, lines: &[Line], order: &Order) -> Result<Lines, Memory>
     requires { All (HasConstantsBelow order.now.count) lines.now }
     ensures merges { IfOk result (λ left. Merges order.now left lines.now) }

@@ -1,11 +1,11 @@
-// What the shape of lines and arcs from inside tell of a line.
+// What the shape of lines and arcs from inside say of a line.
 ghost use Rattle.std.specs.Prelude.{◌↔◌, ◌<◌, ◌≡◌, ◌∷◌, [], All, IsTrue, IfOk, IfSome};
 ghost use Rattle.rt_lines.specs.declared.line.Line.TheVariants.{Low as LowerBound, Sub as Subtype, Up as UpperBound};
 ghost use Rattle.rt_lines.specs.Lines.{HasConstantsBelow};
 ghost use Rattle.rt_lines.specs.Orders.{Below};
 ghost use Rattle.rt_rules.specs.Rules.{Derivable};
 ghost use Rattle.rt_outline.specs.Enclosing.{AreThere};
-ghost use Rattle.rt_reduce.specs.Deciding.{IsLowerWith};
+ghost use Rattle.rt_reduce.specs.Inside.Deciding.{IsLowerWith};
 
 use crate::bounds::{lows, ups};
 use crate::derivable::{are_one, exists};
@@ -15,7 +15,7 @@ use rt_outline::{Lower, with_accesses};
 use std::alloc::Global;
 use std::slice;
 
-// Whether the line is derivable, as far as the shape and arcs from inside tell.
+// Whether the line is derivable, as far as the shape and arcs from inside say.
 pub(crate) fn seen(
     alloc: Global,
     lines: &[Line],
@@ -38,7 +38,7 @@ pub(crate) fn seen(
     }
 }
 
-// Whether the first variable is a subtype of the second, as far as the shape and arcs from inside tell.
+// Whether the first variable is a subtype of the second, as far as the shape and arcs from inside say.
 fn seen_below(alloc: Global, lines: &[Line], x: &Dtv, y: &Dtv) -> Result<Option<bool>, Memory>
     ensures { IfOk result (λ seen. (order : Below) →
         IfSome seen (λ yes. IsTrue yes ↔ Derivable order lines.now (Subtype x.now y.now))) }
@@ -54,7 +54,7 @@ fn seen_below(alloc: Global, lines: &[Line], x: &Dtv, y: &Dtv) -> Result<Option<
     Ok(None)
 }
 
-// Whether the constant is a lower bound of the variable, as far as the shape and arcs from inside tell.
+// Whether the constant is a lower bound of the variable, as far as the shape and arcs from inside say.
 fn seen_low(
     alloc: Global,
     lines: &[Line],
@@ -80,7 +80,7 @@ fn seen_low(
     Ok(None)
 }
 
-// Whether the constant is an upper bound of the variable, as far as the shape and arcs from inside tell.
+// Whether the constant is an upper bound of the variable, as far as the shape and arcs from inside say.
 fn seen_up(
     alloc: Global,
     lines: &[Line],

@@ -17,7 +17,7 @@ use std::alloc::Global;
 
 /// The reduced form of the lines: they are prepared, fields of existentials that do nothing but hold fields become existentials
 /// of their own, and rounds follow up to the first after which no existential has a candidate, none is a twin, and each has a
-/// use and is joined to a procedure or a global. The error is want of memory.
+/// use and is joined to a procedure or a global. The error is out of memory.
 pub fn reduce(alloc: Global, lines: Lines, order: &Order) -> Result<Lines, Memory>
     requires scheme { AreOfScheme lines }
     requires constants { All (HasConstantsBelow order.now.count) lines }

@@ -18,8 +18,8 @@ use std::alloc::Global;
 
 /// One round over the tidied lines: existentials that are used alike become the least of them, existentials give their
 /// places away and twins become one, idle existentials keep no more than their shape, the shape is written anew, existentials
-/// that equal a side give their places to it, and each line goes that the others derive. What the rounds before cost tells
-/// how lines are asked about. The error is want of memory.
+/// that equal a side give their places to it, and each line goes that the others derive. What the rounds before cost says
+/// how lines are asked about. The error is out of memory.
 pub fn round(
     alloc: Global,
     lines: Lines,

@@ -4,10 +4,10 @@ ghost use Rattle.std.specs.BTreeSet.{contains};
 ghost use Rattle.std.specs.Ordering.{nat_cmp};
 ghost use Rattle.rt_lines.specs.declared.variable.Base.TheVariants.{Exist as Existential};
 ghost use Rattle.rt_polar.specs.Tidied.{tidied};
-ghost use Rattle.rt_reduce.specs.Settling.{AreUsed, HasMissing, HaveMissing, IsMissing, IsSimplified, IsUnused, IsUsedBy};
+ghost use Rattle.rt_reduce.specs.Inside.Settling.{AreUsed, HasMissing, HaveMissing, IsMissing, IsSimplified, IsUnused, IsUsedBy};
 ghost use Rattle.rt_reduction.specs.Rounds.{IsUnfinished};
 ghost use Rattle.rt_refine.specs.Groups.{AreNoted};
-ghost use Rattle.rt_twins.specs.Leading.{AreOfLines};
+ghost use Rattle.rt_twins.specs.Inside.Leading.{AreOfLines};
 
 use crate::copying::copies;
 use rt_base::{Memory, Sequence};
@@ -19,7 +19,7 @@ use std::collections::BTreeSet;
 // Numbers of existentials.
 type Existentials = BTreeSet<u32>;
 
-/// Whether no existential of the tidied lines has a candidate, none is a twin, and each has a use. The error is want of
+/// Whether no existential of the tidied lines has a candidate, none is a twin, and each has a use. The error is out of
 /// memory.
 pub fn is_settled(alloc: Global, lines: &[Line]) -> Result<bool, Memory>
     requires { tidied lines.now ≡ lines.now }

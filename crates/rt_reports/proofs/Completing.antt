@@ -16,11 +16,11 @@ use Rattle.rt_scheme.specs.declared.report.Report.{Report}
 use Rattle.rt_reports.specs.Globals.{lines_globals, entries_globals}
 use Rattle.rt_reports.specs.GoodReports.{IsGlobal, IsEntry, IsReport, numbers_of, entry_numbers}
 use Rattle.rt_reports.specs.ReportReadings.{IsFront}
-use Rattle.rt_reports.specs.Rows.{row_text}
-use Rattle.rt_reports.specs.Drafts.{Parts, least_after, AllNamed}
+use Rattle.rt_reports.specs.Inside.Rows.{row_text}
+use Rattle.rt_reports.specs.Inside.Drafts.{Parts, least_after, AllNamed}
 use Rattle.rt_reports.specs.declared.row.Row.{Row}
 use Rattle.rt_reports.specs.declared.row.Row.TheVariants.{Heading, Stated, End}
-use Rattle.rt_reports.proofs.Rising.{RisesFrom, RisesFrom-increasing}
+use Rattle.rt_reports.proofs.Ascending.{RisesFrom, RisesFrom-increasing}
 use Rattle.rt_reports.proofs.Rows.{rows_text, heading_row, listed_rows, entry_rows, report_rows, parts_rows, report_rows-text}
 use Rattle.rt_reports.proofs.Drafts.{IsGood, made, entries_globals-push, entry_numbers-push, good_with, rows_with}
 

@@ -11,11 +11,11 @@ use Rattle.rt_texts.specs.Goods.{IsLine}
 use Rattle.rt_scheme.specs.declared.report.Entry.{Entry}
 use Rattle.rt_reports.specs.Globals.{line_globals, lines_globals, entries_globals}
 use Rattle.rt_reports.specs.GoodReports.{IsGlobal, IsEntry, numbers_of, entry_numbers}
-use Rattle.rt_reports.specs.Rows.{IsRow}
-use Rattle.rt_reports.specs.Drafts.{Parts, no_parts, all_entries, parts_globals, least_after, least_entry, AllNamed, with_line, with_row, Allows}
+use Rattle.rt_reports.specs.Inside.Rows.{IsRow}
+use Rattle.rt_reports.specs.Inside.Drafts.{Parts, no_parts, all_entries, parts_globals, least_after, least_entry, AllNamed, with_line, with_row, Allows}
 use Rattle.rt_reports.specs.declared.row.Row.{Row}
 use Rattle.rt_reports.specs.declared.row.Row.TheVariants.{Listed, Heading, Stated, End}
-use Rattle.rt_reports.proofs.Rising.{RisesFrom, RisesFrom-push}
+use Rattle.rt_reports.proofs.Ascending.{RisesFrom, RisesFrom-push}
 use Rattle.rt_reports.proofs.Rows.{heading_row, listed_rows, entry_rows, parts_rows}
 
 -- the globals of entries, one more

@@ -1,4 +1,4 @@
-pub mod Rising
+pub mod Ascending
 pub mod RowTexts
 pub mod Rows
 pub mod Runs

@@ -13,7 +13,7 @@ use Rattle.rt_scheme.specs.declared.report.Entry.{Entry}
 use Rattle.rt_scheme.specs.declared.report.Report.{Report}
 use Rattle.rt_reports.specs.Globals.{base_globals, line_globals, lines_globals, entries_globals}
 use Rattle.rt_reports.specs.GoodReports.{numbers_of}
-use Rattle.rt_reports.specs.Drafts.{Parts, all_entries, least_after, least_entry, AllNamed, with_line, with_row, IsUnfinished, Allows, IsWhole, report_of, IsListing, IsDraft}
+use Rattle.rt_reports.specs.Inside.Drafts.{Parts, all_entries, least_after, least_entry, AllNamed, with_line, with_row, IsUnfinished, Allows, IsWhole, report_of, IsListing, IsDraft}
 use Rattle.rt_reports.specs.declared.row.Row.TheVariants.{Stated, End}
 use Rattle.rt_reports.proofs.Runs.{least-push_global, least-push_entry}
 use Rattle.rt_reports.proofs.Drafts.{made, entries_globals-push, lines_globals-push, numbers_of-push}

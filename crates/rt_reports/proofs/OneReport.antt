@@ -6,7 +6,7 @@ use Rattle.rt_scheme.specs.declared.report.Report.{Report}
 use Rattle.rt_scheme.specs.Reports.{report_text}
 use Rattle.rt_reports.specs.GoodReports.{IsReport}
 use Rattle.rt_reports.specs.ReportReadings.{OneReport}
-use Rattle.rt_reports.specs.Drafts.{no_parts, with_row, report_of}
+use Rattle.rt_reports.specs.Inside.Drafts.{no_parts, with_row, report_of}
 use Rattle.rt_reports.proofs.Rows.{rows_text, report_rows, report_rows-text, report_rows-good, same_rows}
 use Rattle.rt_reports.proofs.Runs.{Accepts-last, accept_report, ended}
 

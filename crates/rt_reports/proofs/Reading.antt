@@ -18,8 +18,8 @@ use Rattle.rt_scheme.specs.Reports.{report_text}
 use Rattle.rt_reports.specs.Globals.{entries_globals}
 use Rattle.rt_reports.specs.GoodReports.{IsEntry, IsReport, numbers_of}
 use Rattle.rt_reports.specs.ReportReadings.{with_ends, IsFront, IsNoReport, IsBadLine, IsFault}
-use Rattle.rt_reports.specs.Rows.{row_text, IsRow}
-use Rattle.rt_reports.specs.Drafts.{Parts, no_parts, all_entries, AllNamed, with_row, Allows, IsWhole, report_of}
+use Rattle.rt_reports.specs.Inside.Rows.{row_text, IsRow}
+use Rattle.rt_reports.specs.Inside.Drafts.{Parts, no_parts, all_entries, AllNamed, with_row, Allows, IsWhole, report_of}
 use Rattle.rt_reports.specs.declared.row.Row.{Row}
 use Rattle.rt_reports.specs.declared.row.Row.TheVariants.{Stated}
 use Rattle.rt_reports.proofs.RowTexts.{one_row, row_clear}
@@ -171,7 +171,7 @@ pub refused_text : (names : List (List ℕ)) (text : List ℕ) (fault : TextFaul
 refused_text names text (BadText number) bad = inr (no_report names text number bad)
 refused_text names text Memory none = inl refl
 
--- a fault of a line that isn't want of memory tells why
+-- a fault of a line that isn't out of memory tells why
 pub told_bad : {X : Type 0} (fault : TextFault) (n : ℕ) → fault ≡ BadText n → (fault ≡ Memory) ⊎ ((fault ≡ BadText 0) × X) → X
 told_bad fault n is (inl memory) = let clash : BadText n ≡ Memory = sym is ∙ memory in cc
 told_bad fault n is (inr told) = told.1

@@ -10,7 +10,7 @@ use Rattle.rt_scheme.specs.declared.report.Place2.{Place2}
 use Rattle.rt_scheme.specs.NameTexts.{name_text}
 use Rattle.rt_scheme.specs.NameReadings.{AreBytes}
 use Rattle.rt_reports.specs.GoodReports.{IsGlobal}
-use Rattle.rt_reports.specs.Rows.{listed_text, begun_text, row_text, IsBegun, IsRow}
+use Rattle.rt_reports.specs.Inside.Rows.{listed_text, begun_text, row_text, IsBegun, IsRow}
 use Rattle.rt_reports.specs.declared.row.Row.TheVariants.{Listed, Heading, Stated, End}
 use Rattle.rt_texts.proofs.Clear.{HasNo-above}
 use Rattle.rt_scheme.proofs.Clear.{AreAbove-decimal}

@@ -15,8 +15,8 @@ use Rattle.rt_scheme.specs.declared.report.Entry.{Entry}
 use Rattle.rt_scheme.specs.declared.report.Report.{Report}
 use Rattle.rt_scheme.specs.Reports.{global_text, heading_text, entry_text, report_text}
 use Rattle.rt_reports.specs.GoodReports.{IsGlobal, IsEntry, IsReport}
-use Rattle.rt_reports.specs.Rows.{row_text, IsRow}
-use Rattle.rt_reports.specs.Drafts.{Parts}
+use Rattle.rt_reports.specs.Inside.Rows.{row_text, IsRow}
+use Rattle.rt_reports.specs.Inside.Drafts.{Parts}
 use Rattle.rt_reports.specs.declared.row.Row.{Row}
 use Rattle.rt_reports.specs.declared.row.Row.TheVariants.{Listed, Heading, Stated, End}
 use Rattle.rt_reports.proofs.RowTexts.{one_row, row_clear}

@@ -31,7 +31,7 @@ numbers_of globals = map (λ (g : ℕ × List ℕ). g.0) globals
 abbrev pub entry_numbers : List Entry → List ℕ
 entry_numbers entries = map (λ (entry : Entry). entry.number) entries
 
--- a report of such parts: its entries rise, and its globals are exactly those that its lines name, rising
+-- a report of such parts: its entries rise, and its globals are exactly those that its lines name, ascending
 pub record IsReport (count : ℕ) (report : Report) : Type 0 where
   pub globals : All IsGlobal report.globals
   pub entries : All (IsEntry count) report.entries

@@ -1,5 +1,4 @@
 pub mod Globals
 pub mod GoodReports
 pub mod ReportReadings
-pub mod Rows
-pub mod Drafts
+pub mod Inside

@@ -24,7 +24,7 @@ pub record IsFront (names : List (List ℕ)) (front : List ℕ) : Type 0 where
 abbrev pub IsNoReport : List (List ℕ) → List ℕ → Type 0
 IsNoReport names text = IsNoText (IsReport (length names)) (report_text names) text
 
--- The lines before the one of this number are the front of a report's text, and with it they are no such front. Where the text
+-- The lines before the one of this number are a prefix of a report's text, and with it they are no such prefix. Where the text
 -- has no more whole lines than these, its end counts as a line: the text is that of no report.
 pub record IsBadLine (names : List (List ℕ)) (text : List ℕ) (number : ℕ) : Type 0 where
   pub before : List (List ℕ)

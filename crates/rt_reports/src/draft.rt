@@ -4,7 +4,7 @@ ghost use Rattle.indexmap.specs.IndexSet.{insert_key};
 ghost use Rattle.rt_reports.specs.declared.row.Row.TheVariants.{Listed, Heading, Stated, End};
 ghost use Rattle.rt_reports.specs.GoodReports.{numbers_of};
 ghost use Rattle.rt_reports.specs.Globals.{base_globals, line_globals};
-ghost use Rattle.rt_reports.specs.Drafts.{AllNamed, Follows, IsWhole, Parts, no_parts, report_of};
+ghost use Rattle.rt_reports.specs.Inside.Drafts.{AllNamed, Follows, IsWhole, Parts, no_parts, report_of};
 
 use crate::listed::ListedGlobals;
 use crate::numbers::Numbers;
@@ -27,7 +27,7 @@ pub struct Draft {
 }
 
 impl Model for Draft {
-    ghost use Rattle.rt_reports.specs.Drafts.{IsDraft, Parts};
+    ghost use Rattle.rt_reports.specs.Inside.Drafts.{IsDraft, Parts};
 
     ghost Value = { Parts };
 

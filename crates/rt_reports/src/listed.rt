@@ -1,7 +1,7 @@
 // The globals that a report lists.
 ghost use Rattle.std.specs.Prelude.{◌≡◌, ◌↔◌, ◌≤◌, ◌++◌, ◌∷◌, [], All, IsTrue, Contains, IfOk};
 ghost use Rattle.rt_reports.specs.GoodReports.{numbers_of};
-ghost use Rattle.rt_reports.specs.Drafts.{least_after};
+ghost use Rattle.rt_reports.specs.Inside.Drafts.{least_after};
 
 use crate::numbers::Numbers;
 use rt_base::{Bytes, Memory};
@@ -19,7 +19,7 @@ pub struct ListedGlobals {
 
 impl Model for ListedGlobals {
     ghost use Rattle.std.specs.Prelude.{List, ℕ};
-    ghost use Rattle.rt_reports.specs.Drafts.{IsListing};
+    ghost use Rattle.rt_reports.specs.Inside.Drafts.{IsListing};
 
     ghost Value = { List (ℕ × List ℕ) };
 

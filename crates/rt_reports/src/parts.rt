@@ -3,7 +3,7 @@ ghost use Rattle.std.specs.Prelude.{◌≡◌, ◌≢◌, ◌∷◌, ◌++◌, L
 ghost use Rattle.rt_texts.specs.Goods.{IsNumber};
 ghost use Rattle.rt_texts.specs.Readings.{HasNo, IsCut, ReadsOrFails};
 ghost use Rattle.rt_reports.specs.GoodReports.{IsGlobal};
-ghost use Rattle.rt_reports.specs.Rows.{IsBegun, IsRow, begun_text, listed_text, row_text};
+ghost use Rattle.rt_reports.specs.Inside.Rows.{IsBegun, IsRow, begun_text, listed_text, row_text};
 
 use crate::row::Row;
 use rt_base::Bytes;

@@ -13,9 +13,9 @@ use rt_texts::TextFault;
 use std::alloc::Global;
 
 /// The report of a text, whose constants are of the names. A report's entries rise, and its globals are exactly those that
-/// its lines name, rising. Where the text is that of no report the fault is `BadText` of the number, from 1, of the first
+/// its lines name, ascending. Where the text is that of no report the fault is `BadText` of the number, from 1, of the first
 /// line with which no report's text begins as this text does up to it; the end counts as one line more, and a last line
-/// without its line end is none of a report. Where that number is no `u32` the fault is want of memory.
+/// without its line end is none of a report. Where that number is no `u32` the fault is out of memory.
 pub fn read_report(alloc: Global, text: &[u8], names: &Names) -> Result<Report, TextFault>
     ensures read { IfOk result (λ report. IsReport (length names.now) report × (report_text names.now report ≡ text.now)) }
     ensures refused { IfErr result (λ fault. (fault ≡ Memory) ⊎ IsNoReport names.now text.now) }

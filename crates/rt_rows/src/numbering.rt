@@ -18,7 +18,7 @@ use std::alloc::{AllocError, Global};
 
 /// The lines of some lists of rows together: existentials are numbered from 0 in the order in which their names first
 /// stand in all of the lists, the left side of a row before its right, and each list has each of its lines once, where it
-/// first stands. The error is want of memory.
+/// first stands. The error is out of memory.
 pub fn group_lines(alloc: Global, lists: Vec<Rows>) -> Result<Vec<Lines>, Memory>
     ensures lines { IfOk result (λ numbered. numbered.items ≡ group_lines lists.items) }
     ensures constants { IfOk result (λ numbered. (count : ℕ) → All (All (HasConstantBelow count)) lists.items →

@@ -79,7 +79,7 @@ impl Term {
         Term::bare(alloc, Root::Named(name))
     }
 
-    /// The argument or result of a procedure that the label names. The error is want of memory.
+    /// The argument or result of a procedure that the label names. The error is out of memory.
     pub fn port(alloc: Global, procedure: u32, label: Label) -> Result<Term, Memory>
         requires { IsLabel label }
         ensures { IfOk result (λ port. port ≡ record { root = Root.Proc procedure; word = label ∷ [] }) }
@@ -89,7 +89,7 @@ impl Term {
         Ok(port)
     }
 
-    /// Adds a letter at the end. After want of memory the term is as it was.
+    /// Adds a letter at the end. When out of memory, the term is as it was.
     pub fn push(&mut self, label: Label) -> Result<(), AllocError>
         requires { IsLabel label }
         ensures ok { OnOk result (self.new ≡ along self.old (label ∷ [])) }
@@ -98,7 +98,7 @@ impl Term {
         self.word.push(label)
     }
 
-    /// The term with more letters. The error is want of memory.
+    /// The term with more letters. The error is out of memory.
     pub fn along(mut self, labels: &[Label]) -> Result<Term, Memory>
         requires { All IsLabel labels.now }
         ensures { IfOk result (λ longer. longer ≡ along self labels.now) }

@@ -18,7 +18,7 @@ use Rattle.rt_cdecl.specs.GoodDecls.{IsGoodDecls}
 use Rattle.rt_cdecl.specs.Texts.{decls_text}
 use Rattle.rt_header.specs.Headers.{IsHeaderOf}
 use Rattle.rt_run.specs.declared.analysis.Analysis.{Analysis}
-use Rattle.rt_run.specs.Analyses.{IsAnalysis, object_in, procs_in}
+use Rattle.rt_run.specs.Inside.Analyses.{IsAnalysis, object_in, procs_in}
 use Rattle.rt_run.specs.Headers.{AreSketches, IsHeaderTextOf, Numbered, numbered_at}
 use Rattle.rt_run.specs.Objects.{IsInProfile}
 use Rattle.rt_run.specs.Sketches.{IsSketch}

@@ -11,7 +11,7 @@ use Rattle.rt_scheme.specs.declared.report.Entry.{Entry}
 use Rattle.rt_scheme.specs.declared.report.Report.{Report}
 use Rattle.rt_reports.specs.GoodReports.{IsEntry, IsGlobal, IsReport, entry_numbers, numbers_of}
 use Rattle.rt_run.specs.Globals.{AreGlobals, global_of}
-use Rattle.rt_run.specs.Goods.{HasGoodParts, HasGoodSides}
+use Rattle.rt_run.specs.Inside.Goods.{HasGoodParts, HasGoodSides}
 use Rattle.rt_run.proofs.Naming.{in_named, named_in}
 
 good_line : (count : ℕ) (l : Line) → HasConstantsBelow count l → HasGoodSides l → IsLine count l
@@ -58,7 +58,7 @@ pub good_report : (object : Object) (count : ℕ) (report : Report) → AreGloba
 good_report object count report are globals few parts numbered = record {
   globals = globals;
   entries = good_entries count report.entries few parts;
-  globals_rise = subst IsStrictlyIncreasing (sym numbers) are.rising;
+  globals_rise = subst IsStrictlyIncreasing (sym numbers) are.ascending;
   entries_rise = entries_rise report.entries numbered;
   exact = λ n. (
     (λ h. in_named report.entries n ((are.named n).0 (subst (λ ns. Contains ns n) numbers h))),

@@ -190,11 +190,11 @@ pub are_globals : (object : Object) (entries : List Entry) (keys : List ℕ) {E 
     → keys ≡ fold (insert_key nat_cmp) [] (entries_globals entries) → All (λ entry. HasGlobalsOf object entry.lines) entries
     → IfOk shown (λ globals. globals ≡ map (global_of object) keys) → OnOk shown (IsStrictlyIncreasing keys)
     → IfOk shown (AreGlobals object entries)
-are_globals object entries keys (Ok shown) is all is_shown rising = record {
+are_globals object entries keys (Ok shown) is all is_shown ascending = record {
   numbers = keys;
-  rising = rising;
+  ascending = ascending;
   named = λ n. (set_named entries keys n is, named_set entries keys n is);
   symbols = set_symbols object entries keys is all;
   globals = is_shown;
 }
-are_globals object entries keys (Err e) is all is_shown rising = tt
+are_globals object entries keys (Err e) is all is_shown ascending = tt

@@ -15,7 +15,7 @@ use Rattle.rt_scheme.specs.declared.scheme.Scheme.{Scheme}
 use Rattle.rt_table.specs.Lists.{AreLinesOf, HasGlobalsOf}
 use Rattle.rt_run.specs.declared.analysis.Analysis.{Analysis}
 use Rattle.rt_run.specs.declared.content.Told.TheVariants as told
-use Rattle.rt_run.specs.Analyses.{AreListed, AreListsOf, AreToldOf, IsAnalysis, IsBodyOf, IsListed, object_in, procs_in}
+use Rattle.rt_run.specs.Inside.Analyses.{AreListed, AreListsOf, AreToldOf, IsAnalysis, IsBodyOf, IsListed, object_in, procs_in}
 
 -- the lists from a place on are put
 pub record IsPut (group : List ℕ) (bodies : List (List Line)) (old now : List (Option (List Line))) (left : List (List Line)) : Type 0 where

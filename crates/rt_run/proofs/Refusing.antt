@@ -15,7 +15,7 @@ use Rattle.rt_run.specs.Inputs.{Contents, IsLatticeRefused}
 use Rattle.rt_sigs.specs.Signatures.{Signature}
 use Rattle.rt_run.specs.declared.no_text.NoText.{NoText}
 use Rattle.rt_run.specs.declared.no_text.NoText.TheVariants.{Refused as RefusedText, Memory as NoTextMemory}
-use Rattle.rt_run.specs.NoTexts.{IsNoText}
+use Rattle.rt_run.specs.Inside.NoTexts.{IsNoText}
 use Rattle.rt_elf.specs.Parts.{Parts as ReadObject}
 use Rattle.rt_liveness.specs.Ends.{ends_of}
 use Rattle.rt_run.specs.Objects.{IsObjectRefused, IsReadAs, IsRefused}

@@ -18,11 +18,11 @@ use Rattle.rt_scheme.specs.Reports.{report_text}
 use Rattle.rt_reports.specs.GoodReports.{IsGlobal, IsReport}
 use Rattle.rt_run.specs.declared.analysis.Analysis.{Analysis}
 use Rattle.rt_run.specs.declared.content.Told.{Told}
-use Rattle.rt_run.specs.Analyses.{AreListsOf, AreToldOf, IsAnalysis, IsListed, object_in, procs_in}
+use Rattle.rt_run.specs.Inside.Analyses.{AreListsOf, AreToldOf, IsAnalysis, IsListed, object_in, procs_in}
 use Rattle.rt_liveness.specs.Ends.{ends_of}
 use Rattle.rt_run.specs.Objects.{IsInProfile}
 use Rattle.rt_run.specs.Globals.{AreGlobals}
-use Rattle.rt_run.specs.Goods.{HasGoodParts}
+use Rattle.rt_run.specs.Inside.Goods.{HasGoodParts}
 use Rattle.rt_run.proofs.Goodness.{good_report}
 use Rattle.rt_run.specs.Reports.{AreEntries, IsEntryOf, IsReportOf, IsRightOf, IsTold}
 use Rattle.rt_table.proofs.Framings.{element}

@@ -22,7 +22,7 @@ use Rattle.rt_tree.specs.Trees.{IsTree, Nodes, marks_of}
 use Rattle.rt_sketch.specs.Sketches.{IsSketchOf}
 use Rattle.rt_sketch.specs.Texts.{AreMarksBelow, tree_text}
 use Rattle.rt_run.specs.declared.analysis.Analysis.{Analysis}
-use Rattle.rt_run.specs.Analyses.{IsAnalysis, object_in, procs_in}
+use Rattle.rt_run.specs.Inside.Analyses.{IsAnalysis, object_in, procs_in}
 use Rattle.rt_run.specs.Objects.{IsInProfile}
 use Rattle.rt_run.specs.Sketches.{AddsSketch, IsSketch, IsSketchesOf, sketch_text, sketches_text}
 use Rattle.rt_solve.proofs.Setting.{some_of}

@@ -10,7 +10,7 @@ use Rattle.rt_run.specs.declared.stop.Stop.TheVariants.{Refused, NoRead, NoMemor
 use Rattle.rt_run.specs.declared.no_text.NoText.{NoText}
 use Rattle.rt_run.specs.declared.no_text.NoText.TheVariants.{Refused as RefusedText, Memory as NoTextMemory}
 use Rattle.rt_run.specs.Errors.{read_line, refusal_line}
-use Rattle.rt_run.specs.NoTexts.{IsNoText}
+use Rattle.rt_run.specs.Inside.NoTexts.{IsNoText}
 use Rattle.rt_run.specs.Words.{Command, Report, Entail, Step, OfLattice, OfSignatures, OfInput, lattice_of, signatures_of, inputs_of}
 use Rattle.rt_run.specs.Inputs.{Contents, with_first, IsLatticeFor, AreSignaturesIn, AreSignaturesFor, IsLatticeRefused, IsSignaturesRefused}
 use Rattle.rt_run.specs.Status.{AreAccepted, AreInputs, ComesTo, ComesToInput, Gives, IsInputRefused, IsRefusedBy, of_lattice, of_signatures, of_input, IsStopFor, IsTextFor, Stops, StopsAt, StopsFor}

@@ -67,7 +67,7 @@ named_line text name = text ++ name_text name ++ codes "\n"
 abbrev pub numbered_line : List ℕ → ℕ → List ℕ
 numbered_line text number = text ++ decimal number ++ codes "\n"
 
--- the line of a fault of a lattice file; want of memory is none
+-- the line of a fault of a lattice file; out of memory is none
 abbrev pub lattice_line : LatFault → List ℕ
 lattice_line lattice.NotToml = codes "error 40 NotToml\n"
 lattice_line (lattice.Shape key) = named_line (codes "error 41 Shape ") key

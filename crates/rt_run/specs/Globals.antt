@@ -17,10 +17,10 @@ pub record IsNamedIn (entries : List Entry) (number : ℕ) : Type 0 where
 abbrev pub global_of : Object → ℕ → ℕ × List ℕ
 global_of object number = (number, (symbol_of object number).name)
 
--- the globals of entries: those that they name, rising, each a symbol of the object and by its name
+-- the globals of entries: those that they name, ascending, each a symbol of the object and by its name
 pub record AreGlobals (object : Object) (entries : List Entry) (shown : List (ℕ × List ℕ)) : Type 0 where
   pub numbers : List ℕ
-  pub rising : IsStrictlyIncreasing numbers
+  pub ascending : IsStrictlyIncreasing numbers
   pub named : (number : ℕ) → Contains numbers number ↔ IsNamedIn entries number
   pub symbols : All (λ number. number < length object.symbols) numbers
   pub globals : shown ≡ map (global_of object) numbers

@@ -1,15 +1,12 @@
 pub mod Words
-pub mod Meant
 pub mod Errors
 pub mod Inputs
-pub mod NoTexts
 pub mod Objects
 pub mod Globals
-pub mod Goods
 pub mod Reports
 pub mod Sketches
 pub mod Headers
 pub mod Texts
-pub mod Analyses
 pub mod Entails
 pub mod Status
+pub mod Inside

@@ -1,4 +1,4 @@
-// What is worked out of an object before it is told.
+// What is worked out of an object before it is written.
 ghost use Rattle.std.specs.Prelude.{◌≡◌, None, IfOk};
 
 use crate::objects::Program;
@@ -31,7 +31,7 @@ impl<'a> Analysis<'a> {
     ghost use Rattle.rt_link.specs.Links.{AreLinksOf};
     ghost use Rattle.rt_liveness.specs.Ends.{ends_of};
     ghost use Rattle.rt_sigs.specs.Signatures.{AreSignatures};
-    ghost use Rattle.rt_run.specs.Analyses.{IsAnalysis, object_in, procs_in};
+    ghost use Rattle.rt_run.specs.Inside.Analyses.{IsAnalysis, object_in, procs_in};
     ghost use Rattle.rt_run.specs.Objects.{IsInProfile};
 
     /// The analysis of an object of the profile, with these signatures and this lattice.

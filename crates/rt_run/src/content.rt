@@ -11,11 +11,11 @@ pub enum Content {
     Header,
 }
 
-/// Which lines a report tells of each procedure.
+/// Which lines a report gives of each procedure.
 #[derive(Clone, Copy, Debug, PartialEq, Eq)]
 pub enum Told {
     /// Those of its instructions.
     Constraints,
-    /// Those of its scheme, which tell whoever calls it the same, with nothing to spare.
+    /// Those of its scheme, which judge the same, with nothing to spare.
     Schemes,
 }

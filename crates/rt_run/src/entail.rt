@@ -1,7 +1,7 @@
 // The text that `entail` writes.
 ghost use Rattle.std.specs.Prelude.{◌≡◌, ◌≤◌, IfErr, IfOk, length};
 ghost use Rattle.rt_run.specs.Entails.{IsEntailRefused, IsEntailText};
-ghost use Rattle.rt_run.specs.NoTexts.{IsNoText};
+ghost use Rattle.rt_run.specs.Inside.NoTexts.{IsNoText};
 
 use crate::no_text::NoText;
 use crate::refusal::Refusal;

@@ -3,7 +3,7 @@ ghost use Rattle.std.specs.Prelude.{◌≡◌, ◌<◌, [], ◌∷◌, None, All
 ghost use Rattle.rt_lines.specs.Lines.{HasConstantsBelow};
 ghost use Rattle.rt_lattice.specs.Lattices.{size_of};
 ghost use Rattle.rt_table.specs.Lists.{HasGlobalsOf};
-ghost use Rattle.rt_run.specs.Analyses.{IsAnalysis, object_in, procs_in};
+ghost use Rattle.rt_run.specs.Inside.Analyses.{IsAnalysis, object_in, procs_in};
 ghost use Rattle.rt_run.specs.Reports.{AreEntries, IsEntryOf};
 
 use crate::analysis::Analysis;
@@ -41,7 +41,7 @@ fn take_at(lists: &mut Lists, place: usize) -> Option<Lines>
     lists[place].take()
 }
 
-/// The entries of an object's procedures, in the order of their numbers, with what a report tells of each.
+/// The entries of an object's procedures, in the order of their numbers, with what a report says of each.
 pub fn entries_of(alloc: Global, told: Told, analysis: &Analysis<'_>) -> Result<Entries, Memory>
     requires { IsAnalysis analysis.now }
     ensures entries { IfOk result (AreEntries told (object_in analysis.now) analysis.now.lattice.now analysis.now.sigs.now

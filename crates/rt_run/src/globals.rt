@@ -9,7 +9,7 @@ ghost use Rattle.rt_table.specs.Lists.{HasGlobalsOf};
 ghost use Rattle.rt_reports.specs.Globals.{base_globals, entries_globals, line_globals, lines_globals};
 ghost use Rattle.rt_reports.specs.GoodReports.{IsGlobal, IsPlace};
 ghost use Rattle.rt_run.specs.Globals.{AreGlobals, global_of};
-ghost use Rattle.rt_run.specs.Goods.{HasGoodParts, HasGoodSides};
+ghost use Rattle.rt_run.specs.Inside.Goods.{HasGoodParts, HasGoodSides};
 
 use rt_base::{Bytes, Memory};
 use rt_elf::Object;
@@ -110,7 +110,7 @@ fn numbers_of(alloc: Global, entries: &[Entry]) -> Result<BTreeSet<u32>, Memory>
 fn named(alloc: Global, object: &Object, numbers: BTreeSet<u32>) -> Result<Globals, Memory>
     requires { All (λ number. number < length object.now.symbols) numbers.keys }
     ensures named { IfOk result (λ globals. globals ≡ map (global_of object.now) numbers.keys) }
-    ensures rising { OnOk result (IsStrictlyIncreasing numbers.keys) }
+    ensures ascending { OnOk result (IsStrictlyIncreasing numbers.keys) }
 {
     let symbols = object.symbols();
     let mut globals = Globals::new(alloc);

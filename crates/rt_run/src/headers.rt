@@ -6,7 +6,7 @@ ghost use Rattle.rt_liveness.specs.Ends.{ends_of};
 ghost use Rattle.rt_sigs.specs.Signatures.{AreSignatures};
 ghost use Rattle.rt_tree.specs.Trees.{Nodes};
 ghost use Rattle.rt_sketch.specs.Sketches.{HasMarksBelow};
-ghost use Rattle.rt_run.specs.Analyses.{IsAnalysis, procs_in};
+ghost use Rattle.rt_run.specs.Inside.Analyses.{IsAnalysis, procs_in};
 ghost use Rattle.rt_run.specs.Headers.{AreSketches, IsHeaderTextOf};
 ghost use Rattle.rt_run.specs.Objects.{IsInProfile};
 ghost use Rattle.rt_run.specs.Sketches.{IsSketch};

@@ -1,9 +1,9 @@
-// The lines that a report tells of each procedure.
+// The lines that a report gives of each procedure.
 ghost use Rattle.std.specs.Prelude.{◌≡◌, ◌<◌, ◌⊎◌, ℕ, List, Some, None, All, Contains};
 ghost use Rattle.std.specs.Prelude.{IfOk, OnOk, length, option_map, replicate, slice_index_or};
 ghost use Rattle.rt_lines.specs.declared.line.Line.{Line};
 ghost use Rattle.rt_scheme.specs.declared.scheme.Scheme.{Scheme};
-ghost use Rattle.rt_run.specs.Analyses.{AreListed, AreListsOf, IsAnalysis, IsBodyOf, IsListed, procs_in};
+ghost use Rattle.rt_run.specs.Inside.Analyses.{AreListed, AreListsOf, IsAnalysis, IsBodyOf, IsListed, procs_in};
 
 use crate::analysis::Analysis;
 use crate::content::Told;

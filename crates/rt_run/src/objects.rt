@@ -8,7 +8,7 @@ ghost use Rattle.rt_liveness.specs.Ends.{ends_of};
 ghost use Rattle.rt_proc.specs.Faults.{HasNoFault};
 ghost use Rattle.rt_proc.specs.Procs.{AreProcs};
 ghost use Rattle.rt_sigs.specs.Signatures.{Signature};
-ghost use Rattle.rt_run.specs.NoTexts.{IsNoText};
+ghost use Rattle.rt_run.specs.Inside.NoTexts.{IsNoText};
 ghost use Rattle.rt_run.specs.Objects.{IsInProfile, IsObjectRefused, IsReadAs, IsRefused};
 
 use crate::no_text::NoText;

@@ -19,9 +19,9 @@ pub enum Refusal {
     Link(u8, u16, u32),
     /// The object's code has a fault: its number, and the section and the offset of the place.
     Code(u8, u16, u32),
-    /// The lattice file has this fault, which isn't want of memory.
+    /// The lattice file has this fault, which isn't out of memory.
     BadLattice(LatFault),
-    /// The file of signatures has this fault, which isn't want of memory.
+    /// The file of signatures has this fault, which isn't out of memory.
     BadSignatures(SigFault),
     /// The text of `entail` is too long.
     TextTooLarge,
@@ -221,7 +221,7 @@ fn push_refusal(refusal: &Refusal, line: &mut Vec<u8>) -> Result<(), Memory>
     }
 }
 
-/// The line on the stream for errors that an input's refusal is told by, with its line end: the number and the name of the
+/// The line on the stream for errors that an input's refusal is given by, with its line end: the number and the name of the
 /// refusal, and where it stands.
 pub fn refusal_line(alloc: Global, refusal: &Refusal) -> Result<Vec<u8>, Memory>
     ensures { IfOk result (λ line. line.items ≡ refusal_line refusal.now) }

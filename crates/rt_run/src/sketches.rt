@@ -5,7 +5,7 @@ ghost use Rattle.rt_lattice.specs.Lattices.{size_of};
 ghost use Rattle.rt_link.specs.Links.{AreLinksOf};
 ghost use Rattle.rt_liveness.specs.Ends.{ends_of};
 ghost use Rattle.rt_sigs.specs.Signatures.{AreSignatures};
-ghost use Rattle.rt_run.specs.Analyses.{IsAnalysis, procs_in};
+ghost use Rattle.rt_run.specs.Inside.Analyses.{IsAnalysis, procs_in};
 ghost use Rattle.rt_run.specs.Objects.{IsInProfile};
 ghost use Rattle.rt_run.specs.Sketches.{AddsSketch, IsSketchesOf};
 

@@ -4,7 +4,7 @@ ghost use Rattle.rt_lattice.specs.Lattices.{size_of};
 ghost use Rattle.rt_link.specs.Links.{AreLinksOf};
 ghost use Rattle.rt_liveness.specs.Ends.{ends_of};
 ghost use Rattle.rt_sigs.specs.Signatures.{AreSignatures};
-ghost use Rattle.rt_run.specs.NoTexts.{IsNoText};
+ghost use Rattle.rt_run.specs.Inside.NoTexts.{IsNoText};
 ghost use Rattle.rt_run.specs.Objects.{IsInProfile, IsRefused};
 ghost use Rattle.rt_run.specs.Texts.{IsObjectText, IsTextOf};
 

@@ -4,7 +4,7 @@ ghost use Rattle.std.specs.String.{string_bytes};
 ghost use Rattle.rt_base.specs.Outside.{Rose};
 ghost use Rattle.rt_io.specs.Puts.{PutsFront, PutsLine, PutsText};
 ghost use Rattle.rt_run.specs.Words.{Step, Report, Entail, command_of};
-ghost use Rattle.rt_run.specs.Meant.{meaning, options_of};
+ghost use Rattle.rt_run.specs.Inside.Meant.{meaning, options_of};
 ghost use Rattle.rt_run.specs.Errors.{usage_line, read_line, write_line, memory_line, refusal_line};
 ghost use Rattle.rt_run.specs.Status.{ComesTo, Ends, Gives, IsRefusedBy, IsStopFor, Stops, Writes};
 
@@ -173,10 +173,10 @@ fn tell_unread<E: Sink>(alloc: Global, name: &str, err: &mut E) -> u8
 }
 
 /// Reads what the words name, writes what it gives, and answers the status: 0 written, 1 an input is refused, 2 the words
-/// aren't of the grammar, 3 a read failed, 4 a write failed, 5 no memory. At each status but 0 one line on `err` tells why.
+/// aren't of the grammar, 3 a read failed, 4 a write failed, 5 no memory. At each status but 0 one line on `err` says why.
 ///
 /// `constraints OBJECT` writes, for each procedure of the object, the lines of its instructions, `schemes OBJECT` a scheme
-/// with nothing to spare that tells whoever calls it the same, `sketches OBJECT` the sketch of that scheme, and `header
+/// with nothing to spare that judges the same, `sketches OBJECT` the sketch of that scheme, and `header
 /// OBJECT` the C declarations of these sketches. `entail FILE JUDGEMENT` writes whether the judgement is derivable from the
 /// lines of the file. The option `--lattice FILE` gives the constants, and `--signatures FILE`, which `entail` has not, what
 /// functions outside the object take and give. Before its own file a command reads and checks the lattice, and then the

@@ -2,7 +2,7 @@
 ghost use Rattle.std.specs.Prelude.{◌≡◌, ◌∷◌, ℕ, List, MatchOption, Option, Some, None, map, option_copied};
 ghost use Rattle.std.specs.String.{string_bytes};
 ghost use Rattle.rt_run.specs.Words.{command_of, entail_by, entail_of, is_argument, no_options, report_of};
-ghost use Rattle.rt_run.specs.Meant.{meaning, options_of};
+ghost use Rattle.rt_run.specs.Inside.Meant.{meaning, options_of};
 
 use crate::content::{Content, Told};
 

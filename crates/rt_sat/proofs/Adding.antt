@@ -31,6 +31,9 @@ use Rattle.rt_sat.specs.declared.state.State.{State}
 use Rattle.rt_sat.specs.declared.table.Begun.{Begun}
 use Rattle.rt_sat.specs.Closings.{AreLineEdges}
 use Rattle.rt_sat.specs.Deciding.{is_among}
+use Rattle.rt_sat.specs.declared.gathering.Kin.{Kin}
+use Rattle.rt_sat.specs.declared.links.Links.{Links}
+use Rattle.rt_sat.specs.Inside.Links.{AreLinked}
 use Rattle.rt_sat.specs.Hints.{grid_of, members_of, no_table, state_at, AreGroups, IsFamily, IsHome, IsTold, IsToldAt, IsToldFamily}
 use Rattle.rt_sat.specs.Increments.{named_of, Tells}
 use Rattle.rt_sat.specs.Numbered.{at_number}
@@ -67,6 +70,12 @@ module _ (known : List Dtv) (flips : List Bool) where
   family_more lines more within family told class less =
       let members : List ℕ = members_of family class in
       holds_by (IsToldAt known flips lines members) (IsToldAt known flips more members) (λ i j n. told_more lines more within (state_at members i) (state_at members j) n) (grid_of family class) (told class less)
+
+  links_more : (lines more : List Edge) → ((e : Edge) → Contains lines e → Contains more e) → (links : Links) → AreLinked known flips lines links → AreLinked known flips more links
+  links_more lines more within links linked = record {
+    before = λ at s h. told_more lines more within s at 0 (linked.before at s h);
+    behind = λ at s h. told_more lines more within at s 0 (linked.behind at s h);
+  }
 
 -- a number was found of a variable
 named_found : (known : List Dtv) (x : Dtv) (found : Option ℕ) → MatchOption found (Contains known x → ⊥) (λ i. slice_get known i ≡ Some x) → is_some found ≡ true → Contains known x
@@ -113,9 +122,9 @@ told_below order lines grown tells x y i j e f told =
 
 -- what a table begins with tells what the lines do
 pub begun_tells : (lines : List Line) (extra : List Dtv) (marks : List Bool) (begun : Begun) (is : IsBegun lines extra marks begun) (grown : Grown) → grown.frame ≡ begun.frame → IsFamily (length begun.frame.named) grown.family →
-    AreGroups grown.family grown.groups.items → IsToldFamily begun.frame.named begun.frame.flips.items begun.first.items grown.family → Tells lines grown
-begun_tells lines extra marks begun is grown same family groups told =
-    subst (λ f. Tells lines (record { frame = f; family = grown.family; groups = grown.groups })) (sym same) (record {
+    AreGroups grown.family grown.kin.groups.items → AreLinked begun.frame.named begun.frame.flips.items begun.first.items grown.kin.links → IsToldFamily begun.frame.named begun.frame.flips.items begun.first.items grown.family → Tells lines grown
+begun_tells lines extra marks begun is grown same family groups linked told =
+    subst (λ f. Tells lines (record { frame = f; family = grown.family; kin = grown.kin })) (sym same) (record {
       edges = begun.first.items;
       distinct = is.distinct;
       frame = λ order. (let L : Given = record { order = order; lines = lines } in
@@ -124,6 +133,7 @@ begun_tells lines extra marks begun is grown same family groups told =
       sound = λ order. lines_sound (record { order = order; lines = lines }) begun.frame.named begun.first.items is.entered;
       family = family;
       groups = groups;
+      linked = linked;
       told = told;
     })
 
@@ -166,13 +176,14 @@ module _ (order : Below) (lines more : List Line) where
 
 -- a line more, with what its edges tell
 pub tells_more : (lines : List Line) (line : Line) (old new : Grown) (edges : List Edge) → Tells lines old → ((x : Dtv) → HasSide line x → Contains (named_of old) x) → AreLineEdges (line ∷ []) (named_of old) edges → new.frame ≡ old.frame →
-    IsFamily (length (named_of old)) new.family → AreGroups new.family new.groups.items →
-    ((more : List Edge) → ((e : Edge) → Contains edges e → Contains more e) → IsToldFamily (named_of old) old.frame.flips.items more old.family → IsToldFamily (named_of old) old.frame.flips.items more new.family) →
+    IsFamily (length (named_of old)) new.family → new.kin ≡ old.kin → AreGroups new.family new.kin.groups.items →
+    ((more : List Edge) → ((e : Edge) → Contains edges e → Contains more e) → AreLinked (named_of old) old.frame.flips.items more old.kin.links → IsToldFamily (named_of old) old.frame.flips.items more old.family → IsToldFamily (named_of old) old.frame.flips.items more new.family) →
     Tells (lines ++ line ∷ []) new
-tells_more lines line old new edges tells named are same family groups told =
+tells_more lines line old new edges tells named are same family kin groups told =
     let known : List Dtv = named_of old in
     let flips : List Bool = old.frame.flips.items in
-    subst (λ f. Tells (lines ++ line ∷ []) (record { frame = f; family = new.family; groups = new.groups })) (sym same) (record {
+    let linked : AreLinked known flips (tells.edges ++ edges) old.kin.links = links_more known flips tells.edges (tells.edges ++ edges) (Contains-append_left tells.edges edges) old.kin.links tells.linked in
+    subst (λ f. Tells (lines ++ line ∷ []) (record { frame = f; family = new.family; kin = new.kin })) (sym same) (record {
       edges = tells.edges ++ edges;
       distinct = tells.distinct;
       frame = λ order. frame_more order lines (line ∷ []) known flips (tells.frame order);
@@ -183,5 +194,6 @@ tells_more lines line old new edges tells named are same family groups told =
       sound = λ order. sound_more order lines (line ∷ []) known tells.edges edges (tells.sound order) (lines_sound (record { order = order; lines = line ∷ [] }) known edges are);
       family = family;
       groups = groups;
-      told = told (tells.edges ++ edges) (Contains-append_right tells.edges edges) (family_more known flips tells.edges (tells.edges ++ edges) (Contains-append_left tells.edges edges) old.family tells.told);
+      linked = subst (λ (k : Kin). AreLinked known flips (tells.edges ++ edges) k.links) (sym kin) linked;
+      told = told (tells.edges ++ edges) (Contains-append_right tells.edges edges) linked (family_more known flips tells.edges (tells.edges ++ edges) (Contains-append_left tells.edges edges) old.family tells.told);
     })

@@ -10,8 +10,8 @@ use Rattle.rt_sat.specs.declared.state.State.{State}
 use Rattle.rt_sat.specs.declared.state.Edge.{Edge}
 use Rattle.rt_sat.specs.declared.family.Family.{Family}
 use Rattle.rt_sat.specs.declared.family.Home.{Home}
-use Rattle.rt_sat.specs.Checks.{home_at, home_of, is_number, place_of, row_at, AreComplete, AreTurning, HasEdge}
-use Rattle.rt_sat.specs.Checks.{HasStep, HasTurn, IsNear, TakesIn}
+use Rattle.rt_sat.specs.Inside.Checks.{home_at, home_of, is_number, place_of, row_at, AreComplete, AreTurning, HasEdge}
+use Rattle.rt_sat.specs.Inside.Checks.{HasStep, HasTurn, IsNear, TakesIn}
 use Rattle.rt_sat.specs.Hints.{grid_of, members_of}
 use Rattle.rt_sat.specs.Searches.{turned, Walk, stays, turns, steps}
 

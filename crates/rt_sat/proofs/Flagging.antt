@@ -13,9 +13,9 @@ use Rattle.rt_sat.specs.declared.family.Family.{Family}
 use Rattle.rt_sat.specs.declared.family.Home.{Home}
 use Rattle.rt_sat.specs.declared.state.State.{State}
 use Rattle.rt_sat.specs.declared.state.Edge.{Edge}
-use Rattle.rt_sat.specs.Checks.{home_at, home_of, is_number, row_at, AreComplete, AreWalked, IsNear}
+use Rattle.rt_sat.specs.Inside.Checks.{home_at, home_of, is_number, row_at, AreComplete, AreWalked, IsNear}
 use Rattle.rt_sat.specs.Counts.{digit_of}
-use Rattle.rt_sat.specs.Flags.{IsCoveredRow}
+use Rattle.rt_sat.specs.Inside.Flags.{IsCoveredRow}
 use Rattle.rt_sat.specs.Hints.{members_of, state_at, IsHome}
 use Rattle.rt_sat.specs.Numbered.{sign_of, AreDistinct}
 use Rattle.rt_sat.specs.Pushes.{asked_of, flip_at, matter_at, AreChildren, AreDone, HasWalk, IsChildOf, IsClosedFrom, PushBy}

@@ -30,3 +30,5 @@ pub mod Weighed
 pub mod Flagging
 pub mod Completing
 pub mod Adding
+mod Standing
+mod Linking

@@ -31,13 +31,13 @@ use Rattle.rt_sat.specs.Numbered.{at_number, is_contra, sign_of, state_of}
 use Rattle.rt_sat.specs.Pushes.{flip_at, IsChildOf, PushBy}
 use Rattle.rt_sat.proofs.Closed.{child_state, named_child, parent_state, push_of, there_child}
 use Rattle.rt_sat.proofs.Families.{told_changed}
-use Rattle.rt_sat.proofs.Telling.{told_chain}
+use Rattle.rt_sat.proofs.Telling.{told_chain, told_join}
 
-half_of : (p : ℕ) (b : Bool) → (2 * p + digit_of b) / 2 ≡ p
+pub half_of : (p : ℕ) (b : Bool) → (2 * p + digit_of b) / 2 ≡ p
 half_of p true = omega arith
 half_of p false = omega arith
 
-odd_of : (p : ℕ) (b : Bool) → nat_eq ((2 * p + digit_of b) % 2) 1 ≡ b
+pub odd_of : (p : ℕ) (b : Bool) → nat_eq ((2 * p + digit_of b) % 2) 1 ≡ b
 odd_of p true = let e : (2 * p + 1) % 2 ≡ 1 = omega arith in ap (λ n. nat_eq n 1) e
 odd_of p false = let e : (2 * p + 0) % 2 ≡ 0 = omega arith in ap (λ n. nat_eq n 1) e
 
@@ -62,7 +62,7 @@ home_same count old new state home same before after stands =
 ends_same : (known : List Dtv) (flips : List Bool) (members : List ℕ) (count : ℕ) (old new : Family) (ends : List End) → AreSameMembers old new → IsFamily count old → IsFamily count new → AreEnds known flips members old ends → AreEnds known flips members new ends
 ends_same known flips members count old new ends same before after are end c =
     let is : IsEnd known flips members old end = are end c in
-    record { inside = is.inside; parent = is.parent; child = is.child; home = home_same count old new end.child end.home same before after is.home; flip = is.flip }
+    record { inside = is.inside; parent = is.parent; child = is.child; home = home_same count old new end.stand end.home same before after is.home; flip = is.flip }
 
 -- what was read of ends, that stay what they are where the classes have the same members
 pub ends_kept : (known : List Dtv) (flips : List Bool) (members now : List ℕ) (count : ℕ) (old new : Family) (ends items : List End) → now ≡ members → items ≡ ends → AreSameMembers old new → IsFamily count old → IsFamily count new →
@@ -72,7 +72,7 @@ ends_kept known flips members now count old new ends items each read same before
 
 -- what stands where no end does
 abbrev pub no_end : End
-no_end = record { place = 0; parent = record { variable = 0; contra = false }; child = record { variable = 0; contra = false }; letter = In (Arg 0); home = record { class = 0; index = 0 }; flip = false; matters = false }
+no_end = record { place = 0; parent = record { variable = 0; contra = false }; child = record { variable = 0; contra = false }; letter = In (Arg 0); stand = record { variable = 0; contra = false }; home = record { class = 0; index = 0 }; flip = false; matters = false }
 
 -- an end more
 pub ends_more : (known : List Dtv) (flips : List Bool) (members : List ℕ) (into : Family) (ends more : List End) (end : End) → AreEnds known flips members into ends → IsEnd known flips members into end → more ≡ ends ++ end ∷ [] → AreEnds known flips members into more
@@ -143,18 +143,24 @@ module _ (known : List Dtv) (flips : List Bool) (lines : List Edge) where
       (push_of known L flips frame parent.variable l m d (sign_of child.contra) (sign_of end.contra) k left.above by)))
 
   -- what is pushed from the count of a row between the parents of ends is told
-  pub end_told : (members row : List ℕ) (into : Family) (source target : End) (way k : ℕ) → IsEnd known flips members into source → IsEnd known flips members into target → target.home.class ≡ source.home.class → IsToldRow known flips lines source.parent members row →
+  pub end_told : (members row : List ℕ) (into : Family) (source target : End) (way k : ℕ) → IsEnd known flips members into source → IsEnd known flips members into target → IsTold known flips lines source.stand source.child 0 → IsTold known flips lines target.child target.stand 0 →
+      target.home.class ≡ source.home.class → IsToldRow known flips lines source.parent members row →
       target.place < length row → way ≡ get_or row target.place 0 → way < 255 → PushBy source.flip source.letter target.letter way (sign_of source.child.contra) (sign_of target.child.contra) k →
-      IsTold known flips lines source.child (state_at (members_of into source.home.class) target.home.index) k
-  end_told members row into source target way k from to class are less read few by =
+      IsTold known flips lines source.stand (state_at (members_of into source.home.class) target.home.index) k
+  end_told members row into source target way k from to first last class are less read few by =
       let e : way ≡ count_at row target.place = read ∙ get_or_default row target.place 0 255 less in
       let there : IsTold known flips lines source.parent target.parent way =
       subst (λ t. IsTold known flips lines source.parent t way) (sym to.parent)
       (subst (IsTold known flips lines source.parent (state_at members target.place)) (sym e) (are target.place less (subst (λ n. n < 255) e few))) in
       let pushed : PushBy (flip_at flips source.parent.variable) source.letter target.letter way (sign_of source.child.contra) (sign_of target.child.contra) k =
       subst (λ f. PushBy f source.letter target.letter way (sign_of source.child.contra) (sign_of target.child.contra) k) from.flip by in
-      subst (λ s. IsTold known flips lines source.child s k) (sym (ap (λ n. state_at (members_of into n) target.home.index) (sym class) ∙ to.home.is))
-      (told_push source.child source.parent target.child target.parent source.letter target.letter way k there from.child to.child pushed)
+      let middle : IsTold known flips lines source.child target.child k =
+      told_push source.child source.parent target.child target.parent source.letter target.letter way k there from.child to.child pushed in
+      let through : IsTold known flips lines source.stand target.stand (0 + (k + 0)) =
+      told_join known flips lines source.stand source.child target.stand 0 (k + 0) first (told_join known flips lines source.child target.child target.stand k 0 middle last) in
+      let count : 0 + (k + 0) ≡ k = omega arith in
+      subst (λ s. IsTold known flips lines source.stand s k) (sym (ap (λ n. state_at (members_of into n) target.home.index) (sym class) ∙ to.home.is))
+      (subst (IsTold known flips lines source.stand target.stand) count through)
 
   -- a step more that is told
   pub steps_more : (child : State) (family : Family) (class : ℕ) (steps more : List Step) (step : Step) → AreToldSteps known flips lines child family class steps → IsTold known flips lines child (state_at (members_of family class) step.to) step.count → more ≡ steps ++ step ∷ [] →

@@ -6,7 +6,7 @@ use Rattle.rt_grid.proofs.Holding.{close_holds, add_holds, prune_holds, holds_by
 use Rattle.rt_sat.specs.declared.family.Family.{Family}
 use Rattle.rt_sat.specs.declared.state.Edge.{Edge}
 use Rattle.rt_sat.specs.declared.state.State.{State}
-use Rattle.rt_sat.specs.Checks.{AreWalked, IsWalked}
+use Rattle.rt_sat.specs.Inside.Checks.{AreWalked, IsWalked}
 use Rattle.rt_sat.specs.Hints.{grid_of, members_of, no_table, state_at, IsTurning, Turns}
 use Rattle.rt_sat.specs.Hints.Turns.{stays, turns, behind}
 use Rattle.rt_sat.specs.Searches.{Walk}

@@ -108,12 +108,12 @@ AreToldSteps known flips lines state family class steps = (s : Step) → Contain
 abbrev pub AreInClass : Family → ℕ → List Step → Type 0
 AreInClass family class steps = (s : Step) → Contains steps s → s.to < size_of (grid_of family class)
 
--- the state has a letter more than the one at a place of a class, and stands in a class of a family
+-- a state has a letter more than the one at a place of a class, and one stands in a class of a family
 pub record IsEnd (known : List Dtv) (flips : List Bool) (members : List ℕ) (into : Family) (end : End) : Type 0 where
   pub inside : end.place < 2 * length members
   pub parent : end.parent ≡ state_at members end.place
   pub child : IsChildOf known end.child end.parent end.letter
-  pub home : IsHome into end.child end.home
+  pub home : IsHome into end.stand end.home
   pub flip : end.flip ≡ flip_at flips end.parent.variable
 
 abbrev pub AreEnds : List Dtv → List Bool → List ℕ → Family → List End → Type 0

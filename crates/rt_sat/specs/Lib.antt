@@ -8,9 +8,8 @@ pub mod Pushes
 pub mod Mattering
 pub mod Closings
 pub mod Hints
-pub mod Checks
-pub mod Flags
 pub mod Tables
 pub mod Weighing
 pub mod Weights
 pub mod Increments
+pub mod Inside

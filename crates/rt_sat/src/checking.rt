@@ -3,8 +3,8 @@ ghost use Rattle.std.specs.Prelude.{◌≡◌, ◌*◌, ◌<◌, ℕ, List, true
 ghost use Rattle.rt_lines.specs.declared.label.Label.{Label as Letter};
 ghost use Rattle.rt_sat.specs.declared.state.State.{State as Place};
 ghost use Rattle.rt_sat.specs.declared.state.Edge.{Edge as Arrow};
-ghost use Rattle.rt_sat.specs.Checks.{AreComplete, AreWalked};
-ghost use Rattle.rt_sat.specs.Flags.{IsCovered, IsCoveredAt, IsCoveredRow, IsCoveredTo};
+ghost use Rattle.rt_sat.specs.Inside.Checks.{AreComplete, AreWalked};
+ghost use Rattle.rt_sat.specs.Inside.Flags.{IsCovered, IsCoveredAt, IsCoveredRow, IsCoveredTo};
 ghost use Rattle.rt_sat.specs.Hints.{IsFamily};
 ghost use Rattle.rt_sat.specs.Numbered.{AreDistinct};
 ghost use Rattle.rt_sat.specs.Pushes.{asked_of, pushed_of, AreChildren, AreDone, AreIndexed, HasWalk, IsChildOf, IsClosedFrom};
@@ -13,7 +13,7 @@ use crate::building::built;
 use crate::complete::is_complete;
 use crate::family::Family;
 use crate::gathering::{between, child_of};
-use crate::hints::{MANY, above, below, member_state};
+use crate::hints::{MANY, above, below, group_nodes, groups, member_state};
 use crate::layers::Layers;
 use crate::pushing::{Frame, flag, numbers_at};
 use crate::state::State;
@@ -48,12 +48,14 @@ pub(crate) fn checked(alloc: Global, frame: &Frame, layers: &Layers) -> Result<V
         return Ok(Vec::new(alloc));
     }
     let above = above(alloc, frame)?;
-    let ways = built(alloc, frame, &layers.edges, &above)?;
+    let ways = built(alloc, &frame.nodes, &layers.edges, &above)?;
     if !is_complete(&ways, &layers.edges) {
         return Ok(Vec::new(alloc));
     }
     let below = below(alloc, frame)?;
-    let pushed = built(alloc, frame, &layers.edges[layers.lines..], &below)?;
+    let groups = groups(alloc, frame, &ways)?;
+    let nodes = group_nodes(alloc, &groups, frame.named.len())?;
+    let pushed = built(alloc, &nodes, &layers.edges[layers.lines..], &below)?;
     let done = flags(alloc, frame, &ways, &pushed)?;
     Ok(done)
 }

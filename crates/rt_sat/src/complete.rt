@@ -2,7 +2,7 @@
 ghost use Rattle.std.specs.Prelude.{◌≡◌, ◌+◌, ◌*◌, ◌<◌, ◌≤◌, ℕ, Contains, true, false, length};
 ghost use Rattle.rt_grid.specs.Tables.{size_of};
 ghost use Rattle.rt_sat.specs.declared.state.Edge.{Edge as Arrow};
-ghost use Rattle.rt_sat.specs.Checks.{AreComplete, AreTurning, HasEdge, HasTurn, HasTurns, TakesIn};
+ghost use Rattle.rt_sat.specs.Inside.Checks.{AreComplete, AreTurning, HasEdge, HasTurn, HasTurns, TakesIn};
 ghost use Rattle.rt_sat.specs.Hints.{IsFamily};
 
 use crate::family::{Family, place};

@@ -4,7 +4,7 @@ ghost use Rattle.std.specs.Prelude.{length, slice_get, slice_index_or};
 ghost use Rattle.rt_lines.specs.declared.variable.Dtv.{Dtv as Variable};
 ghost use Rattle.rt_sat.specs.declared.state.Edge.{Edge as Arrow};
 ghost use Rattle.rt_sat.specs.Counts.{digit_of};
-ghost use Rattle.rt_sat.specs.Checks.{home_of, AreWalked};
+ghost use Rattle.rt_sat.specs.Inside.Checks.{home_of, AreWalked};
 ghost use Rattle.rt_sat.specs.Searches.{Walk};
 ghost use Rattle.rt_sat.specs.Hints.{no_table, AreMembers, AreSameMembers, IsFamily, IsHome, IsTold, IsToldFamily, IsTurning};
 
@@ -36,7 +36,7 @@ pub(crate) struct Family {
 
 impl Family {
     // The classes of the variables whose flags are set: those of one node are of one class. No way is known but from a state to
-    // itself and to the one that is turned round. The error is want of memory.
+    // itself and to the one that is turned round. The error is out of memory.
     pub(crate) fn of(alloc: Global, nodes: &[Option<u32>], used: &[bool]) -> Result<Family, Memory>
         requires each { length used.now ≡ length nodes.now }
         requires few { length nodes.now ≤ 4294967296 }
@@ -72,7 +72,7 @@ impl Family {
         })
     }
 
-    // Adds a step between states, if these are of one class. The error is want of memory.
+    // Adds a step between states, if these are of one class. The error is out of memory.
     pub(crate) fn add(
         &mut self,
         alloc: Global,
@@ -101,7 +101,7 @@ impl Family {
     }
 
     // Takes in what the steps of a class lead to, once for each state from the first to the last and back. Whether a way became
-    // shorter. The error is want of memory.
+    // shorter. The error is out of memory.
     pub(crate) fn sweep(&mut self, alloc: Global, class: usize) -> Result<bool, Memory>
         requires family { (count : ℕ) × IsFamily count self.old }
         requires class { class < length self.old.members.items }
@@ -114,7 +114,7 @@ impl Family {
         Ok(shorter)
     }
 
-    // Takes in what the steps of a class lead to, and forgets those without which its ways are as short. The error is want of
+    // Takes in what the steps of a class lead to, and forgets those without which its ways are as short. The error is out of
     // memory.
     pub(crate) fn close(&mut self, alloc: Global, class: usize) -> Result<(), Memory>
         requires family { (count : ℕ) × IsFamily count self.old }

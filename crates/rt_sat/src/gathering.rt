@@ -1,5 +1,5 @@
-// Pushes from ways that tables of bytes tell.
-ghost use Rattle.std.specs.Prelude.{◌≡◌, ◌+◌, ◌%◌, ◌<◌, ◌≤◌, ℕ, Bool, List, Contains, Some, None, IfOk, IfSome, OnOk};
+// Pushes from ways that tables of bytes give.
+ghost use Rattle.std.specs.Prelude.{◌≡◌, ◌⊎◌, ◌+◌, ◌%◌, ◌<◌, ◌≤◌, ℕ, Bool, List, Contains, Some, None, IfOk, IfSome, OnOk};
 ghost use Rattle.std.specs.Prelude.{length};
 ghost use Rattle.rt_grid.specs.declared.grid.Step.{Step as Pace};
 ghost use Rattle.rt_grid.specs.Tables.{size_of, Holds, Made, SaysWith};
@@ -9,6 +9,7 @@ ghost use Rattle.rt_sat.specs.declared.family.Family.{Family as Classes};
 ghost use Rattle.rt_sat.specs.declared.state.State.{State as Place};
 ghost use Rattle.rt_sat.specs.declared.state.Edge.{Edge as Arrow};
 ghost use Rattle.rt_sat.specs.Counts.{digit_of};
+ghost use Rattle.rt_sat.specs.Inside.Links.{noted_at, AreBefore, AreBehind, AreEndsFrom, AreLinked, AreSources, AreTargets, AreTied};
 ghost use Rattle.rt_sat.specs.Hints.{bit_of, grid_of, members_of, state_at, AreEnds, AreGroups, AreInClass, AreInRows, AreKids};
 ghost use Rattle.rt_sat.specs.Hints.{AreSameMembers, AreToldSteps, IsEnd, IsFamily, IsGroup, IsHome, IsInRows, IsTold, IsToldFamily};
 ghost use Rattle.rt_sat.specs.Hints.{IsToldRow, SaysOr};
@@ -16,6 +17,7 @@ ghost use Rattle.rt_sat.specs.Numbered.{sign_of, AreDistinct};
 ghost use Rattle.rt_sat.specs.Pushes.{IsChildOf, PushBy};
 
 use crate::family::{Family, Home, place};
+use crate::links::{Links, states_at};
 use crate::pushing::{Frame, flag, is_pointer, sign, turns};
 use crate::state::State;
 use rt_base::{Memory, Sequence};
@@ -23,6 +25,7 @@ use rt_grid::{Grid, NONE, Step};
 use rt_lines::Label;
 use rt_named::Origin;
 use std::alloc::Global;
+use std::slice;
 
 // How often all classes are gone over at most.
 const PASSES: usize = 1000;
@@ -49,6 +52,15 @@ pub(crate) struct Group {
     pub(crate) kids: Sequence<Kid>,
 }
 
+// What is pushed within a family.
+#[derive(Drop)]
+pub(crate) struct Kin {
+    // Variables with a letter more than members.
+    pub(crate) groups: Vec<Group>,
+    // What leads to those of them that aren't members themselves, and from them.
+    pub(crate) links: Links,
+}
+
 // The state of a variable with a letter more than a member's state, to which what is known of the latter is pushed.
 #[derive(Clone, Copy)]
 struct End {
@@ -58,7 +70,9 @@ struct End {
     child: State,
     // The letter that the child has more.
     letter: Label,
-    // Where the child stands, in the family that is pushed to.
+    // The child, if it stands in the family that is pushed to, else a state that stands there and leads to it or from it.
+    stand: State,
+    // Where that stands.
     home: Home,
     // Whether the parent can be read and written through.
     flip: bool,
@@ -70,20 +84,21 @@ struct End {
 pub(crate) fn spread(
     alloc: Global,
     frame: &Frame,
-    groups: &[Group],
+    kin: &Kin,
     family: &mut Family,
 ) -> Result<(), Memory>
     requires distinct { AreDistinct frame.now.named }
     requires family { IsFamily (length frame.now.named) family.old }
-    requires groups { AreGroups family.old groups.now }
+    requires groups { AreGroups family.old kin.now.groups.items }
     ensures same { OnOk result (AreSameMembers family.old family.new) }
     ensures family { OnOk result (IsFamily (length frame.now.named) family.new) }
-    ensures told { OnOk result ((lines : List Arrow) → IsToldFamily frame.now.named frame.now.flips.items lines family.old →
+    ensures told { OnOk result ((lines : List Arrow) → AreLinked frame.now.named frame.now.flips.items lines kin.now.links →
+        IsToldFamily frame.now.named frame.now.flips.items lines family.old →
         IsToldFamily frame.now.named frame.now.flips.items lines family.new) }
 {
     let due = vec![in alloc; true; family.members.len()]?;
     let since = vec![in alloc; 0u64; family.members.len()]?;
-    spread_from(alloc, frame, groups, family, due, since)
+    spread_from(alloc, frame, kin, family, due, since)
 }
 
 // Pushes within a family from the classes that are due, until nothing is added. Of a class those rows alone are pushed that
@@ -91,18 +106,19 @@ pub(crate) fn spread(
 pub(crate) fn spread_from(
     alloc: Global,
     frame: &Frame,
-    groups: &[Group],
+    kin: &Kin,
     family: &mut Family,
     due: Vec<bool>,
     since: Vec<u64>,
 ) -> Result<(), Memory>
     requires distinct { AreDistinct frame.now.named }
     requires family { IsFamily (length frame.now.named) family.old }
-    requires groups { AreGroups family.old groups.now }
+    requires groups { AreGroups family.old kin.now.groups.items }
     requires due { length due.items ≡ length family.old.members.items }
     ensures same { OnOk result (AreSameMembers family.old family.new) }
     ensures family { OnOk result (IsFamily (length frame.now.named) family.new) }
-    ensures told { OnOk result ((lines : List Arrow) → IsToldFamily frame.now.named frame.now.flips.items lines family.old →
+    ensures told { OnOk result ((lines : List Arrow) → AreLinked frame.now.named frame.now.flips.items lines kin.now.links →
+        IsToldFamily frame.now.named frame.now.flips.items lines family.old →
         IsToldFamily frame.now.named frame.now.flips.items lines family.new) }
 {
     let mut due = due;
@@ -117,7 +133,7 @@ pub(crate) fn spread_from(
             &mut next,
         )?;
         let clocks = clocks(alloc, family)?;
-        push_due(alloc, frame, groups, family, &due, &since, &mut next)?;
+        push_due(alloc, frame, kin, family, &due, &since, &mut next)?;
         if !next.contains(&true) {
             return Ok(());
         }
@@ -213,7 +229,7 @@ fn sweep_class(
 fn push_due(
     alloc: Global,
     frame: &Frame,
-    groups: &[Group],
+    kin: &Kin,
     family: &mut Family,
     due: &[bool],
     since: &[u64],
@@ -221,17 +237,18 @@ fn push_due(
 ) -> Result<(), Memory>
     requires distinct { AreDistinct frame.now.named }
     requires family { IsFamily (length frame.now.named) family.old }
-    requires groups { AreGroups family.old groups.now }
+    requires groups { AreGroups family.old kin.now.groups.items }
     requires next { length next.old.items ≡ length family.old.members.items }
     ensures next { OnOk result (length next.new.items ≡ length next.old.items) }
     ensures same { OnOk result (AreSameMembers family.old family.new) }
     ensures family { OnOk result (IsFamily (length frame.now.named) family.new) }
-    ensures told { OnOk result ((lines : List Arrow) → IsToldFamily frame.now.named frame.now.flips.items lines family.old →
+    ensures told { OnOk result ((lines : List Arrow) → AreLinked frame.now.named frame.now.flips.items lines kin.now.links →
+        IsToldFamily frame.now.named frame.now.flips.items lines family.old →
         IsToldFamily frame.now.named frame.now.flips.items lines family.new) }
 {
-    for group in groups {
+    for group in &kin.groups {
         if let Some(since) = clock_of(due, since, group.class) {
-            push_group(alloc, frame, group, family, since, next)?;
+            push_group(alloc, frame, group, &kin.links, family, since, next)?;
         }
     }
     Ok(())
@@ -250,6 +267,7 @@ fn push_group(
     alloc: Global,
     frame: &Frame,
     group: &Group,
+    links: &Links,
     family: &mut Family,
     since: u64,
     next: &mut Vec<bool>,
@@ -261,23 +279,26 @@ fn push_group(
     ensures next { OnOk result (length next.new.items ≡ length next.old.items) }
     ensures same { OnOk result (AreSameMembers family.old family.new) }
     ensures family { OnOk result (IsFamily (length frame.now.named) family.new) }
-    ensures told { OnOk result ((lines : List Arrow) → IsToldFamily frame.now.named frame.now.flips.items lines family.old →
+    ensures told { OnOk result ((lines : List Arrow) → AreLinked frame.now.named frame.now.flips.items lines links.now →
+        IsToldFamily frame.now.named frame.now.flips.items lines family.old →
         IsToldFamily frame.now.named frame.now.flips.items lines family.new) }
 {
     let members = family.members[group.class].items();
-    let ends = ends(alloc, frame, members, group.kids.items(), family)?;
-    for source in &ends {
+    let kids = group.kids.items();
+    let sources = ends(alloc, frame, members, kids, &links.before, family)?;
+    let targets = ends(alloc, frame, members, kids, &links.behind, family)?;
+    for source in &sources {
         if family.grids[group.class].has_changed(source.place, since) {
-            push_within(alloc, &ends, source, family, group.class, next)?;
+            push_within(alloc, &targets, source, family, group.class, next)?;
         }
     }
     Ok(())
 }
 
-// Pushes from the row of an end's parent within its family, and flags the class to which something was added.
+// Pushes from the row of an end's parent to others within its family, and flags the class to which something was added.
 fn push_within(
     alloc: Global,
-    ends: &[End],
+    targets: &[End],
     source: &End,
     family: &mut Family,
     class: usize,
@@ -286,17 +307,17 @@ fn push_within(
     requires family { (count : ℕ) × IsFamily count family.old }
     requires class { class < length family.old.members.items }
     requires ends { (known : List Variable) × (flips : List Bool) ×
-        AreEnds known flips (members_of family.old class) family.old ends.now }
-    requires source { Contains ends.now source.now }
+        AreEndsFrom known flips (members_of family.old class) family.old source.now targets.now }
     requires next { length next.old.items ≡ length family.old.members.items }
     ensures next { OnOk result (length next.new.items ≡ length next.old.items) }
     ensures same { OnOk result (AreSameMembers family.old family.new) }
     ensures family { OnOk result ((count : ℕ) → IsFamily count family.old → IsFamily count family.new) }
     ensures told { OnOk result ((known : List Variable) (flips : List Bool) (lines : List Arrow) →
-        AreEnds known flips (members_of family.old class) family.old ends.now → IsToldFamily known flips lines family.old →
+        AreEndsFrom known flips (members_of family.old class) family.old source.now targets.now →
+        AreTied known flips lines source.now targets.now → IsToldFamily known flips lines family.old →
         IsToldFamily known flips lines family.new) }
 {
-    let found = found_at(alloc, ends, source, family, class, family)?;
+    let found = found_at(alloc, targets, source, family, class, family)?;
     if put(alloc, family, source.home, &found)? {
         next[source.home.class] = true;
     }
@@ -322,7 +343,7 @@ pub(crate) fn push_apart(
         IsToldFamily frame.now.named frame.now.flips.items lines into.new) }
 {
     let members = family.members[group.class].items();
-    let ends = ends(alloc, frame, members, group.kids.items(), into)?;
+    let ends = ends(alloc, frame, members, group.kids.items(), &[], into)?;
     for source in &ends {
         let found = found_at(alloc, &ends, source, family, group.class, into)?;
         put(alloc, into, source.home, &found)?;
@@ -330,10 +351,11 @@ pub(crate) fn push_apart(
     Ok(())
 }
 
-// The steps that are pushed from the row of an end's parent, in a class of a family, to where the end stands.
+// The steps that are pushed from the row of an end's parent, in a class of a family, from where the end stands to where others
+// do.
 fn found_at(
     alloc: Global,
-    ends: &[End],
+    targets: &[End],
     source: &End,
     family: &Family,
     class: usize,
@@ -343,16 +365,16 @@ fn found_at(
     requires class { class < length family.now.members.items }
     requires into { (count : ℕ) × IsFamily count into.now }
     requires ends { (known : List Variable) × (flips : List Bool) ×
-        AreEnds known flips (members_of family.now class) into.now ends.now }
-    requires source { Contains ends.now source.now }
+        AreEndsFrom known flips (members_of family.now class) into.now source.now targets.now }
     ensures inside { IfOk result (λ found. AreInClass into.now source.now.home.class found.items) }
     ensures told { IfOk result (λ found. (known : List Variable) (flips : List Bool) (lines : List Arrow) →
-        AreEnds known flips (members_of family.now class) into.now ends.now → IsToldFamily known flips lines family.now →
-        AreToldSteps known flips lines source.now.child into.now source.now.home.class found.items) }
+        AreEndsFrom known flips (members_of family.now class) into.now source.now targets.now →
+        AreTied known flips lines source.now targets.now → IsToldFamily known flips lines family.now →
+        AreToldSteps known flips lines source.now.stand into.now source.now.home.class found.items) }
 {
     let row = family.grids[class].row(source.place);
     let known = into.grids[source.home.class].row(source.home.index);
-    let found = gathered(alloc, ends, row, source, known)?;
+    let found = gathered(alloc, targets, row, source, known)?;
     Ok(found)
 }
 
@@ -364,62 +386,100 @@ fn put(alloc: Global, into: &mut Family, home: Home, found: &[Step]) -> Result<b
     requires found { AreInClass into.old home.class found.now }
     ensures same { OnOk result (AreSameMembers into.old into.new) }
     ensures family { OnOk result ((count : ℕ) → IsFamily count into.old → IsFamily count into.new) }
-    ensures told { OnOk result ((known : List Variable) (flips : List Bool) (lines : List Arrow) (child : Place) →
-        IsHome into.old child home → AreToldSteps known flips lines child into.old home.class found.now →
+    ensures told { OnOk result ((known : List Variable) (flips : List Bool) (lines : List Arrow) (stand : Place) →
+        IsHome into.old stand home → AreToldSteps known flips lines stand into.old home.class found.now →
         IsToldFamily known flips lines into.old → IsToldFamily known flips lines into.new) }
 {
     let added = enter(alloc, &mut into.grids[home.class], home.index, found)?;
     Ok(added)
 }
 
-// The states of variables with a letter more than members' states, as far as they stand in a class of a family.
+// The states of variables with a letter more than members' states, as far as they stand in a class of a family, or states that
+// are noted at them do.
 fn ends(
     alloc: Global,
     frame: &Frame,
     members: &[u32],
     kids: &[Kid],
+    near: &[Sequence<State>],
     into: &Family,
 ) -> Result<Vec<End>, Memory>
     requires distinct { AreDistinct frame.now.named }
     requires members { length members.now ≤ 6000 }
     requires kids { AreKids members.now kids.now }
     requires into { (count : ℕ) × IsFamily count into.now }
-    ensures { IfOk result (λ ends. AreEnds frame.now.named frame.now.flips.items members.now into.now ends.items) }
+    ensures ends { IfOk result (λ ends. AreEnds frame.now.named frame.now.flips.items members.now into.now ends.items) }
+    ensures before { IfOk result (λ ends. (lines : List Arrow) → AreBefore frame.now.named frame.now.flips.items lines near.now →
+        AreSources frame.now.named frame.now.flips.items lines ends.items) }
+    ensures behind { IfOk result (λ ends. (lines : List Arrow) → AreBehind frame.now.named frame.now.flips.items lines near.now →
+        AreTargets frame.now.named frame.now.flips.items lines ends.items) }
 {
     let mut ends = Vec::new(alloc);
     for kid in kids {
         for turned in 0..2 {
-            if let Some(end) = end_of(frame, members, *kid, turned == 1, into) {
-                ends.push(end)?;
-            }
+            add_kid(frame, members, *kid, turned == 1, near, into, &mut ends)?;
         }
     }
     Ok(ends)
 }
 
-// The state of a variable with a letter more than a member's state, if it stands in a class of a family.
-fn end_of(frame: &Frame, members: &[u32], kid: Kid, contra: bool, into: &Family) -> Option<End>
+// Adds the state of a variable with a letter more than a member's state, as far as it stands in a class of a family, or states
+// that are noted at it do.
+fn add_kid(
+    frame: &Frame,
+    members: &[u32],
+    kid: Kid,
+    contra: bool,
+    near: &[Sequence<State>],
+    into: &Family,
+    ends: &mut Vec<End>,
+) -> Result<(), Memory>
     requires distinct { AreDistinct frame.now.named }
     requires members { length members.now ≤ 6000 }
     requires kid { kid.parent < length members.now }
     requires into { (count : ℕ) × IsFamily count into.now }
-    ensures { IfSome result (IsEnd frame.now.named frame.now.flips.items members.now into.now) }
+    ensures ends { OnOk result (AreEnds frame.now.named frame.now.flips.items members.now into.now ends.old.items →
+        AreEnds frame.now.named frame.now.flips.items members.now into.now ends.new.items) }
+    ensures before { OnOk result ((lines : List Arrow) → AreBefore frame.now.named frame.now.flips.items lines near.now →
+        AreSources frame.now.named frame.now.flips.items lines ends.old.items →
+        AreSources frame.now.named frame.now.flips.items lines ends.new.items) }
+    ensures behind { OnOk result ((lines : List Arrow) → AreBehind frame.now.named frame.now.flips.items lines near.now →
+        AreTargets frame.now.named frame.now.flips.items lines ends.old.items →
+        AreTargets frame.now.named frame.now.flips.items lines ends.new.items) }
 {
     let parent = State {
         variable: members[kid.parent],
         contra,
     };
-    let (child, letter) = child_of(frame, parent, kid.variable)?;
-    let home = into.home(child)?;
-    Some(End {
-        place: place(kid.parent, contra),
-        parent,
-        child,
-        letter,
-        home,
-        flip: flag(&frame.flips, parent.variable),
-        matters: flag(&frame.matters, child.variable),
-    })
+    let Some((child, letter)) = child_of(frame, parent, kid.variable) else {
+        return Ok(());
+    };
+    for stand in stands(near, &child, into) {
+        if let Some(home) = into.home(*stand) {
+            ends.push(End {
+                place: place(kid.parent, contra),
+                parent,
+                child,
+                letter,
+                stand: *stand,
+                home,
+                flip: flag(&frame.flips, parent.variable),
+                matters: flag(&frame.matters, child.variable),
+            })?;
+        }
+    }
+    Ok(())
+}
+
+// The state, if it stands in a class of a family, else those that are noted at it.
+fn stands<'a>(near: &'a [Sequence<State>], state: &'a State, into: &Family) -> &'a [State]
+    requires { (count : ℕ) × IsFamily count into.now }
+    ensures { (s : Place) → Contains result.now s → (s ≡ state.now) ⊎ Contains (noted_at near.now state.now) s }
+{
+    if into.home(*state).is_some() {
+        return slice::from_ref(state);
+    }
+    states_at(near, *state)
 }
 
 // The state of a variable, if that has a letter more than a state's, and the letter.
@@ -448,23 +508,24 @@ pub(crate) fn child_of(frame: &Frame, parent: State, number: u32) -> Option<(Sta
     }
 }
 
-// The steps that are pushed from the row of an end's parent to the end, as far as they are less than what is known.
+// The steps that are pushed from the row of an end's parent to others, as far as they are less than what is known.
 fn gathered(
     alloc: Global,
-    ends: &[End],
+    targets: &[End],
     row: &[u8],
     source: &End,
     known: &[u8],
 ) -> Result<Vec<Step>, Memory>
-    requires { AreInRows row.now source.now.home.class known.now ends.now }
+    requires { AreInRows row.now source.now.home.class known.now targets.now }
     ensures inside { IfOk result (λ found. (s : Pace) → Contains found.items s → s.to < length known.now) }
     ensures told { IfOk result (λ found. (known : List Variable) (flips : List Bool) (lines : List Arrow) (members : List ℕ)
-        (into : Classes) → AreEnds known flips members into ends.now → IsEnd known flips members into source.now →
+        (into : Classes) → AreEndsFrom known flips members into source.now targets.now →
+        AreTied known flips lines source.now targets.now →
         IsToldRow known flips lines source.now.parent members row.now →
-        AreToldSteps known flips lines source.now.child into source.now.home.class found.items) }
+        AreToldSteps known flips lines source.now.stand into source.now.home.class found.items) }
 {
     let mut found = Vec::new(alloc);
-    for target in ends {
+    for target in targets {
         if let Some(step) = pushed_step(row, source, target, known) {
             found.push(step)?;
         }
@@ -478,8 +539,10 @@ fn pushed_step(row: &[u8], source: &End, target: &End, known: &[u8]) -> Option<S
     ensures inside { IfSome result (λ s. s.to < length known.now) }
     ensures told { IfSome result (λ s. (known : List Variable) (flips : List Bool) (lines : List Arrow) (members : List ℕ)
         (into : Classes) → IsEnd known flips members into source.now → IsEnd known flips members into target.now →
+        IsTold known flips lines source.now.stand source.now.child 0 →
+        IsTold known flips lines target.now.child target.now.stand 0 →
         IsToldRow known flips lines source.now.parent members row.now →
-        IsTold known flips lines source.now.child (state_at (members_of into source.now.home.class) s.to) s.count) }
+        IsTold known flips lines source.now.stand (state_at (members_of into source.now.home.class) s.to) s.count) }
 {
     let way = row[target.place];
     if way == NONE || target.home.class != source.home.class {

@@ -7,13 +7,15 @@ ghost use Rattle.rt_grid.specs.Tables.{size_of};
 ghost use Rattle.rt_sat.specs.declared.family.Family.{Family as Classes};
 ghost use Rattle.rt_sat.specs.Hints.{state_at, AreGroups, AreMore, AreSameMembers, AreTold, IsFamily, IsKid, IsOfStep};
 ghost use Rattle.rt_sat.specs.Hints.{IsStepFrom, IsStepOf, IsTold, IsToldFamily};
-ghost use Rattle.rt_sat.specs.Checks.{AreWalked};
+ghost use Rattle.rt_sat.specs.Inside.Checks.{AreWalked};
+ghost use Rattle.rt_sat.specs.Inside.Links.{AreLinked};
 ghost use Rattle.rt_sat.specs.Numbered.{AreDistinct, AreWithin};
 
 use crate::count::Count;
 use crate::family::{Family, class_count};
-use crate::gathering::{Group, Kid, push_apart, spread};
-use crate::pushing::{Frame, flag};
+use crate::gathering::{Group, Kid, Kin, push_apart, spread};
+use crate::links::Links;
+use crate::pushing::{Frame, flag, numbers_at};
 use crate::state::{Edge, State};
 use rt_base::{Memory, Sequence};
 use rt_grid::{Grid, Step};
@@ -34,7 +36,7 @@ type Kind = (u8, u32, i32);
 // The group of each class and kind of letters.
 type Places = BTreeMap<(usize, Kind), usize>;
 
-// Pushed edges. The error is want of memory.
+// Pushed edges. The error is out of memory.
 pub(crate) fn hints(alloc: Global, frame: &Frame, lines: &[Edge]) -> Result<Vec<Edge>, Memory>
     requires distinct { AreDistinct frame.now.named }
     requires nodes { length frame.now.nodes.items ≡ length frame.now.named }
@@ -45,12 +47,70 @@ pub(crate) fn hints(alloc: Global, frame: &Frame, lines: &[Edge]) -> Result<Vec<
         return Ok(Vec::new(alloc));
     }
     let above = above(alloc, frame)?;
-    let mut family = Family::of(alloc, &frame.nodes, &above)?;
+    let inner = inner(frame, lines, above);
+    let mut family = Family::of(alloc, &frame.nodes, &inner)?;
     enter_lines(alloc, &mut family, lines)?;
-    let groups = groups(alloc, frame, &family)?;
-    spread(alloc, frame, &groups, &mut family)?;
-    let edges = pushed(alloc, frame, &groups, &family)?;
+    let kin = kin(alloc, frame, lines, &family)?;
+    spread(alloc, frame, &kin, &mut family)?;
+    let edges = pushed(alloc, frame, &kin.groups, &family)?;
     Ok(edges)
+}
+
+// The flags, but for those of variables with a letter more than another one and with none more themselves. An edge between two
+// of these sets that of its start. So ways through such a variable go along edges of others, which are links.
+pub(crate) fn inner(frame: &Frame, lines: &[Edge], flags: Vec<bool>) -> Vec<bool>
+    requires { length flags.items ≡ length frame.now.named }
+    ensures { length result.items ≡ length flags.items }
+{
+    let mut flags = flags;
+    for number in 0..frame.named.len() {
+        if is_leaf(frame, number as u32) {
+            flags[number] = false;
+        }
+    }
+    for edge in lines {
+        if !flag(&flags, edge.from.variable) && !flag(&flags, edge.to.variable) {
+            set(&mut flags, edge.from.variable);
+        }
+    }
+    flags
+}
+
+// Sets a flag, if there is one of this number.
+pub(crate) fn set(flags: &mut Vec<bool>, number: u32)
+    ensures { length flags.new.items ≡ length flags.old.items }
+{
+    let number = number as usize;
+    if number < flags.len() {
+        flags[number] = true;
+    }
+}
+
+// Whether the variable has a letter more than another one, and none has more than it.
+fn is_leaf(frame: &Frame, number: u32) -> bool
+    requires { number < length frame.now.named }
+{
+    match frame.named.origin(number) {
+        Origin::Longer(_, _) => numbers_at(&frame.children, number).is_empty(),
+        Origin::Bare(_) => false,
+    }
+}
+
+// What is pushed within a family: the variables with a letter more than members of classes, and the links among edges.
+pub(crate) fn kin(
+    alloc: Global,
+    frame: &Frame,
+    edges: &[Edge],
+    family: &Family,
+) -> Result<Kin, Memory>
+    requires { (count : ℕ) × IsFamily count family.now }
+    ensures groups { IfOk result (λ kin. AreGroups family.now kin.groups.items) }
+    ensures linked { IfOk result (λ kin. (known : List Variable) (flips : List Bool) (lines : List Arrow) →
+        ((e : Arrow) → Contains edges.now e → Contains lines e) → AreLinked known flips lines kin.links) }
+{
+    let groups = groups(alloc, frame, family)?;
+    let links = Links::of(alloc, edges, family, frame.named.len())?;
+    Ok(Kin { groups, links })
 }
 
 // Adds steps of edges, as far as their counts are small.
@@ -296,11 +356,32 @@ fn pushed_ways(
         IsToldFamily frame.now.named frame.now.flips.items lines pushed) }
 {
     let below = below(alloc, frame)?;
-    let mut pushed = Family::of(alloc, &frame.nodes, &below)?;
+    let nodes = group_nodes(alloc, groups, frame.named.len())?;
+    let mut pushed = Family::of(alloc, &nodes, &below)?;
     for group in groups {
         push_apart(alloc, frame, group, family, &mut pushed)?;
     }
     Ok(pushed)
+}
+
+// For each of so many variables the number of its group, if it has one. What is pushed stays within these.
+pub(crate) fn group_nodes(
+    alloc: Global,
+    groups: &[Group],
+    count: usize,
+) -> Result<Vec<Option<u32>>, Memory>
+    ensures { IfOk result (λ nodes. length nodes.items ≡ count) }
+{
+    let mut nodes = vec![in alloc; None; count]?;
+    for number in 0..groups.len() {
+        for kid in groups[number].kids.items() {
+            let variable = kid.variable as usize;
+            if variable < nodes.len() {
+                nodes[variable] = u32::try_from(number).ok();
+            }
+        }
+    }
+    Ok(nodes)
 }
 
 // The steps of all classes that aren't spare, as edges.

@@ -1,6 +1,7 @@
-// What lines tell, in tables of bytes to which lines can be added.
+// What lines say, in tables of bytes to which lines can be added.
 ghost use Rattle.std.specs.Prelude.{◌≡◌, ℕ, List, Contains, true, length, IfOk, OnOk};
 ghost use Rattle.rt_sat.specs.declared.state.Edge.{Edge as Arrow};
+ghost use Rattle.rt_sat.specs.Inside.Links.{AreLinked};
 ghost use Rattle.rt_sat.specs.Hints.{AreGroups, IsFamily, IsTold, IsToldFamily};
 ghost use Rattle.rt_sat.specs.Numbered.{AreDistinct};
 ghost use Rattle.rt_lines.specs.declared.line.Line.{Line as Given};
@@ -15,27 +16,28 @@ ghost use Rattle.rt_sat.specs.Tables.{place, AreThere};
 
 use crate::entering::line_edges;
 use crate::family::Family;
-use crate::gathering::{Group, clocks, spread, spread_from};
-use crate::hints::{enter_lines, groups};
+use crate::gathering::{Kin, clocks, spread, spread_from};
+use crate::hints::{enter_lines, inner, kin, set};
 use crate::pushing::Frame;
 use crate::state::{Edge, State};
 use crate::table::{Begun, begin};
 use rt_base::Memory;
 use rt_lines::{Dtv, Line};
+use rt_named::Named;
 use rt_shape::Shape;
 use std::alloc::Global;
 use std::slice;
 
-/// What lines tell of the variables that they and others name, as far as tables of bytes find it. Lines can be added.
+/// What lines say of the variables that they and others name, as far as tables of bytes find it. Lines can be added.
 #[derive(Drop)]
 pub struct GrowingTable {
     frame: Frame,
     family: Family,
-    groups: Vec<Group>,
+    kin: Kin,
 }
 
 impl GrowingTable {
-    /// What the lines tell of the variables that they and others name, which exist. The error is want of memory.
+    /// What the lines say of the variables that they and others name, which exist. The error is out of memory.
     pub fn of(
         alloc: Global,
         lines: &[Line],
@@ -49,16 +51,14 @@ impl GrowingTable {
     {
         let begun = begin(alloc, lines, shape, extra)?;
         let Begun { frame, first } = begun;
-        let used = vec![in alloc; true; frame.named.len()]?;
+        let all = vec![in alloc; true; frame.named.len()]?;
+        let inner = inner(&frame, &first, all);
+        let used = with_named(&frame.named, extra, inner);
         let mut family = Family::of(alloc, &frame.nodes, &used)?;
         enter_lines(alloc, &mut family, &first)?;
-        let groups = groups(alloc, &frame, &family)?;
-        spread(alloc, &frame, &groups, &mut family)?;
-        Ok(GrowingTable {
-            frame,
-            family,
-            groups,
-        })
+        let kin = kin(alloc, &frame, &first, &family)?;
+        spread(alloc, &frame, &kin, &mut family)?;
+        Ok(GrowingTable { frame, family, kin })
     }
 
     /// Whether it is found that the first variable lies below the second. Where it isn't, nothing is said.
@@ -95,7 +95,7 @@ impl GrowingTable {
         self.family.grids[left.class].row(left.index)[right.index] == 0
     }
 
-    /// Adds a line, if its sides are named: of ways between other variables nothing is found. The error is want of memory.
+    /// Adds a line, if its sides are named: of ways between other variables nothing is found. The error is out of memory.
     pub fn add(&mut self, alloc: Global, line: &Line) -> Result<(), Memory>
         requires { (lines : List Given) × Tells lines self.old }
         ensures named { OnOk result (named_of self.new ≡ named_of self.old) }
@@ -121,29 +121,24 @@ impl GrowingTable {
         true
     }
 
-    // Adds what edges of lines, and what is pushed from ways along them, tell.
+    // Adds what edges of lines, and what is pushed from ways along them, say.
     fn enter(&mut self, alloc: Global, edges: &[Edge]) -> Result<(), Memory>
         requires distinct { AreDistinct self.old.frame.named }
         requires family { IsFamily (length self.old.frame.named) self.old.family }
-        requires groups { AreGroups self.old.family self.old.groups.items }
+        requires groups { AreGroups self.old.family self.old.kin.groups.items }
         ensures frame { OnOk result (self.new.frame ≡ self.old.frame) }
         ensures family { OnOk result (IsFamily (length self.old.frame.named) self.new.family) }
-        ensures groups { OnOk result (AreGroups self.new.family self.new.groups.items) }
+        ensures kin { OnOk result (self.new.kin ≡ self.old.kin) }
+        ensures groups { OnOk result (AreGroups self.new.family self.new.kin.groups.items) }
         ensures told { OnOk result ((lines : List Arrow) → ((e : Arrow) → Contains edges.now e → Contains lines e) →
+            AreLinked self.old.frame.named self.old.frame.flips.items lines self.old.kin.links →
             IsToldFamily self.old.frame.named self.old.frame.flips.items lines self.old.family →
             IsToldFamily self.old.frame.named self.old.frame.flips.items lines self.new.family) }
     {
         let since = clocks(alloc, &self.family)?;
         enter_lines(alloc, &mut self.family, edges)?;
         let due = self.due(alloc, edges)?;
-        spread_from(
-            alloc,
-            &self.frame,
-            &self.groups,
-            &mut self.family,
-            due,
-            since,
-        )
+        spread_from(alloc, &self.frame, &self.kin, &mut self.family, due, since)
     }
 
     // A flag for each class, set for those of the edges' starts.
@@ -169,4 +164,17 @@ fn forth(variable: u32) -> State
         variable,
         contra: false,
     }
+}
+
+// The flags, with those of variables set.
+fn with_named(named: &Named, variables: &[Dtv], flags: Vec<bool>) -> Vec<bool>
+    ensures { length result.items ≡ length flags.items }
+{
+    let mut flags = flags;
+    for x in variables {
+        if let Some(number) = named.index(x) {
+            set(&mut flags, number);
+        }
+    }
+    flags
 }

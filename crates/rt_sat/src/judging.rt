@@ -17,7 +17,7 @@ use rt_named::Named;
 use rt_shape::Shape;
 use std::alloc::Global;
 
-/// Whether the judgement is derivable from the lines with the order of constants. The error is want of memory.
+/// Whether the judgement is derivable from the lines with the order of constants. The error is out of memory.
 pub fn derives(alloc: Global, lines: &[Line], order: &Order, judge: &Judge) -> Result<bool, Memory>
     requires { All (HasConstantsBelow order.now.count) (line_of judge.now ∷ lines.now) }
     ensures { IfOk result (λ yes. IsTrue yes ↔ Derivable order.now lines.now (line_of judge.now)) }

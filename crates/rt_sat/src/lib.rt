@@ -19,6 +19,7 @@ mod indexing;
 mod judging;
 pub mod laws;
 mod layers;
+mod links;
 mod marking;
 mod pushing;
 mod reached;

@@ -35,7 +35,7 @@ pub(crate) struct Begun {
     pub(crate) first: Vec<Edge>,
 }
 
-/// The table of the lines, between the variables that they and more variables name. The error is want of memory.
+/// The table of the lines, between the variables that they and more variables name. The error is out of memory.
 pub fn saturated(
     alloc: Global,
     lines: &[Line],

@@ -65,7 +65,7 @@ impl Model for Sat {
     ghost invariant = { λ s. AreWeighed s.lines.items s.extra.items s.named s.co.items s.contra.items };
 }
 
-/// All least counts between the variables that the lines and others, which exist, name. The error is want of memory.
+/// All least counts between the variables that the lines and others, which exist, name. The error is out of memory.
 pub fn saturate(alloc: Global, lines: &[Line], extra: &[Dtv]) -> Result<Sat, Memory>
     requires { AreThere lines.now extra.now }
     ensures { IfOk result (λ sat. sat ≡ record { lines = lines.now; extra = extra.now }) }

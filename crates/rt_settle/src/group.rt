@@ -90,8 +90,8 @@ fn schemes_for(
 }
 
 /// The schemes of procedures that call each other, from one list of lines for each of them, in which existentials of one
-/// number are the same: for each member, in order, the scheme that is chosen, which tells the outside of it, under the order
-/// of constants, what the lines of all lists tell, with no constant and no global more, and which has nothing to spare.
+/// number are the same: for each member, in order, the scheme that is chosen, which says the same to callers, under the order
+/// of constants, what the lines of all lists say, with no constant and no global more, and which has nothing to spare.
 ///
 /// The lines of all lists are settled, first for the outside of all members at once. A member's scheme are these lines, where
 /// they name no other procedure; else an existential stands for each argument and result of the others, and the lines are

@@ -14,7 +14,7 @@ use rt_reduce::reduce;
 use std::alloc::Global;
 
 /// The settled form of a list of lines, whose sides are arguments and results of procedures, globals, existentials, and what
-/// is taken from them: lines that tell the outside of every procedure the same under the order, with no constant and no
+/// is taken from them: lines that say the same to callers of every procedure under the order, with no constant and no
 /// base more that is no existential.
 ///
 /// The lines are reduced, in rounds, until nothing is left to do: existentials of one shape whose lines are the same, but for

@@ -8,9 +8,9 @@ use Rattle.std.proofs.lemmas.Option.{none-some}
 use Rattle.rt_base.proofs.Lists.{Contains-none, Contains-cons_cases}
 use Rattle.rt_lines.specs.declared.label.Label.{Label}
 use Rattle.rt_shape.specs.Graphs.{Graph, letter_eq}
-use Rattle.rt_shape.specs.Classes.{Joined}
-use Rattle.rt_shape.specs.Classes.Joined.{joined_pair, joined_self}
-use Rattle.rt_shape.specs.Joins.{AreSound}
+use Rattle.rt_shape.specs.Inside.Classes.{Joined}
+use Rattle.rt_shape.specs.Inside.Classes.Joined.{joined_pair, joined_self}
+use Rattle.rt_shape.specs.Inside.Joins.{AreSound}
 
 -- what a list of lists holds, one list more at its end
 pub Contains-pushed_cases : {X : Type 0} (xs : List (List X)) (ys : List X) (c : ℕ) (x : X) → Contains (get_or (xs ++ ys ∷ []) c []) x → Contains (get_or xs c []) x ⊎ ((c ≡ length xs) × Contains ys x)

@@ -5,8 +5,8 @@ use Rattle.std.proofs.lemmas.Bool.{cases_eq}
 use Rattle.std.proofs.lemmas.Bool.Decides.{nat_tests}
 use Rattle.std.proofs.lemmas.List.{length-map, get_or-map}
 use Rattle.rt_shape.specs.Graphs.{Graph}
-use Rattle.rt_shape.specs.Classes.{Joined, AreClasses, AreApart, IsViolated, renamed_class}
-use Rattle.rt_shape.specs.Classes.Joined.{joined_pair, joined_self, joined_back, joined_chain, joined_letter}
+use Rattle.rt_shape.specs.Inside.Classes.{Joined, AreClasses, AreApart, IsViolated, renamed_class}
+use Rattle.rt_shape.specs.Inside.Classes.Joined.{joined_pair, joined_self, joined_back, joined_chain, joined_letter}
 
 pub is_renamed : (a b c : ℕ) → c ≡ max a b → renamed_class a b c ≡ min a b
 is_renamed a b c e = grind (arith, nat_tests)

@@ -7,7 +7,7 @@ use Rattle.std.proofs.lemmas.Option.{slice_get-get_or, none-some}
 use Rattle.std.proofs.lemmas.Map.Views.{Contains-from_lookup}
 use Rattle.rt_lines.specs.declared.label.Label.{Label}
 use Rattle.rt_shape.specs.Graphs.{Graph, letter_eq, step_of}
-use Rattle.rt_shape.specs.Classes.{pointed, AreStepsOne, AreApart}
+use Rattle.rt_shape.specs.Inside.Classes.{pointed, AreStepsOne, AreApart}
 use Rattle.rt_shape.proofs.Letters.{letter_equal, letter_self}
 
 -- an edge at a place

@@ -11,8 +11,8 @@ use Rattle.rt_rules.specs.Rules.Derivable.{named, same_letter, same_line, same_s
 use Rattle.rt_rules.proofs.Covering.{front}
 use Rattle.rt_shape.specs.Graphs.{Graph, node_of, Has, IsTree}
 use Rattle.rt_shape.specs.Shapes.{IsNamed, IsNaming, Equates, ArePairs}
-use Rattle.rt_shape.specs.Classes.{pointed, Joined}
-use Rattle.rt_shape.specs.Classes.Joined.{joined_pair, joined_self, joined_back, joined_chain, joined_letter}
+use Rattle.rt_shape.specs.Inside.Classes.{pointed, Joined}
+use Rattle.rt_shape.specs.Inside.Classes.Joined.{joined_pair, joined_self, joined_back, joined_chain, joined_letter}
 use Rattle.rt_shape.proofs.Within.{pairs_within, joined_within}
 use Rattle.rt_shape.proofs.Walks.{node_of-longer}
 

@@ -4,7 +4,7 @@ use Rattle.std.specs.Prelude.{slice_index}
 use Rattle.std.proofs.lemmas.Bool.{cases_eq}
 use Rattle.std.proofs.lemmas.List.{length-set, length_push, get_or_push, get_or_append_left}
 use Rattle.std.proofs.lemmas.Option.{none-some, same_Some}
-use Rattle.rt_shape.specs.Classes.{IsNumbering}
+use Rattle.rt_shape.specs.Inside.Classes.{IsNumbering}
 
 -- the number of a class, where it is known
 abbrev pub number_of : List (Option ℕ) → ℕ → Option ℕ

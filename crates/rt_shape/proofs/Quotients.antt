@@ -4,7 +4,7 @@ use Rattle.std.specs.Prelude.{slice_index}
 use Rattle.rt_lines.specs.declared.label.Label.TheVariants.{Load, Store}
 use Rattle.rt_lines.specs.declared.variable.Dtv.{Dtv}
 use Rattle.rt_shape.specs.Graphs.{Graph, bare, step_of, node_of, IsTree, IsShape}
-use Rattle.rt_shape.specs.Classes.{AreStepsOne, IsNumbering, IsQuotient}
+use Rattle.rt_shape.specs.Inside.Classes.{AreStepsOne, IsNumbering, IsQuotient}
 use Rattle.rt_shape.proofs.Walks.{Walks, walks, has_walked, node_of-longer}
 use Rattle.rt_shape.proofs.Walks.Walks.{at_base, at_letter}
 

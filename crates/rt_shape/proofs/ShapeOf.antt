@@ -10,8 +10,8 @@ use Rattle.rt_rules.specs.Rules.Derivable.{same_letter, same_self, same_back, sa
 use Rattle.rt_rules.proofs.Carry.{are_there}
 use Rattle.rt_shape.specs.Graphs.{Graph, bare, node_of, IsTree}
 use Rattle.rt_shape.specs.Shapes.{IsShapeOf, IsNaming, Equates, ArePairs}
-use Rattle.rt_shape.specs.Classes.{Joined, AreClasses, IsClosed, IsNumbering, IsQuotient}
-use Rattle.rt_shape.specs.Classes.Joined.{joined_back, joined_chain}
+use Rattle.rt_shape.specs.Inside.Classes.{Joined, AreClasses, IsClosed, IsNumbering, IsQuotient}
+use Rattle.rt_shape.specs.Inside.Classes.Joined.{joined_back, joined_chain}
 use Rattle.rt_shape.proofs.Walks.{Walks, walks, has_walked, one_node, node_of-longer}
 use Rattle.rt_shape.proofs.Walks.Walks.{at_base, at_letter}
 use Rattle.rt_shape.proofs.Within.{walked_within}

@@ -9,9 +9,9 @@ use Rattle.std.proofs.lemmas.Option.{none-some}
 use Rattle.rt_base.proofs.Lists.{Contains-none}
 use Rattle.rt_lines.specs.declared.label.Label.{Label}
 use Rattle.rt_shape.specs.Graphs.{Graph, letter_eq}
-use Rattle.rt_shape.specs.Classes.{Joined}
-use Rattle.rt_shape.specs.Classes.Joined.{joined_back, joined_chain, joined_letter}
-use Rattle.rt_shape.specs.Joins.{Leads, AreSound}
+use Rattle.rt_shape.specs.Inside.Classes.{Joined}
+use Rattle.rt_shape.specs.Inside.Classes.Joined.{joined_back, joined_chain, joined_letter}
+use Rattle.rt_shape.specs.Inside.Joins.{Leads, AreSound}
 use Rattle.rt_shape.proofs.Letters.{letter_equal}
 
 -- what a list of lists holds, one of them replaced

@@ -4,8 +4,8 @@ use Rattle.rt_lines.specs.declared.variable.Dtv.{Dtv}
 use Rattle.rt_lines.specs.declared.line.Line.{Line}
 use Rattle.rt_shape.specs.Graphs.{Graph, node_of, IsTree}
 use Rattle.rt_shape.specs.Shapes.{Equates, ArePairs}
-use Rattle.rt_shape.specs.Classes.{Joined}
-use Rattle.rt_shape.specs.Classes.Joined.{joined_pair, joined_self, joined_back, joined_chain, joined_letter}
+use Rattle.rt_shape.specs.Inside.Classes.{Joined}
+use Rattle.rt_shape.specs.Inside.Classes.Joined.{joined_pair, joined_self, joined_back, joined_chain, joined_letter}
 use Rattle.rt_shape.proofs.Walks.{Walks, walks}
 use Rattle.rt_shape.proofs.Walks.Walks.{at_base, at_letter}
 

@@ -1,5 +1,4 @@
 pub mod Graphs
 pub mod Shapes
-pub mod Classes
-pub mod Joins
 pub mod Laws
+pub mod Inside

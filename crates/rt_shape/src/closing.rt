@@ -1,6 +1,6 @@
 // Classes of nodes of which nothing is left to be made one.
 ghost use Rattle.std.specs.Prelude.{◌≡◌, ℕ, ◌<◌, length, map, Contains, slice_index, Some, IfOk, IfSome, IfNone, MatchOption};
-ghost use Rattle.rt_shape.specs.Classes.{AreApart, AreClasses, AreStepsOne, IsClosed, IsViolated, pointed, renamed_class};
+ghost use Rattle.rt_shape.specs.Inside.Classes.{AreApart, AreClasses, AreStepsOne, IsClosed, IsViolated, pointed, renamed_class};
 
 use crate::tree::Tree;
 use rt_base::Memory;
@@ -18,7 +18,7 @@ pub fn pointed(label: Label) -> Label
     }
 }
 
-/// For each of so many nodes a class of its own. The error is want of memory.
+/// For each of so many nodes a class of its own. The error is out of memory.
 pub fn own_classes(alloc: Global, count: u32) -> Result<Vec<u32>, Memory>
     ensures each { IfOk result (λ class. length class.items ≡ count) }
     ensures own { IfOk result (λ class. (i : ℕ) → i < count → slice_index class.items i ≡ i) }
@@ -31,7 +31,7 @@ pub fn own_classes(alloc: Global, count: u32) -> Result<Vec<u32>, Memory>
 }
 
 /// Classes of which nothing is left to be made one: while two nodes have to be one and are in two classes, one class is
-/// renamed into the other. Each look for such nodes takes time linear in the tree. The error is want of memory.
+/// renamed into the other. Each look for such nodes takes time linear in the tree. The error is out of memory.
 pub fn closed(
     alloc: Global,
     tree: &Tree,

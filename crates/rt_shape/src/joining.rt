@@ -1,8 +1,8 @@
 // Nodes made one by a list of what is left to do.
 ghost use Rattle.std.specs.Prelude.{◌≡◌, ℕ, ◌+◌, ◌<◌, List, Contains, IfOk, OnOk};
 ghost use Rattle.rt_shape.specs.Graphs.{Graph};
-ghost use Rattle.rt_shape.specs.Classes.{AreClasses, Joined};
-ghost use Rattle.rt_shape.specs.Joins.{IsSound, Leads, MayEnter, MayJoin, work};
+ghost use Rattle.rt_shape.specs.Inside.Classes.{AreClasses, Joined};
+ghost use Rattle.rt_shape.specs.Inside.Joins.{IsSound, Leads, MayEnter, MayJoin, work};
 
 use crate::closing::{own_classes, pointed};
 use crate::tree::Tree;
@@ -163,7 +163,7 @@ impl Joining {
 
 /// Classes of nodes that have to be one. A letter that leads from one class to two nodes makes these one in turn, so that
 /// nothing is left to be made one; callers need not rely on that. Each node changes its class at most as often as the
-/// number of nodes can be halved. The error is want of memory.
+/// number of nodes can be halved. The error is out of memory.
 pub fn joined(alloc: Global, tree: &Tree, pairs: &[(u32, u32)]) -> Result<Vec<u32>, Memory>
     requires { (i j : ℕ) → Contains pairs.now (i, j) → (i < tree.now.count) × (j < tree.now.count) }
     ensures { IfOk result (λ class. AreClasses tree.now pairs.now class.items) }

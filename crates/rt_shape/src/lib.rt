@@ -22,7 +22,7 @@ use std::alloc::Global;
 
 /// The graph of what the variables of the lines can do: a variable has a node exactly if the lines derive that it exists,
 /// and two have one node exactly if they derive that the two have one shape. It takes memory linear in the letters of
-/// the lines, and time linear in them but for a logarithm. The error is want of memory.
+/// the lines, and time linear in them but for a logarithm. The error is out of memory.
 pub fn of(alloc: Global, lines: &[Line]) -> Result<Shape, Memory>
     ensures { IfOk result (IsShapeOf lines.now) }
 {

@@ -10,8 +10,8 @@ use rt_base::Memory;
 use rt_lines::Line;
 use std::alloc::Global;
 
-/// The tree of the variables that the lines name: the sides of the lines, and what has a front of a side's word. It
-/// takes memory linear in the letters of the lines. The error is want of memory.
+/// The tree of the variables that the lines name: the sides of the lines, and what has a prefix of a side's word. It
+/// takes memory linear in the letters of the lines. The error is out of memory.
 pub fn named(alloc: Global, lines: &[Line]) -> Result<Tree, Memory>
     ensures { IfOk result (IsNaming lines.now) }
 {

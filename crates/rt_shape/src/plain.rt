@@ -11,7 +11,7 @@ use rt_base::Memory;
 use rt_lines::Line;
 use std::alloc::Global;
 
-/// The graph of what the variables of the lines can do. The error is want of memory.
+/// The graph of what the variables of the lines can do. The error is out of memory.
 pub fn of(alloc: Global, lines: &[Line]) -> Result<Shape, Memory>
     ensures { IfOk result (IsShapeOf lines.now) }
 {

@@ -3,7 +3,7 @@ ghost use Rattle.std.specs.Prelude.{◌≡◌, ℕ, ◌<◌, ◌^◌, length, Li
 ghost use Rattle.rt_lines.specs.declared.line.Line.{Line};
 ghost use Rattle.rt_shape.specs.Graphs.{IsTree};
 ghost use Rattle.rt_shape.specs.Shapes.{ArePairs, IsNaming, IsShapeOf};
-ghost use Rattle.rt_shape.specs.Classes.{AreBasesOf, AreClasses, AreEdgesOf, AreStepsOne, IsClosed, IsNumbering, IsQuotient};
+ghost use Rattle.rt_shape.specs.Inside.Classes.{AreBasesOf, AreClasses, AreEdgesOf, AreStepsOne, IsClosed, IsNumbering, IsQuotient};
 
 use crate::closing::closed;
 use crate::shape::Shape;
@@ -14,7 +14,7 @@ use rt_lines::{Base, Label};
 use std::alloc::Global;
 
 /// The shape of the lines whose variables are the tree's and whose pairs these are, from classes of nodes that have to
-/// be one. The error is want of memory.
+/// be one. The error is out of memory.
 pub fn shape_of(
     alloc: Global,
     tree: &Tree,

@@ -88,8 +88,8 @@ impl Tree {
         Ok(next)
     }
 
-    /// Gives a node to the variable, and to each with a front of its word, in time linear in the word. After want of
-    /// memory some of them may have one.
+    /// Gives a node to the variable, and to each with a prefix of its word, in time linear in the word. When out of
+    /// memory, some of them may have one.
     pub fn enter(&mut self, x: &Dtv) -> Result<(), Memory>
         ensures here { OnOk result (Has self.new x.now) }
         ensures kept { OnOk result ((y : Dtv) → Has self.old y → Has self.new y) }

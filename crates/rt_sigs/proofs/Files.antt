@@ -15,7 +15,7 @@ use Rattle.rt_sigs.specs.declared.body.Body.{Body}
 use Rattle.rt_sigs.specs.Signatures.{Signature, IsSignature, IsSignatureLine, is_within, AreSignatures, HasNamed}
 use Rattle.rt_sigs.specs.SignatureTexts.{heading_text, remarks_text, remark_count, signature_text, version_text, file_text, IsSayable, line_count}
 use Rattle.rt_sigs.specs.Faults.{HasRemark, IsBetween, IsInside, IsFault, most_bytes}
-use Rattle.rt_sigs.specs.Readings.{IsBegun, IsHeading, IsHeadingFault, AreRemarks, IsReadTo, IsBody, IsBodyFault}
+use Rattle.rt_sigs.specs.Inside.Readings.{IsBegun, IsHeading, IsHeadingFault, AreRemarks, IsReadTo, IsBody, IsBodyFault}
 
 line_count-push : (signatures : List Signature) (name : List ℕ) (p : Prototype) → line_count (signatures ++ (name, p) ∷ []) ≡ line_count signatures + (2 + remark_count p.returns p.args + length p.scheme.lines)
 line_count-push [] name p = omega arith

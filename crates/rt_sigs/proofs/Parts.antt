@@ -15,7 +15,7 @@ use Rattle.rt_sigs.specs.declared.fault.SigFault.TheVariants.{BadLine, UnknownCo
 use Rattle.rt_sigs.specs.Signatures.{Signature, IsSignatureLine, is_within, HasNamed, HasScheme}
 use Rattle.rt_sigs.specs.SignatureTexts.{heading_text}
 use Rattle.rt_sigs.specs.Faults.{IsFirstLine}
-use Rattle.rt_sigs.specs.Readings.{IsHeading, IsHeadingFault, IsLineFault, IsRightLine, IsReadTo, IsBodyFault}
+use Rattle.rt_sigs.specs.Inside.Readings.{IsHeading, IsHeadingFault, IsLineFault, IsRightLine, IsReadTo, IsBodyFault}
 
 -- one line more
 pub read-more : (names : List (List ℕ)) (args : Option ℕ) (text : List ℕ) (first : ℕ) (lines : List Line) (rest : List ℕ) (number : ℕ) (line : Line) (front more : List ℕ) → IsReadTo names args text first lines rest number → IsCut 10 rest front (10 ∷ more) → IsRightLine names args front line → IsReadTo names args text first (lines ++ line ∷ []) more (number + 1)

@@ -20,13 +20,13 @@ OneFileLaw =
     (names : List (List ℕ)) (text : List ℕ) (first second : List Signature) → AreNames names
     → IsFileOf names text first → IsFileOf names text second → first ≡ second
 
--- A text of signatures that is not too large has no fault, so its reading fails for want of memory alone.
+-- A text of signatures that is not too large has no fault, so its reading fails for out of memory alone.
 abbrev pub NoFaultLaw : Type 0
 NoFaultLaw =
     (names : List (List ℕ)) (text : List ℕ) (signatures : List Signature) (fault : SigFault) → AreNames names
     → length text ≤ most_bytes → IsFileOf names text signatures → IsFault names text fault → fault ≡ Memory
 
--- A text has one fault besides want of memory.
+-- A text has one fault besides out of memory.
 abbrev pub OneFaultLaw : Type 0
 OneFaultLaw =
     (names : List (List ℕ)) (text : List ℕ) (first second : SigFault) → AreNames names → first ≢ Memory → second ≢ Memory

@@ -1,5 +1,5 @@
 pub mod Signatures
 pub mod SignatureTexts
 pub mod Faults
-pub mod Readings
 pub mod Laws
+pub mod Inside

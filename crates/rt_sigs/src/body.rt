@@ -1,6 +1,6 @@
 // The lines of a signature after what it says of its function.
 ghost use Rattle.std.specs.Prelude.{◌+◌, ◌<◌, ◌^◌, MatchResult, length};
-ghost use Rattle.rt_sigs.specs.Readings.{IsBody, IsBodyFault};
+ghost use Rattle.rt_sigs.specs.Inside.Readings.{IsBody, IsBodyFault};
 
 use crate::fault::SigFault;
 use crate::line::{first_line, read_signature_line};

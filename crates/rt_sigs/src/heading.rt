@@ -1,6 +1,6 @@
 // The line that a signature begins with.
 ghost use Rattle.std.specs.Prelude.{MatchResult};
-ghost use Rattle.rt_sigs.specs.Readings.{IsHeading, IsHeadingFault};
+ghost use Rattle.rt_sigs.specs.Inside.Readings.{IsHeading, IsHeadingFault};
 
 use crate::fault::SigFault;
 use crate::line::{after_front, first_line};

@@ -12,12 +12,12 @@ pub fn one_file()
     ensures { OneFileLaw }
 {}
 
-/// A text of signatures that is not too long has no fault but want of memory.
+/// A text of signatures that is not too long has no fault but out of memory.
 pub fn no_fault()
     ensures { NoFaultLaw }
 {}
 
-/// A text has one fault besides want of memory.
+/// A text has one fault besides out of memory.
 pub fn one_fault()
     ensures { OneFaultLaw }
 {}

@@ -4,7 +4,7 @@ ghost use Rattle.rt_texts.specs.Readings.{HasNo, IsCut, IsNoText};
 ghost use Rattle.rt_texts.specs.Texts.{line_text};
 ghost use Rattle.rt_sigs.specs.Signatures.{IsSignatureLine, begins_within, is_line_within, is_no_global};
 ghost use Rattle.rt_sigs.specs.Signatures.{is_signature_line, is_taken, is_variable_within, is_within, names_no_global};
-ghost use Rattle.rt_sigs.specs.Readings.{IsLineFault, IsRightLine};
+ghost use Rattle.rt_sigs.specs.Inside.Readings.{IsLineFault, IsRightLine};
 
 use crate::fault::SigFault;
 use crate::unknown::is_unknown;
@@ -24,7 +24,7 @@ pub fn first_line(text: &[u8]) -> Option<(&[u8], &[u8])>
     }
 }
 
-// What follows the front of a text.
+// What follows the prefix of a text.
 pub fn after_front<'a>(text: &'a [u8], front: &[u8]) -> Option<&'a [u8]>
     ensures { MatchOption result ((rest : List ℕ) → text.now ≢ front.now ++ rest) (λ rest. text.now ≡ front.now ++ rest.now) }
 {

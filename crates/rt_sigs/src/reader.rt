@@ -19,7 +19,7 @@ const MOST_BYTES: usize = 1_048_576;
 /// grammar with a line `version 2` before them. A signature is a line `sig NAME`, lines, and a line `end`; in its lines the
 /// function is `f0`, followed first by the label of an argument or a result, and each other base is an existential. In the
 /// second version a line `noreturn`, and then a line `args N` with N from 0 to 8, may stand before the lines, which then name
-/// no argument register past the first N, and no word of the stack where N isn't 8. Where it is no such file the error tells
+/// no argument register past the first N, and no word of the stack where N isn't 8. Where it is no such file the error says
 /// its first faulty line.
 pub fn read(alloc: Global, text: &[u8], names: &Names) -> Result<Sigs, SigFault>
     ensures read { IfOk result (IsFileOf names.now text.now) }

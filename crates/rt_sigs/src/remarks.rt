@@ -2,7 +2,7 @@
 ghost use Rattle.std.specs.Prelude.{◌≡◌, ◌≢◌, ◌≤◌, ◌+◌, ◌<◌, ◌^◌, ◌++◌, List, ℕ, MatchOption, length};
 ghost use Rattle.rt_sigs.specs.Signatures.{most_args};
 ghost use Rattle.rt_sigs.specs.SignatureTexts.{count_text};
-ghost use Rattle.rt_sigs.specs.Readings.{AreRemarks, IsCounted};
+ghost use Rattle.rt_sigs.specs.Inside.Readings.{AreRemarks, IsCounted};
 
 use crate::line::after_front;
 use crate::version::Version;

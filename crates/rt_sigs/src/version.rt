@@ -1,6 +1,6 @@
 // Versions of the grammar of signature files.
 ghost use Rattle.std.specs.Prelude.{◌+◌, ◌<◌, ◌^◌, length};
-ghost use Rattle.rt_sigs.specs.Readings.{IsBegun};
+ghost use Rattle.rt_sigs.specs.Inside.Readings.{IsBegun};
 
 use crate::line::after_front;
 

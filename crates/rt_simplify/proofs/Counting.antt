@@ -16,7 +16,7 @@ use Rattle.rt_polar.specs.Tidied.{tidied, without_self}
 use Rattle.rt_lines.specs.FlowCounts.{flow_count, line_flow_count}
 use Rattle.rt_record.specs.Slots.{letters, line_letters}
 use Rattle.rt_reduction.specs.Simplifies.{Simplifies, simple, twins_go}
-use Rattle.rt_simplify.specs.Preparing.{IsOnce}
+use Rattle.rt_simplify.specs.Inside.Preparing.{IsOnce}
 
 -- A number of each line, added up.
 module _ (number : Line → ℕ) (total : List Line → ℕ) (none : total [] ≡ 0)

@@ -12,7 +12,7 @@ use Rattle.rt_polar.specs.Puts.{Puts}
 use Rattle.rt_polar.specs.Tidied.{tidied}
 use Rattle.rt_reduction.specs.Simplifies.{HasNoTwins, IsTurnOf, Simplifies, twins_go}
 use Rattle.rt_reduction.proofs.Refined.{HaveMoved, lines_move}
-use Rattle.rt_simplify.specs.Twins.{BecomeOne}
+use Rattle.rt_simplify.specs.Inside.Twins.{BecomeOne}
 
 -- where the lines stay as they are, each existential is the least of its class
 stays_alone : (sign : Variance) (lines : List Line) (class : ℕ → ℕ) → IsTwinning sign lines class → refined class lines ≡ lines →

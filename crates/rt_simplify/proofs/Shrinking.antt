@@ -24,7 +24,7 @@ use Rattle.rt_polar.specs.Puts.{Exchanges, Puts}
 use Rattle.rt_polar.specs.Puts.Exchanges.{goes, exists_still}
 use Rattle.rt_polar.specs.Puts.Puts.{none_left, puts}
 use Rattle.rt_polar.specs.Tidied.{tidied, without_self}
-use Rattle.rt_simplify.specs.Twins.{BecomeOne}
+use Rattle.rt_simplify.specs.Inside.Twins.{BecomeOne}
 use Rattle.rt_lines.proofs.Same.{line_self}
 
 abbrev inserted : List Line → List Line → List Line

@@ -1,3 +1,2 @@
-pub mod Twins
-pub mod Preparing
 pub mod Laws
+pub mod Inside

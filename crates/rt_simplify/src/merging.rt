@@ -2,7 +2,7 @@
 ghost use Rattle.std.specs.Prelude.{IfOk, MatchOption};
 ghost use Rattle.rt_lines.specs.declared.label.Variance.TheVariants.{Co as Defining, Contra as Consuming};
 ghost use Rattle.rt_reduction.specs.Simplifies.{HasNoTwins, IsTurnOf};
-ghost use Rattle.rt_simplify.specs.Twins.{BecomeOne};
+ghost use Rattle.rt_simplify.specs.Inside.Twins.{BecomeOne};
 
 use rt_base::Memory;
 use rt_lines::{Line, Lines, Variance};

@@ -1,7 +1,7 @@
 // Lines made ready for the rest of a round.
 ghost use Rattle.std.specs.Prelude.{IfOk};
 ghost use Rattle.rt_reduction.specs.Rounds.{Prepares};
-ghost use Rattle.rt_simplify.specs.Preparing.{IsOnce};
+ghost use Rattle.rt_simplify.specs.Inside.Preparing.{IsOnce};
 
 use crate::simplifying::simplify;
 use rt_base::Memory;
@@ -13,7 +13,7 @@ use std::alloc::Global;
 
 /// What is left of the lines when existentials that are used alike became one, places were given away and twins became one,
 /// and, as long as an existential of which the lines say more than its shape is idle, the lines of idle ones became their
-/// shapes and all of it was done again. The error is want of memory.
+/// shapes and all of it was done again. The error is out of memory.
 pub fn prepare(alloc: Global, lines: Lines) -> Result<Lines, Memory>
     ensures { IfOk result (λ left. Prepares left lines) }
 {

@@ -10,7 +10,7 @@ use rt_record::split;
 use std::alloc::Global;
 
 /// What is left of prepared lines when, as long as an existential does nothing but hold fields, its fields became
-/// existentials of their own, and what that left was tidied and prepared again. The error is want of memory.
+/// existentials of their own, and what that left was tidied and prepared again. The error is out of memory.
 pub fn split_records(alloc: Global, lines: Lines) -> Result<Lines, Memory>
     ensures { IfOk result (λ left. Splits left lines) }
 {

@@ -30,10 +30,10 @@ use Rattle.rt_ways.proofs.Knowing.{at_named}
 use Rattle.rt_sketch.specs.declared.machine.Machine.{Machine}
 use Rattle.rt_sketch.specs.declared.state.State.{State}
 use Rattle.rt_sketch.specs.Growths.{HasNextRows}
-use Rattle.rt_sketch.specs.Letters.{HasNext}
-use Rattle.rt_sketch.specs.Rows.{AreRows}
+use Rattle.rt_sketch.specs.Inside.Letters.{HasNext}
+use Rattle.rt_sketch.specs.Inside.Rows.{AreRows}
 use Rattle.rt_sketch.specs.States.{AreNumbers, AreSetsOf, Denotes, IsMachineOf, members, sets_of}
-use Rattle.rt_sketch.specs.Steps.{AreAll, IsBehindOf, IsFor, IsLed, hub_in, next_class}
+use Rattle.rt_sketch.specs.Inside.Steps.{AreAll, IsBehindOf, IsFor, IsLed, hub_in, next_class}
 use Rattle.rt_sketch.proofs.Leading.{flips_over, led_co, led_contra, led_hub, led_none, led_nowhere, led_start, way_same}
 use Rattle.rt_sketch.proofs.Members.{variable_has}
 

@@ -22,7 +22,7 @@ use Rattle.rt_shape.proofs.Letters.{letter_equal}
 use Rattle.rt_sketch.specs.declared.machine.Machine.{Machine}
 use Rattle.rt_sketch.specs.declared.state.State.{State}
 use Rattle.rt_sketch.specs.Growths.{HasNextAt, HasNextRows}
-use Rattle.rt_sketch.specs.Rows.{AreEntered, AreRows}
+use Rattle.rt_sketch.specs.Inside.Rows.{AreEntered, AreRows}
 use Rattle.rt_sketch.proofs.Occurring.{insert_good, insert_keeps}
 
 -- rows without letters

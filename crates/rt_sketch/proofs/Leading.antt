@@ -21,12 +21,12 @@ use Rattle.rt_loose.specs.Ways.{Way}
 use Rattle.rt_loose.specs.Ways.Way.{here, up, down, flexible_up, flexible_down, join, push}
 use Rattle.rt_loose.specs.Sets.{Sets, AreThose, AreLed, IsBehind, IsNext, set_for}
 use Rattle.rt_ways.specs.Arcs.{IsInRow}
-use Rattle.rt_ways.specs.Frames.{or_else}
+use Rattle.rt_ways.specs.Inside.Frames.{or_else}
 use Rattle.rt_ways.specs.Nets.{Net, AreWaysOf, class_at}
 use Rattle.rt_ways.specs.Pushes.{IsMade, step_of, variable_at}
 use Rattle.rt_ways.proofs.Knowing.{at_named, named_derives, number_in}
 use Rattle.rt_sketch.specs.States.{AreNumbers, members, sets_of, variables}
-use Rattle.rt_sketch.specs.Steps.{AreAll, IsLed, hub_in, next_class}
+use Rattle.rt_sketch.specs.Inside.Steps.{AreAll, IsLed, hub_in, next_class}
 use Rattle.rt_sketch.proofs.Members.{member_has, member_source, members_in, variable_has, variable_source}
 use Rattle.rt_base.proofs.Options.{not_some}
 

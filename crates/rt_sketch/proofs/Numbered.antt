@@ -9,11 +9,11 @@ use Rattle.rt_lines.specs.declared.label.Label.TheVariants.{Load, Store}
 use Rattle.rt_lines.specs.declared.variable.Dtv.{Dtv}
 use Rattle.rt_named.specs.Numbers.{IsLeft}
 use Rattle.rt_ways.specs.Arcs.{IsInRow}
-use Rattle.rt_ways.specs.Frames.{hub_of, or_else}
+use Rattle.rt_ways.specs.Inside.Frames.{hub_of, or_else}
 use Rattle.rt_ways.specs.Nets.{IsSized, Net}
 use Rattle.rt_ways.specs.Pushes.{step_of}
 use Rattle.rt_named.proofs.Noting.{left_as, left_more, left_none}
-use Rattle.rt_sketch.specs.Steps.{AreAll, IsLed}
+use Rattle.rt_sketch.specs.Inside.Steps.{AreAll, IsLed}
 use Rattle.rt_sketch.proofs.Joining.{take_cases, take_here, take_left}
 
 pub hub_sized : (net : Net) (class n : ℕ) → IsSized net → hub_of net.behind class ≡ Some n → n < length net.classes

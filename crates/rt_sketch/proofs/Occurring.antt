@@ -39,7 +39,7 @@ use Rattle.rt_rules.specs.Rules.Derivable.{
   low_sub,
   up_sub,
 }
-use Rattle.rt_sketch.specs.Letters.{AddsLetters, HasNext, line_letters, words_of}
+use Rattle.rt_sketch.specs.Inside.Letters.{AddsLetters, HasNext, line_letters, words_of}
 
 -- each letter of the variable is one of the letters
 abbrev Spelled : List Label → Dtv → Type 0

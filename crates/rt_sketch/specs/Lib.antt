@@ -1,10 +1,8 @@
 pub mod Sketches
 pub mod States
-pub mod Steps
 pub mod Bounds
-pub mod Letters
-pub mod Rows
 pub mod Growths
 pub mod Unfoldings
 pub mod Texts
 pub mod Laws
+pub mod Inside

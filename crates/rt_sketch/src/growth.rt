@@ -165,7 +165,7 @@ fn letters_at<'a>(states: &IndexSet<State>, rows: &'a Rows, number: u32) -> &'a 
     }
 }
 
-// The tree that a state unfolds to. The error is want of memory, or of numbers of 32 bits.
+// The tree that a state unfolds to. The error is out of memory, or of numbers of 32 bits.
 pub(crate) fn grown(
     alloc: Global,
     machine: &Machine,

@@ -1,7 +1,7 @@
 // The letters of lines.
 ghost use Rattle.std.specs.Prelude.{◌++◌, All, IfOk, OnOk};
 ghost use Rattle.rt_lines.specs.Words.{IsLabel};
-ghost use Rattle.rt_sketch.specs.Letters.{AddsLetters, HasNext, line_letters, words_of};
+ghost use Rattle.rt_sketch.specs.Inside.Letters.{AddsLetters, HasNext, line_letters, words_of};
 
 use indexmap::IndexSet;
 use rt_base::Memory;

@@ -3,7 +3,7 @@ ghost use Rattle.std.specs.Prelude.{◌≡◌, ℕ, ◌+◌, ◌<◌, [], All, I
 ghost use Rattle.indexmap.specs.IndexSet.{insert_key};
 ghost use Rattle.rt_lines.specs.Equality.{label_eq};
 ghost use Rattle.rt_lines.specs.Words.{IsLabel};
-ghost use Rattle.rt_sketch.specs.Rows.{AreEntered, AreRows};
+ghost use Rattle.rt_sketch.specs.Inside.Rows.{AreEntered, AreRows};
 
 use indexmap::IndexSet;
 use rt_base::Memory;
@@ -32,7 +32,7 @@ impl Model for Rows {
 }
 
 impl Rows {
-    /// The rows of a shape, of what is among the letters. It takes time linear in the nodes and edges. The error is want of memory.
+    /// The rows of a shape, of what is among the letters. It takes time linear in the nodes and edges. The error is out of memory.
     pub(crate) fn of(
         alloc: Global,
         shape: &Shape,

@@ -12,11 +12,11 @@ ghost use Rattle.rt_shape.specs.Graphs.{IsReadWrite, bare, node_of};
 ghost use Rattle.std.specs.Option.{option_map};
 ghost use Rattle.rt_named.specs.Numbers.{IsLeft};
 ghost use Rattle.rt_ways.specs.Arcs.{IsInRow};
-ghost use Rattle.rt_ways.specs.Frames.{hub_of};
+ghost use Rattle.rt_ways.specs.Inside.Frames.{hub_of};
 ghost use Rattle.rt_ways.specs.Nets.{IsSized, class_at};
 ghost use Rattle.rt_ways.specs.Pushes.{step_of};
 ghost use Rattle.rt_sketch.specs.States.{Denotes, IsMachineOf, LeadsTo, Starts};
-ghost use Rattle.rt_sketch.specs.Steps.{AreAll, IsAt, IsBehindOf, IsFor, IsLed, hub_in, next_class, rows_of};
+ghost use Rattle.rt_sketch.specs.Inside.Steps.{AreAll, IsAt, IsBehindOf, IsFor, IsLed, hub_in, next_class, rows_of};
 
 use crate::machine::Machine;
 use crate::state::State;

@@ -33,8 +33,8 @@ module _ (order : Below) (group : List ℕ) (lines : List Line) (found : List Sc
   bases_within count within i d lt = subst (λ n. n < count) (sym (base_at i d lt)) (within i 0 (omega (arith, are.one_each)))
 
   bases_apart : IsStrictlyIncreasing group → AllPairs (λ a b. a.base ≢ b.base) found
-  bases_apart rising i j d less lt same =
-      let up : get_or group i 0 < get_or group j 0 = AllPairs-from_increasing group rising i j 0 less (omega (arith, are.one_each)) in
+  bases_apart ascending i j d less lt same =
+      let up : get_or group i 0 < get_or group j 0 = AllPairs-from_increasing group ascending i j 0 less (omega (arith, are.one_each)) in
       let level : get_or group i 0 ≡ get_or group j 0 = sym (base_at i d (omega arith)) ∙ same ∙ base_at j d lt in
       omega arith
 
@@ -141,7 +141,7 @@ module _ (object : Object) (roles : Roles) (order : Below) (procs : List Proc) (
               bases_within order (group_at groups k) (joined adds.bodies) adds.found adds.are_schemes (length old)
               (subst (λ n. All (λ number. number < n) (group_at groups k)) (sym to.one_each) (members_within k lt)) in
               let stands = there-with old adds.found within_old
-              (bases_apart order (group_at groups k) (joined adds.bodies) adds.found adds.are_schemes (are.rising k lt)) i d less in
+              (bases_apart order (group_at groups k) (joined adds.bodies) adds.found adds.are_schemes (are.ascending k lt)) i d less in
               record {
                 scheme = get_or adds.found i d;
                 is_scheme = ap (λ s. get_or s (get_or (group_at groups k) i 0) None) adds.is

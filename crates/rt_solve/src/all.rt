@@ -51,9 +51,9 @@ fn solve_next(
     Ok(())
 }
 
-/// The schemes of all procedures, group after group: those of a group's members have nothing to spare, and tell whoever
+/// The schemes of all procedures, group after group: those of a group's members have nothing to spare, and say to whoever
 /// calls them, under the order of the lattice, the same as the lists of the members together, where callees outside the
-/// group have the schemes that were found before and functions outside their signatures. The error is want of memory, which
+/// group have the schemes that were found before and functions outside their signatures. The error is out of memory, which
 /// also comes where 32 bits don't number the procedures.
 ///
 /// Condition: the groups are those of the facts' procedures, callees first, the signatures are those that the facts were

@@ -8,7 +8,7 @@ use Rattle.rt_lines.specs.declared.variable.Dtv.{Dtv}
 use Rattle.rt_lines.specs.declared.line.Line.{Line}
 use Rattle.rt_lines.specs.declared.line.Line.TheVariants.{Low, Up}
 use Rattle.rt_lines.specs.Orders.{Below, IsAtOrBelow}
-use Rattle.rt_sure.specs.Bounds.{AreLowsBut, AreUpsBut, IsLowEntered, IsUpEntered}
+use Rattle.rt_sure.specs.Inside.Bounds.{AreLowsBut, AreUpsBut, IsLowEntered, IsUpEntered}
 
 -- a line of a list
 pub line_in : (lines : List Line) (i : ℕ) (l : Line) → slice_get lines i ≡ Some l → Contains lines l

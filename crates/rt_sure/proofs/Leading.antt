@@ -20,7 +20,7 @@ use Rattle.rt_outline.specs.Lines.{standing}
 use Rattle.rt_outline.proofs.Standing.{Stands, standing_line}
 use Rattle.rt_sat.specs.Numbered.{at_number}
 use Rattle.rt_sat.specs.Tables.{HasBelow}
-use Rattle.rt_sure.specs.Bounds.{AreLowsBut, AreUpsBut}
+use Rattle.rt_sure.specs.Inside.Bounds.{AreLowsBut, AreUpsBut}
 use Rattle.rt_sure.proofs.Bounded.{line_in}
 
 pub standing_of : (lines : List Line) (flags : List Bool) (l : Line) → Contains (standing lines flags) l → Contains lines l

@@ -1,3 +1,3 @@
 pub mod Arcs
-pub mod Bounds
 pub mod Fates
+pub mod Inside

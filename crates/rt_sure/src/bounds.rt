@@ -4,7 +4,7 @@ ghost use Rattle.rt_lines.specs.declared.line.Line.{Line as Given};
 ghost use Rattle.rt_lines.specs.declared.variable.Dtv.{Dtv as Variable};
 ghost use Rattle.rt_lines.specs.Lines.{HasConstantsBelow};
 ghost use Rattle.rt_rules.specs.Rules.{HasSide};
-ghost use Rattle.rt_sure.specs.Bounds.{AreLowsBut, AreUpsBut, IsLowEntered, IsUpEntered};
+ghost use Rattle.rt_sure.specs.Inside.Bounds.{AreLowsBut, AreUpsBut, IsLowEntered, IsUpEntered};
 
 use rt_base::Memory;
 use rt_lines::{Line, Order};

@@ -37,7 +37,7 @@ pub enum Fate {
 }
 
 /// What becomes of the first lines of the ways, so many as the count says, where those whose flags are set are kept in any case.
-/// Only `<=` lines go; of lines that are no `<=` lines and no bounds nothing is known. The error is want of memory.
+/// Only `<=` lines go; of lines that are no `<=` lines and no bounds nothing is known. The error is out of memory.
 pub fn fates(
     alloc: Global,
     ways: &Ways,
@@ -215,7 +215,7 @@ fn add_side(shape: &Shape, extra: &mut Vec<Dtv>, x: &Dtv) -> Result<(), Memory>
     Ok(())
 }
 
-// What becomes of a line where it is known whether it stays, and the table tells of lines that are kept or stay and of those
+// What becomes of a line where it is known whether it stays, and the table says of lines that are kept or stay and of those
 // before it. If it is a `<=` line of which neither is known, it is added to the table.
 fn going(alloc: Global, growing: &mut GrowingTable, line: &Line, fate: Fate) -> Result<Fate, Memory>
     requires { (told : List Given) × Tells told growing.old }

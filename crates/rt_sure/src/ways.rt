@@ -43,7 +43,7 @@ impl Model for Ways {
 }
 
 impl Ways {
-    /// The arcs of the lines, between the variables that they and others name, which exist. The error is want of memory.
+    /// The arcs of the lines, between the variables that they and others name, which exist. The error is out of memory.
     pub fn of(alloc: Global, lines: Vec<Line>, extra: &[Dtv]) -> Result<Ways, Memory>
         requires { AreThere lines.items extra.now }
         ensures { IfOk result (λ ways. ways ≡ record { lines = lines.items; named = named_by lines.items extra.now }) }
@@ -76,7 +76,7 @@ impl Ways {
         &self.named
     }
 
-    /// Whether one of the variables lies below one of the others by the lines. All are named. The error is want of memory.
+    /// Whether one of the variables lies below one of the others by the lines. All are named. The error is out of memory.
     pub fn leads(&self, alloc: Global, from: &[Dtv], to: &[Dtv]) -> Result<bool, Memory>
         requires from { (x : Variable) → Contains from.now x → Contains self.now.named x }
         requires to { (x : Variable) → Contains to.now x → Contains self.now.named x }

@@ -22,7 +22,7 @@ use Rattle.rt_rows.specs.declared.row.Row.{Row}
 use Rattle.rt_rows.specs.Terms.{HasConstantBelow, IsBaseOf, group_lines}
 use Rattle.rt_table.specs.Facts.{AreKnown, Knowledge}
 use Rattle.rt_table.specs.Lists.{AreLinesOf, AreRowsOf, HasGlobalsOf, IsContext, is_member, linked_by, linked_in, scheme_target, target_by, words_at}
-use Rattle.rt_table.specs.Naming.{AreRowsGiven}
+use Rattle.rt_table.specs.Inside.Naming.{AreRowsGiven}
 use Rattle.rt_table.specs.Table.{Linked, Member, Target}
 
 -- Members.

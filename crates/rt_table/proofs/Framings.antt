@@ -17,7 +17,7 @@ use Rattle.rt_sigs.specs.Signatures.{Signature}
 use Rattle.rt_frame.specs.Told.{frame_of, frame_sites}
 use Rattle.rt_table.specs.declared.facts.Framed.{Framed}
 use Rattle.rt_table.specs.Facts.{AreKnown, IsKnown, Knowledge, knowledge_of}
-use Rattle.rt_table.specs.Framing.{AreFramed, AreReadings, IsFramed}
+use Rattle.rt_table.specs.Inside.Framing.{AreFramed, AreReadings, IsFramed}
 use Rattle.std.proofs.lemmas.Option.{slice_get-get_or}
 
 -- what is known by a body, the calls of its sites and its frame
@@ -94,7 +94,7 @@ module _ (object : Object) (procs : List Proc) (bodies : List Body) (calls : Lis
               reading = slice_get-get_or (map reading_of bodies) q (reading_of body) (omega (arith, length-map bodies reading_of)) ∙ ap Some (get_or-map reading_of bodies q body (reading_of body) within);
               calls = told.each q proc (omega (arith, calls_each));
               frame = here.frame;
-              words_rising = here.words_rising;
+              words_ascending = here.words_ascending;
               words = here.words;
             })
 

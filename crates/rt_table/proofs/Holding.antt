@@ -2,7 +2,7 @@
 use Rattle.std.proofs.Common.{ℕ}
 use Rattle.rt_table.specs.declared.context.Context.{Context as Given}
 use Rattle.rt_table.specs.Table.{linked_at, target_at}
-use Rattle.rt_table.specs.Told.{context_of, known_in, program_in}
+use Rattle.rt_table.specs.Inside.Told.{context_of, known_in, program_in}
 use Rattle.rt_table.proofs.Known.{targets-held}
 use Rattle.rt_table.proofs.Sound.{HasHeldRegister}
 

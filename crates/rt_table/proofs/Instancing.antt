@@ -17,7 +17,7 @@ use Rattle.rt_scheme.specs.Schemes.{AreSchemeLines, is_interface, is_scheme_line
 use Rattle.rt_rows.specs.declared.row.Row.{Row}
 use Rattle.rt_table.specs.declared.item.Item.{Item}
 use Rattle.rt_table.specs.declared.item.Item.TheVariants as item
-use Rattle.rt_table.specs.Named.{IsNameWithin}
+use Rattle.rt_table.specs.Inside.Named.{IsNameWithin}
 use Rattle.rt_table.specs.Table.{AreProcedureRows, Context, Target, Member, Scheme, Held, Unknown, filled, instance_rows, linked_at, new_name, new_row, new_term, scheme_rows, target_at}
 use Rattle.rt_table.proofs.Sound.{IsGood, IsGoodItem, IsRootIn, IsSound, IsTermIn, good-items, good-written}
 

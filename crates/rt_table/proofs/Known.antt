@@ -39,7 +39,7 @@ use Rattle.rt_rows.specs.declared.row.Term.{Term}
 use Rattle.rt_rows.specs.Terms.{HasConstantBelow, HasRoot, IsGroupRow, NamesRoot}
 use Rattle.rt_table.specs.Facts.{AreKnown, Knowledge}
 use Rattle.rt_table.specs.Lists.{AreGiven, AreRowsOf, IsContext, IsGiven, is_member, linked_by, linked_in, scheme_target, target_by, words_at}
-use Rattle.rt_table.specs.Naming.{AreRowsGiven}
+use Rattle.rt_table.specs.Inside.Naming.{AreRowsGiven}
 use Rattle.rt_table.specs.Table.{AreProcedureRows, Context, Linked, Target, Member, Scheme, Held, Unknown, linked_at, target_at}
 use Rattle.rt_table.proofs.Globals.{reading-addresses, reading-defs, reading-uses}
 use Rattle.rt_table.proofs.Instancing.{IsGoodBase, IsGoodLine, IsGoodTarget, procedure-good}

@@ -10,8 +10,8 @@ use Rattle.rt_lines.specs.Words.{IsLabel}
 use Rattle.rt_scheme.specs.Ports.{has_port}
 use Rattle.rt_liveness.specs.declared.call.Call.{Call}
 use Rattle.rt_liveness.specs.Calls.{takes_register}
-use Rattle.rt_table.specs.Parts.{IsPassed, port_register_labels}
-use Rattle.rt_table.specs.Words.{AreStackWords}
+use Rattle.rt_table.specs.Inside.Parts.{IsPassed, port_register_labels}
+use Rattle.rt_table.specs.Inside.Words.{AreStackWords}
 use Rattle.rt_table.specs.Table.{is_covered, port_registers, stack_arguments}
 
 labels-one : (p : ℕ → Bool) (f : ℕ → Label) (x : ℕ) → map f (filter p (x ∷ [])) ≡ (if p x then f x ∷ [] else [])

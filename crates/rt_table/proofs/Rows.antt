@@ -6,7 +6,7 @@ use Rattle.rt_liveness.specs.declared.call.Call.{Call}
 use Rattle.rt_rows.specs.declared.row.Row.{Row}
 use Rattle.rt_table.specs.declared.item.Item.{Item}
 use Rattle.rt_table.specs.declared.item.Item.TheVariants as item
-use Rattle.rt_table.specs.Parts.{call_items, call_rows, places_of}
+use Rattle.rt_table.specs.Inside.Parts.{call_items, call_rows, places_of}
 use Rattle.rt_table.specs.Table.{Context, Linked, Target, Member, Scheme, Held, Unknown, call_by, calls_from, items_from, site_items, told}
 
 items_from-push : (context : Context) (i : ℕ) (xs : List Action) (a : Action) → items_from context i (xs ++ a ∷ []) ≡ items_from context i xs ++ site_items context (i + length xs) a

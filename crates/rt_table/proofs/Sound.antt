@@ -54,7 +54,7 @@ use Rattle.rt_table.specs.declared.pointer.Pointer.{Pointer}
 use Rattle.rt_table.specs.declared.pointer.Pointer.TheVariants.{Through, InFrame, Nowhere}
 use Rattle.rt_table.specs.declared.side.Side.{Side}
 use Rattle.rt_table.specs.declared.side.Side.TheVariants.{Variable, Code}
-use Rattle.rt_table.specs.Named.{IsItemWithin, IsNameWithin, IsRowWithin}
+use Rattle.rt_table.specs.Inside.Named.{IsItemWithin, IsNameWithin, IsRowWithin}
 use Rattle.rt_table.specs.Table.{Context, Linked, Target, Member, Scheme, Held, Unknown, Writes, ends, places, writes, opens, addition_rows, argument, argument_flow, at_side, below, call_by, calls_from, calls_of, compute_rows, def_side, def_written, definition, entry_side, exists_if_none, first_closed, flow, flow_or_exists, if_first, if_nothing_added, if_zero, indexed, is_argument, is_call_site, is_closed, is_covered, is_stack_word, items_from, kept_rows, left_role, linked_at, load_in_frame, load_rows, load_through, load_word, loaded_bits, loaded_role, merge_name, merge_rows, object, operand_rows, pointer, pointer_call, pointer_result, port, port_arguments, port_of, port_of_member, port_registers, port_words, read_into, register_arguments, register_pointer, result_above, result_by, result_role, result_rows, returned, right_role, role_row, side_of, site_items, site_rows, spot_flow, spot_pointer, stack_argument, stack_arguments, stack_flow, store_rows, store_through, stored_side, symbol_side, tail_result, tail_results, target_at, through, told, unknown_result, use_side, value_pointer, value_side, width_bits, word_defs, word_flow, written_by, written_side}
 
 -- the symbol of a value is a global of some kind

@@ -29,8 +29,8 @@ use Rattle.rt_lines.specs.Words.{IsLoc}
 use Rattle.rt_lines.specs.declared.label.Loc.TheVariants.{Stack}
 use Rattle.rt_table.specs.Facts.{TakesWord}
 use Rattle.rt_table.specs.Table.{is_stack_word}
-use Rattle.rt_table.specs.Taken.{Gains, is_entry, is_location, is_passed_byte, is_passed_word, taken_at, taken_by, takes_at}
-use Rattle.rt_table.specs.Words.{AreStackWords}
+use Rattle.rt_table.specs.Inside.Taken.{Gains, is_entry, is_location, is_passed_byte, is_passed_word, taken_at, taken_by, takes_at}
+use Rattle.rt_table.specs.Inside.Words.{AreStackWords}
 
 -- A number added to a set.
 

@@ -9,9 +9,9 @@ use Rattle.rt_table.specs.declared.target.Target.{Target as GivenTarget}
 use Rattle.rt_table.specs.declared.target.Target.TheVariants as given
 use Rattle.rt_table.specs.Facts.{knowledge_of}
 use Rattle.rt_table.specs.Lists.{words_at}
-use Rattle.rt_table.specs.Parts.{places_of}
+use Rattle.rt_table.specs.Inside.Parts.{places_of}
 use Rattle.rt_table.specs.Table.{Linked, calls_of}
-use Rattle.rt_table.specs.Told.{context_of, linked_call, target_of}
+use Rattle.rt_table.specs.Inside.Told.{context_of, linked_call, target_of}
 
 -- the words that the procedure of a number takes
 pub words-at : (bodies : List Body) (calls : List (List (List Call))) (frames : List Framed) (q : ℕ) (d : Framed) → length bodies ≡ length frames

@@ -15,9 +15,9 @@ use Rattle.rt_table.specs.declared.target.Target.{Target as GivenTarget}
 use Rattle.rt_table.specs.declared.target.Target.TheVariants as given
 use Rattle.rt_table.specs.declared.traced.Traced.{Traced}
 use Rattle.rt_table.specs.declared.traced.Traced.TheVariants as traced
-use Rattle.rt_table.specs.Parts.{IsOutcome, held_side, named_results, names_result, result_of_calls, uses_by}
+use Rattle.rt_table.specs.Inside.Parts.{IsOutcome, held_side, named_results, names_result, result_of_calls, uses_by}
 use Rattle.rt_table.specs.Table.{Context, Linked, Target, Member, Scheme, Held, Unknown, at_side, definition, if_first, is_call_site, linked_at, pointer_result, result_by, use_side, value_side, written_by, written_side}
-use Rattle.rt_table.specs.Told.{context_of, linked_call, linked_of, target_of}
+use Rattle.rt_table.specs.Inside.Told.{context_of, linked_call, linked_of, target_of}
 
 -- only of what a register holds the result is asked by sides of uses
 pub result-held : (context : Context) (site i r : ℕ) (call : Call) (target : Target)

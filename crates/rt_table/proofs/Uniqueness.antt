@@ -80,7 +80,7 @@ module _ (program : Program) (q : ℕ) (proc : Proc) (a b : Knowledge) (x : IsKn
 
   words_same : a.words ≡ b.words
   words_same = one_ordered (λ j k. j < k) (λ j k up down. omega (arith, up, down)) (TakesWord a.reading a.frame) a.words b.words
-      (AllPairs-from_increasing a.words x.words_rising) x.words (AllPairs-from_increasing b.words y.words_rising)
+      (AllPairs-from_increasing a.words x.words_ascending) x.words (AllPairs-from_increasing b.words y.words_ascending)
       (λ k. subst (λ r. Contains b.words k ↔ TakesWord r a.frame k) (sym reading_same)
       (subst (λ f. Contains b.words k ↔ TakesWord b.reading f k) (sym frame_same) (y.words k)))
 

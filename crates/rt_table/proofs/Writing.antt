@@ -12,9 +12,9 @@ use Rattle.rt_rows.specs.declared.row.Row.{Row}
 use Rattle.rt_rows.specs.Terms.{name_eq, row_names}
 use Rattle.rt_table.specs.declared.item.Item.{Item}
 use Rattle.rt_table.specs.declared.item.Item.TheVariants as item
-use Rattle.rt_table.specs.Named.{IsItemWithin, IsNameWithin, IsRowWithin}
+use Rattle.rt_table.specs.Inside.Named.{IsItemWithin, IsNameWithin, IsRowWithin}
 use Rattle.rt_table.specs.Table.{Context, Writes, ends, places, writes, opens, first_closed, is_closed, merge_rows, told}
-use Rattle.rt_table.specs.Writing.{closed_in}
+use Rattle.rt_table.specs.Inside.Writing.{closed_in}
 use Rattle.rt_table.proofs.Sound.{first-closed-of}
 
 -- Stacks.

@@ -53,7 +53,7 @@ pub record IsKnown (program : Program) (q : ℕ) (proc : Proc) (known : Knowledg
   pub reading : slice_get program.readings q ≡ Some known.reading
   pub calls : AreCallsIn program q proc known.calls
   pub frame : IsFrameOf known.reading known.calls known.frame
-  pub words_rising : IsStrictlyIncreasing known.words
+  pub words_ascending : IsStrictlyIncreasing known.words
   pub words : (k : ℕ) → Contains known.words k ↔ TakesWord known.reading known.frame k
 
 -- it is what is true of each procedure, in their order

@@ -1,13 +1,5 @@
-pub mod Words
-pub mod Registers
 pub mod Table
-pub mod Parts
-pub mod Named
-pub mod Naming
 pub mod Facts
-pub mod Framing
-pub mod Taken
-pub mod Writing
 pub mod Lists
-pub mod Told
 pub mod Laws
+pub mod Inside

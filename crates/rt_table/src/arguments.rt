@@ -1,9 +1,9 @@
 // What is passed to calls as arguments.
 ghost use Rattle.std.specs.Prelude.{◌≡◌, ◌<◌, ◌++◌, All, IfOk, OnOk};
 ghost use Rattle.rt_body.specs.Told.{sites_in};
-ghost use Rattle.rt_table.specs.Parts.{IsPassed, MayTake, passed, received};
+ghost use Rattle.rt_table.specs.Inside.Parts.{IsPassed, MayTake, passed, received};
 ghost use Rattle.rt_table.specs.Table.{argument_flow, spot_flow, stack_flow};
-ghost use Rattle.rt_table.specs.Told.{context_of};
+ghost use Rattle.rt_table.specs.Inside.Told.{context_of};
 
 use crate::context::Context;
 use crate::receiver::Receiver;

@@ -2,9 +2,9 @@
 ghost use Rattle.std.specs.Prelude.{◌≡◌, ◌<◌, ◌≤◌, ◌++◌, ◌∷◌, [], OnOk};
 ghost use Rattle.rt_body.specs.Told.{sites_in};
 ghost use Rattle.rt_liveness.specs.Calls.{HasCallRegister};
-ghost use Rattle.rt_table.specs.Parts.{IsTargetWithin, both_results, call_items, call_rows, comes_back, places_of};
+ghost use Rattle.rt_table.specs.Inside.Parts.{IsTargetWithin, both_results, call_items, call_rows, comes_back, places_of};
 ghost use Rattle.rt_table.specs.Table.{Member, Scheme as SchemeTarget, call_by, calls_from, linked_at, pointer_call, tail_result, told};
-ghost use Rattle.rt_table.specs.Told.{context_of, linked_call, target_in, target_of};
+ghost use Rattle.rt_table.specs.Inside.Told.{context_of, linked_call, target_in, target_of};
 
 use crate::context::Context;
 use crate::item::Item;
@@ -227,7 +227,7 @@ impl Context<'_> {
         self.both_results(site, index, call, items)
     }
 
-    /// Adds the items of the calls of a site. The error is want of memory.
+    /// Adds the items of the calls of a site. The error is out of memory.
     pub(crate) fn calls(&self, site: u32, items: &mut Vec<Item>) -> Result<(), Memory>
         requires { site < sites_in self.now.body.now }
         ensures { OnOk result (items.new.items

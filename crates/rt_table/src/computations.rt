@@ -4,7 +4,7 @@ ghost use Rattle.rt_body.specs.Registers.{HasOperandRegister};
 ghost use Rattle.rt_body.specs.Told.{reading_of, sites_in};
 ghost use Rattle.rt_frame.specs.Questions.{addition, is_kept};
 ghost use Rattle.rt_table.specs.Table.{addition_rows, compute_rows, indexed, kept_rows, left_role, operand_rows, result_role, right_role};
-ghost use Rattle.rt_table.specs.Told.{context_of};
+ghost use Rattle.rt_table.specs.Inside.Told.{context_of};
 
 use crate::context::Context;
 use rt_base::Memory;

@@ -6,7 +6,7 @@ ghost use Rattle.rt_liveness.specs.Told.{program_of};
 ghost use Rattle.rt_frame.specs.Told.{frame_sites};
 ghost use Rattle.rt_table.specs.Facts.{knowledge_of};
 ghost use Rattle.rt_table.specs.Lists.{linked_in};
-ghost use Rattle.rt_table.specs.Parts.{named_results};
+ghost use Rattle.rt_table.specs.Inside.Parts.{named_results};
 
 use crate::facts::Facts;
 use indexmap::IndexSet;
@@ -18,7 +18,7 @@ use rt_liveness::Call;
 use rt_scheme::Schemes;
 use std::alloc::Global;
 
-/// What the calls of the procedures of a group are told by: what is known of the object's procedures and of functions
+/// What the calls of the procedures of a group are stated by: what is known of the object's procedures and of functions
 /// outside, the numbers of the group's members, and the schemes of other procedures.
 #[derive(Clone, Copy)]
 pub(crate) struct Outside<'a> {
@@ -28,7 +28,7 @@ pub(crate) struct Outside<'a> {
 }
 
 /// What the table is read against for one procedure: its number, what is known of its registers and of its frame, the calls of its
-/// sites and what they are told by, of the first call of each site which results the scheme names by which it is told, and the lattice,
+/// sites and what they are stated by, of the first call of each site which results the scheme names by which it is stated, and the lattice,
 /// which says what the constants of the roles are.
 #[derive(Clone, Copy)]
 pub(crate) struct Context<'a> {

@@ -2,8 +2,8 @@
 ghost use Rattle.std.specs.Prelude.{◌≡◌, length, map};
 ghost use Rattle.rt_body.specs.Told.{sites_in};
 ghost use Rattle.rt_frame.specs.Told.{frame_sites};
-ghost use Rattle.rt_table.specs.Registers.{HaveRegisters, HaveRegisters-prop};
-ghost use Rattle.rt_table.specs.Words.{AreStackWords};
+ghost use Rattle.rt_table.specs.Inside.Registers.{HaveRegisters, HaveRegisters-prop};
+ghost use Rattle.rt_table.specs.Inside.Words.{AreStackWords};
 
 use rt_base::Sequence;
 use rt_body::Body;
@@ -28,7 +28,7 @@ pub struct Facts<'a> {
     ghost registers: { HaveRegisters calls } by { HaveRegisters-prop calls },
 }
 
-// The frame of a procedure, and the offsets of the words of the stack that it takes as arguments, rising.
+// The frame of a procedure, and the offsets of the words of the stack that it takes as arguments, ascending.
 #[derive(Drop)]
 pub(crate) struct Framed {
     pub(crate) frame: Frame,

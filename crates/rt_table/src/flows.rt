@@ -2,7 +2,7 @@
 ghost use Rattle.std.specs.Prelude.{◌≡◌, ◌<◌, ◌++◌, All, OnOk, flat_map};
 ghost use Rattle.rt_body.specs.Told.{sites_in, IsDefWithin};
 ghost use Rattle.rt_table.specs.Table.{below, def_side, flow, flow_or_exists, result_above};
-ghost use Rattle.rt_table.specs.Told.{context_of};
+ghost use Rattle.rt_table.specs.Inside.Told.{context_of};
 
 use crate::context::Context;
 use crate::side::Side;

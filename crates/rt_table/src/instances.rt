@@ -3,7 +3,7 @@ ghost use Rattle.std.specs.Prelude.{◌≡◌, [], ◌∷◌, ◌++◌, ℕ, IfO
 ghost use Rattle.indexmap.specs.IndexMap.{get};
 ghost use Rattle.rt_scheme.specs.Ports.{label_at};
 ghost use Rattle.rt_table.specs.Table.{Scheme as ByScheme, filled, instance_rows, new_name, new_root, new_row, new_term, scheme_rows};
-ghost use Rattle.rt_table.specs.Told.{context_of, target_of};
+ghost use Rattle.rt_table.specs.Inside.Told.{context_of, target_of};
 
 use crate::context::Context;
 use crate::item::Item;
@@ -39,7 +39,7 @@ fn by_number(alloc: Global, ports: &[(Label, u32)]) -> Result<IndexMap<u32, Labe
 }
 
 impl Labels {
-    // The error is want of memory.
+    // The error is out of memory.
     fn new(alloc: Global, ports: Ports) -> Result<Labels, Memory>
         ensures { IfOk result (λ labels. labels.ports ≡ ports) }
     {
@@ -139,7 +139,7 @@ impl Context<'_> {
         Ok(())
     }
 
-    // Adds the rows of the instance of the scheme by which a call of a site is told, if it is told by one.
+    // Adds the rows of the instance of the scheme by which a call of a site is stated, if it is stated by one.
     fn told_rows(
         &self,
         site: u32,
@@ -177,7 +177,7 @@ impl Context<'_> {
         }
     }
 
-    /// The rows of items, where the rows of an instance stand in its place. The error is want of memory.
+    /// The rows of items, where the rows of an instance stand in its place. The error is out of memory.
     pub(crate) fn filled(&self, items: Vec<Item>) -> Result<Rows, Memory>
         ensures { IfOk result (λ rows. rows ≡ filled (instance_rows (context_of self.now)) items.items) }
     {

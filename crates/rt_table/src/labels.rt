@@ -1,7 +1,7 @@
 // The labels of the arguments that callees take.
 ghost use Rattle.std.specs.Prelude.{◌≡◌, ◌++◌, ◌∷◌, [], ◌||◌, if◌then◌else◌, All, IfOk, OnOk};
 ghost use Rattle.rt_lines.specs.Words.{IsLabel};
-ghost use Rattle.rt_table.specs.Parts.{IsPassed, port_register_labels};
+ghost use Rattle.rt_table.specs.Inside.Parts.{IsPassed, port_register_labels};
 ghost use Rattle.rt_scheme.specs.Ports.{has_port};
 ghost use Rattle.rt_table.specs.Table.{is_covered, port_arguments, port_words, register_arguments, stack_arguments};
 

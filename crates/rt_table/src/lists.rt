@@ -8,10 +8,10 @@ ghost use Rattle.rt_scheme.specs.Splitting.{AreInterfaceLines};
 ghost use Rattle.rt_table.specs.Facts.{IsFactsOf};
 ghost use Rattle.rt_body.specs.Registers.{HasRegisters};
 ghost use Rattle.rt_table.specs.Lists.{AreGiven, AreLinesOf, AreRowsOf, HasGlobalsOf, IsContext, is_member, linked_in};
-ghost use Rattle.rt_table.specs.Naming.{AreRowsGiven};
-ghost use Rattle.rt_table.specs.Parts.{named_results};
+ghost use Rattle.rt_table.specs.Inside.Naming.{AreRowsGiven};
+ghost use Rattle.rt_table.specs.Inside.Parts.{named_results};
 ghost use Rattle.rt_table.specs.Table.{AreProcedureRows};
-ghost use Rattle.rt_table.specs.Told.{context_of, known_in, linked_of, program_in};
+ghost use Rattle.rt_table.specs.Inside.Told.{context_of, known_in, linked_of, program_in};
 
 use crate::context::{Context, Outside};
 use crate::facts::Facts;
@@ -112,7 +112,7 @@ fn rows_of(
 
 /// The lists of lines of the procedures of some numbers, in their order, where procedures outside the group have these schemes.
 /// Existentials are numbered from 0 in the order in which they first stand in all of the lists, and each list has each of
-/// its lines once. The error is want of memory.
+/// its lines once. The error is out of memory.
 pub fn lines_of(
     alloc: Global,
     facts: &Facts<'_>,

@@ -3,7 +3,7 @@ ghost use Rattle.std.specs.Prelude.{◌≡◌, ◌<◌, ◌++◌, ◌∷◌, [],
 ghost use Rattle.rt_body.specs.Registers.{HasAddressRegister};
 ghost use Rattle.rt_body.specs.Told.{sites_in};
 ghost use Rattle.rt_table.specs.Table.{load_in_frame, load_rows, load_through, loaded_bits, loaded_role, pointer, read_into, role_row};
-ghost use Rattle.rt_table.specs.Told.{context_of};
+ghost use Rattle.rt_table.specs.Inside.Told.{context_of};
 
 use crate::context::Context;
 use crate::pointer::Pointer;

@@ -2,10 +2,10 @@
 ghost use Rattle.std.specs.Prelude.{◌≡◌, [], ◌++◌, All, IfOk, OnOk, reverse};
 ghost use Rattle.rt_body.specs.Told.{sites_in};
 ghost use Rattle.rt_rows.specs.Terms.{row_names};
-ghost use Rattle.rt_table.specs.Named.{IsItemWithin, IsNameWithin};
+ghost use Rattle.rt_table.specs.Inside.Named.{IsItemWithin, IsNameWithin};
 ghost use Rattle.rt_table.specs.Table.{Writes, first_closed, is_closed, merge_rows, told};
-ghost use Rattle.rt_table.specs.Told.{context_of};
-ghost use Rattle.rt_table.specs.Writing.{closed_in};
+ghost use Rattle.rt_table.specs.Inside.Told.{context_of};
+ghost use Rattle.rt_table.specs.Inside.Writing.{closed_in};
 
 use crate::context::Context;
 use crate::item::Item;

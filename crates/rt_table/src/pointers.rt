@@ -3,7 +3,7 @@ ghost use Rattle.std.specs.Prelude.{◌≡◌, ◌<◌, IfOk};
 ghost use Rattle.rt_body.specs.Registers.{HasAddressRegister};
 ghost use Rattle.rt_body.specs.Told.{sites_in};
 ghost use Rattle.rt_table.specs.Table.{pointer, register_pointer, spot_pointer, through, value_pointer};
-ghost use Rattle.rt_table.specs.Told.{context_of};
+ghost use Rattle.rt_table.specs.Inside.Told.{context_of};
 
 use crate::context::Context;
 use crate::pointer::Pointer;

@@ -7,8 +7,8 @@ ghost use Rattle.rt_body.specs.Readable.{IsReadable};
 ghost use Rattle.rt_liveness.specs.Calls.{HasCallRegister};
 ghost use Rattle.rt_liveness.specs.Ends.{ends_of};
 ghost use Rattle.rt_table.specs.Facts.{IsFactsOf};
-ghost use Rattle.rt_table.specs.Framing.{AreFramed, AreReadings, IsFramed};
-ghost use Rattle.rt_table.specs.Registers.{HaveRegisters};
+ghost use Rattle.rt_table.specs.Inside.Framing.{AreFramed, AreReadings, IsFramed};
+ghost use Rattle.rt_table.specs.Inside.Registers.{HaveRegisters};
 
 use crate::facts::{Facts, Framed};
 use crate::taken::words_taken;

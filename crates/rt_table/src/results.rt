@@ -2,9 +2,9 @@
 ghost use Rattle.std.specs.Prelude.{◌≡◌, ◌<◌, ◌≤◌, ◌&&◌, nat_le, ◌∷◌, [], ℕ, Option, IfOk, false, slice_index_or};
 ghost use Rattle.rt_body.specs.Told.{sites_in};
 ghost use Rattle.rt_liveness.specs.Calls.{HasCallRegister};
-ghost use Rattle.rt_table.specs.Parts.{IsOutcome, IsTargetWithin, held_side, named_results, names_result, result_of_calls, uses_by};
+ghost use Rattle.rt_table.specs.Inside.Parts.{IsOutcome, IsTargetWithin, held_side, named_results, names_result, result_of_calls, uses_by};
 ghost use Rattle.rt_table.specs.Table.{def_written, if_first, pointer_result, result_by, unknown_result, written_by, written_side};
-ghost use Rattle.rt_table.specs.Told.{context_of, linked_call, target_in, target_of};
+ghost use Rattle.rt_table.specs.Inside.Told.{context_of, linked_call, target_in, target_of};
 ghost use Rattle.rt_table.specs.declared.side.Side.{Side as TheSide};
 
 use crate::context::Context;
@@ -144,7 +144,7 @@ impl Context<'_> {
     }
 
     // What the side of what the first call of a site wrote into a register comes to, where `named` says which results the scheme names
-    // by which the call is told.
+    // by which the call is stated.
     fn traced_call(
         &self,
         site: u32,

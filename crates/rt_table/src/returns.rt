@@ -2,7 +2,7 @@
 ghost use Rattle.std.specs.Prelude.{◌≡◌, ◌<◌, ◌≤◌, ◌++◌, All, OnOk};
 ghost use Rattle.rt_body.specs.Told.{sites_in, IsDefWithin};
 ghost use Rattle.rt_table.specs.Table.{result_rows, returned};
-ghost use Rattle.rt_table.specs.Told.{context_of};
+ghost use Rattle.rt_table.specs.Inside.Told.{context_of};
 
 use crate::context::Context;
 use rt_base::Memory;

@@ -2,7 +2,7 @@
 ghost use Rattle.std.specs.Prelude.{◌≡◌, ◌<◌, ℕ, None, IfOk};
 ghost use Rattle.rt_body.specs.Told.{sites_in, IsDefWithin};
 ghost use Rattle.rt_table.specs.Table.{def_own, def_side, entry_side, if_zero, side_of, use_side, value_side};
-ghost use Rattle.rt_table.specs.Told.{context_of};
+ghost use Rattle.rt_table.specs.Inside.Told.{context_of};
 
 use crate::context::Context;
 use crate::side::Side;

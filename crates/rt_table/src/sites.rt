@@ -3,9 +3,9 @@ ghost use Rattle.std.specs.Prelude.{◌≡◌, ◌<◌, ◌++◌, All, IfOk, OnO
 ghost use Rattle.rt_body.specs.Readings.{action_at};
 ghost use Rattle.rt_body.specs.Registers.{HasRegisters};
 ghost use Rattle.rt_body.specs.Told.{reading_of, sites_in};
-ghost use Rattle.rt_table.specs.Named.{IsItemWithin};
+ghost use Rattle.rt_table.specs.Inside.Named.{IsItemWithin};
 ghost use Rattle.rt_table.specs.Table.{items_from, site_items, site_rows};
-ghost use Rattle.rt_table.specs.Told.{context_of};
+ghost use Rattle.rt_table.specs.Inside.Told.{context_of};
 
 use crate::calls::push_told;
 use crate::context::Context;
@@ -88,7 +88,7 @@ impl Context<'_> {
         self.calls(site, items)
     }
 
-    /// The items of all sites, in the order of their places. The error is want of memory.
+    /// The items of all sites, in the order of their places. The error is out of memory.
     pub(crate) fn items(&self) -> Result<Vec<Item>, Memory>
         ensures items { IfOk result (λ found. found.items ≡ items_from (context_of self.now) 0 (reading_of self.now.body.now).actions) }
         ensures within { IfOk result (λ found. All (IsItemWithin (sites_in self.now.body.now)) found.items) }

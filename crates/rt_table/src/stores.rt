@@ -3,7 +3,7 @@ ghost use Rattle.std.specs.Prelude.{◌≡◌, ◌<◌, ◌++◌, OnOk};
 ghost use Rattle.rt_body.specs.Registers.{HasAddressRegister};
 ghost use Rattle.rt_body.specs.Told.{sites_in};
 ghost use Rattle.rt_table.specs.Table.{pointer, store_rows, store_through, width_bits};
-ghost use Rattle.rt_table.specs.Told.{context_of};
+ghost use Rattle.rt_table.specs.Inside.Told.{context_of};
 
 use crate::context::Context;
 use crate::pointer::Pointer;

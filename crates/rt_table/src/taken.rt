@@ -6,8 +6,8 @@ ghost use Rattle.rt_body.specs.Registers.{HasRegisters};
 ghost use Rattle.rt_body.specs.Told.{reading_of, sites_in};
 ghost use Rattle.rt_frame.specs.Told.{frame_of, frame_sites};
 ghost use Rattle.rt_table.specs.Facts.{TakesWord};
-ghost use Rattle.rt_table.specs.Taken.{Gains, is_entry, is_passed_byte, is_passed_word, taken_at, taken_by, takes_at};
-ghost use Rattle.rt_table.specs.Words.{AreStackWords};
+ghost use Rattle.rt_table.specs.Inside.Taken.{Gains, is_entry, is_passed_byte, is_passed_word, taken_at, taken_by, takes_at};
+ghost use Rattle.rt_table.specs.Inside.Words.{AreStackWords};
 
 use crate::variables::is_stack_word;
 use rt_base::{Memory, Sequence};
@@ -106,14 +106,14 @@ fn take_site(taken: &mut BTreeSet<u32>, body: &Body, frame: &Frame, site: u32) -
     }
 }
 
-/// The offsets of the words of the stack that a procedure takes as arguments, rising. The error is want of memory.
+/// The offsets of the words of the stack that a procedure takes as arguments, ascending. The error is out of memory.
 pub(crate) fn words_taken(
     alloc: Global,
     body: &Body,
     frame: &Frame,
 ) -> Result<Sequence<u32>, Memory>
     requires { frame_sites frame.now ≡ sites_in body.now }
-    ensures rising { IfOk result IsStrictlyIncreasing }
+    ensures ascending { IfOk result IsStrictlyIncreasing }
     ensures words { IfOk result (λ words. (k : ℕ) → Contains words k ↔ TakesWord (reading_of body.now) (frame_of frame.now) k) }
     ensures stack { IfOk result AreStackWords }
 {

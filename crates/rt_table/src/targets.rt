@@ -1,4 +1,4 @@
-// How calls are told, and those of sites.
+// How calls are stated, and those of sites.
 ghost use Rattle.std.specs.Prelude.{◌≡◌, ◌<◌, [], All, IfOk, IsTrue, get_or, length, map, option_copied, slice_index_or};
 ghost use Rattle.rt_body.specs.Symbols.{symbol_of};
 ghost use Rattle.rt_body.specs.Told.{sites_in};
@@ -6,10 +6,10 @@ ghost use Rattle.rt_liveness.specs.Calls.{HasCallRegister};
 ghost use Rattle.rt_liveness.specs.Programs.{args_at, signature_at};
 ghost use Rattle.rt_scheme.specs.Instances.{IsInstance, instance_ports};
 ghost use Rattle.rt_table.specs.Lists.{scheme_target, words_at};
-ghost use Rattle.rt_table.specs.Parts.{IsTargetWithin, named_results};
+ghost use Rattle.rt_table.specs.Inside.Parts.{IsTargetWithin, named_results};
 ghost use Rattle.rt_table.specs.Table.{is_call_site, linked_at};
-ghost use Rattle.rt_table.specs.Told.{context_of, known_in, linked_call, linked_of, program_in, procedure_target, target_in, target_of};
-ghost use Rattle.rt_table.specs.Words.{AreStackWords};
+ghost use Rattle.rt_table.specs.Inside.Told.{context_of, known_in, linked_call, linked_of, program_in, procedure_target, target_in, target_of};
+ghost use Rattle.rt_table.specs.Inside.Words.{AreStackWords};
 
 use crate::context::{Context, Outside};
 use crate::results::names_result;
@@ -88,7 +88,7 @@ impl<'a> Outside<'a> {
         }
     }
 
-    // How a call is told.
+    // How a call is stated.
     fn target(&self, call: &Call) -> Target<'a>
         requires register { HasCallRegister call.now }
         ensures target { target_of result ≡ target_in self.now call.now }
@@ -107,7 +107,7 @@ impl<'a> Outside<'a> {
         }
     }
 
-    // How a procedure is told: by its own variables, where it is of the group, else by its scheme.
+    // How a procedure is stated: by its own variables, where it is of the group, else by its scheme.
     fn procedure_target(&self, procedure: u32) -> Target<'a>
         ensures target { target_of result ≡ procedure_target self.now procedure }
         ensures within { IsTargetWithin (target_of result) }
@@ -129,7 +129,7 @@ impl<'a> Outside<'a> {
         self.facts.calls.items()[number as usize].items()
     }
 
-    // Of results 0 and 1 of the first of some calls, whether the scheme names them by which it is told.
+    // Of results 0 and 1 of the first of some calls, whether the scheme names them by which it is stated.
     fn first_named(&self, calls: &[Call]) -> [bool; 2]
         requires registers { All HasCallRegister calls.now }
         ensures { result ≡ named_results (map (linked_call self.now) calls.now) }
@@ -145,7 +145,7 @@ impl<'a> Outside<'a> {
         }
     }
 
-    /// Of the results of the first call of each site, whether the scheme names them by which it is told. It is asked of each site once,
+    /// Of the results of the first call of each site, whether the scheme names them by which it is stated. It is asked of each site once,
     /// since what a call gives may be used many times. The error is out of memory.
     pub(crate) fn named_results(
         &self,
@@ -186,7 +186,7 @@ impl<'a> Context<'a> {
         }
     }
 
-    // Of the results of the first call of a site, whether the scheme names them by which it is told.
+    // Of the results of the first call of a site, whether the scheme names them by which it is stated.
     pub(crate) fn named_at(&self, site: u32) -> [bool; 2]
         ensures { result ≡ named_results (linked_at (context_of self.now) site) }
     {
@@ -196,7 +196,7 @@ impl<'a> Context<'a> {
         }
     }
 
-    // How a call is told.
+    // How a call is stated.
     pub(crate) fn target(&self, call: &Call) -> Target<'a>
         requires register { HasCallRegister call.now }
         ensures target { target_of result ≡ target_in self.now.outside call.now }

@@ -2,7 +2,7 @@
 ghost use Rattle.std.specs.Prelude.{◌≡◌, IsTrue, IfOk};
 ghost use Rattle.rt_table.specs.Table.{argument, definition, is_argument, is_stack_word};
 ghost use Rattle.rt_table.specs.Table.{merge_name, object, port_of, stack_argument, symbol_side};
-ghost use Rattle.rt_table.specs.Told.{context_of};
+ghost use Rattle.rt_table.specs.Inside.Told.{context_of};
 
 use crate::context::Context;
 use crate::side::Side;

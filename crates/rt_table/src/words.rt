@@ -4,7 +4,7 @@ ghost use Rattle.rt_body.specs.Readings.{action_at};
 ghost use Rattle.rt_body.specs.Told.{reading_of, sites_in};
 ghost use Rattle.rt_frame.specs.Frames.{is_frame};
 ghost use Rattle.rt_table.specs.Table.{byte_defs, def_below, load_word, merged, stored_side, word_defs, word_flow};
-ghost use Rattle.rt_table.specs.Told.{context_of};
+ghost use Rattle.rt_table.specs.Inside.Told.{context_of};
 
 use crate::context::Context;
 use crate::side::Side;
@@ -20,7 +20,7 @@ use std::alloc::Global;
 // The first byte of the frame among locations: those of bytes at positive offsets follow it.
 const FRAME: i64 = 4_294_967_296;
 
-// Whether a definition comes before another: Entry first, then sites rising.
+// Whether a definition comes before another: Entry first, then sites ascending.
 fn is_below(first: Def, second: Def) -> bool
     ensures { result ≡ def_below first second }
 {

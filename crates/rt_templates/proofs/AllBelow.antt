@@ -96,7 +96,7 @@ module _ (object : Object) (roles : Roles) (order : Below) (procs : List Proc) (
   apart j k p less within c d = (are_groups.together j k p p c d).1 (there, there)
 
   increasing : (group : List ℕ) → Contains groups group → IsStrictlyIncreasing group
-  increasing group (k, within, e) = subst IsStrictlyIncreasing (get_or_default groups k [] group within ∙ e) (are_groups.rising k within)
+  increasing group (k, within, e) = subst IsStrictlyIncreasing (get_or_default groups k [] group within ∙ e) (are_groups.ascending k within)
 
   -- each procedure is a member of a group
   grouped : (p : ℕ) → p < length procs → (group : List ℕ) × Contains groups group × Contains group p

@@ -13,7 +13,7 @@ use Rattle.rt_texts.specs.declared.fault.TextFault.TheVariants.{BadText, Memory}
 use Rattle.rt_texts.specs.Goods.{IsLine, IsJudge}
 use Rattle.rt_texts.specs.Texts.{base_text, word_text, dtv_text, constant_text, line_text, judge_text}
 use Rattle.rt_texts.specs.Readings.{HasNo, IsCut, IsNoText}
-use Rattle.rt_texts.specs.Sides.{IsPair, IsBound, IsRelation, pair_texts, bound_texts, side_texts}
+use Rattle.rt_texts.specs.Inside.Sides.{IsPair, IsBound, IsRelation, pair_texts, bound_texts, side_texts}
 use Rattle.rt_texts.proofs.Clear.{HasNo-dtv, HasNo-constant}
 use Rattle.rt_texts.proofs.Cuts.{one_cut}
 

@@ -1,5 +1,5 @@
 pub mod Texts
 pub mod Goods
 pub mod Readings
-pub mod Sides
 pub mod Laws
+pub mod Inside

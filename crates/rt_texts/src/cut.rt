@@ -21,7 +21,7 @@ pub fn split_before(text: &[u8], byte: u8) -> (&[u8], &[u8])
     (text, b"")
 }
 
-/// What follows the front of a text; none where the text does not begin with the front.
+/// What follows the prefix of a text; none where the text does not begin with it.
 pub fn after_front<'a>(text: &'a [u8], front: &[u8]) -> Option<&'a [u8]>
     ensures { MatchOption result ((rest : List ℕ) → text.now ≢ front.now ++ rest) (λ rest. text.now ≡ front.now ++ rest.now) }
 {

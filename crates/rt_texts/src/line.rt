@@ -2,7 +2,7 @@
 ghost use Rattle.std.specs.Prelude.{◌<◌, ◌++◌, codes, length};
 ghost use Rattle.rt_texts.specs.Goods.{IsLine, IsJudge};
 ghost use Rattle.rt_texts.specs.Readings.{Reads, ReadsOrFails};
-ghost use Rattle.rt_texts.specs.Sides.{IsPair, IsBound, IsRelation, pair_texts, bound_texts, side_texts};
+ghost use Rattle.rt_texts.specs.Inside.Sides.{IsPair, IsBound, IsRelation, pair_texts, bound_texts, side_texts};
 ghost use Rattle.rt_texts.specs.Texts.{dtv_text, constant_text, line_text, judge_text};
 
 use crate::cut::{after_front, split_before};

@@ -9,7 +9,7 @@ use rt_base::Memory;
 use rt_lines::{Base, Dtv, Label, Line, Loc, Names, Word};
 use std::alloc::Global;
 
-/// Adds a number in decimal at the end. After want of memory the bytes are as they were.
+/// Adds a number in decimal at the end. When out of memory, the bytes are as they were.
 pub fn print_number(n: u32, out: &mut Vec<u8>) -> Result<(), Memory>
     ensures ok { OnOk result (out.new.items ≡ out.old.items ++ decimal n) }
     ensures err { OnErr result (out.new.items ≡ out.old.items) }
@@ -18,7 +18,7 @@ pub fn print_number(n: u32, out: &mut Vec<u8>) -> Result<(), Memory>
     out.extend_from_slice(buffer.format(n).as_bytes())
 }
 
-/// Adds a fixed text and a number in decimal at the end. The error is want of memory.
+/// Adds a fixed text and a number in decimal at the end. The error is out of memory.
 pub fn print_numbered(front: &[u8], n: u32, out: &mut Vec<u8>) -> Result<(), Memory>
     ensures { OnOk result (out.new.items ≡ out.old.items ++ (front.now ++ decimal n)) }
 {
@@ -36,7 +36,7 @@ fn push_field(width: u8, offset: i32, out: &mut Vec<u8>) -> Result<(), Memory>
     out.extend_from_slice(buffer.format(offset).as_bytes())
 }
 
-/// Adds a label's text at the end. The error is want of memory.
+/// Adds a label's text at the end. The error is out of memory.
 pub fn print_label(label: Label, out: &mut Vec<u8>) -> Result<(), Memory>
     ensures { OnOk result (out.new.items ≡ out.old.items ++ label_text label) }
 {
@@ -129,7 +129,7 @@ fn push_line(line: &Line, names: &Names, out: &mut Vec<u8>) -> Result<(), Memory
 }
 
 /// Adds the one text of a derived variable at the end: its base, and a dot and a label for each letter.
-/// After want of memory the bytes are as they were.
+/// When out of memory, the bytes are as they were.
 pub fn print_variable(variable: &Dtv, out: &mut Vec<u8>) -> Result<(), Memory>
     ensures ok { OnOk result (out.new.items ≡ out.old.items ++ dtv_text variable.now) }
     ensures err { OnErr result (out.new.items ≡ out.old.items) }
@@ -140,7 +140,7 @@ pub fn print_variable(variable: &Dtv, out: &mut Vec<u8>) -> Result<(), Memory>
 }
 
 /// Adds the one text of a line at the end, without a line end: a constant stands in it by its name, and
-/// every constant of the line has one. After want of memory the bytes are as they were.
+/// every constant of the line has one. When out of memory, the bytes are as they were.
 pub fn print_line(line: &Line, names: &Names, out: &mut Vec<u8>) -> Result<(), Memory>
     requires { HasConstantsBelow (length names.now) line.now }
     ensures ok { OnOk result (out.new.items ≡ out.old.items ++ line_text names.now line.now) }
@@ -164,7 +164,7 @@ fn push_lines(lines: &[Line], names: &Names, out: &mut Vec<u8>) -> Result<(), Me
 }
 
 /// Adds the text of a list of lines at the end: each line's text and a line end (byte 10). Every constant
-/// of the lines has a name. After want of memory the bytes are as they were.
+/// of the lines has a name. When out of memory, the bytes are as they were.
 pub fn print_lines(lines: &[Line], names: &Names, out: &mut Vec<u8>) -> Result<(), Memory>
     requires { All (HasConstantsBelow (length names.now)) lines.now }
     ensures ok { OnOk result (out.new.items ≡ out.old.items ++ lines_text names.now lines.now) }

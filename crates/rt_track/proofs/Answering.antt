@@ -17,10 +17,10 @@ use Rattle.rt_track.specs.declared.nodes.Input.{Input}
 use Rattle.rt_track.specs.declared.nodes.Input.TheVariants as input
 use Rattle.rt_track.specs.declared.nodes.Node.{Node as GraphNode}
 use Rattle.rt_track.specs.Candidates.{Use, Definition, IsCandidate, IsValue}
-use Rattle.rt_track.specs.Changes.{change_at, IsRising}
-use Rattle.rt_track.specs.Definitions.{AreDefinitions}
-use Rattle.rt_track.specs.Inputs.{AreAllUses, AreNodes, def_input, node_or, use_in}
-use Rattle.rt_track.specs.Nodes.{IsSolved, value_in}
+use Rattle.rt_track.specs.Changes.{change_at, IsAscending}
+use Rattle.rt_track.specs.Inside.Definitions.{AreDefinitions}
+use Rattle.rt_track.specs.Inside.Inputs.{AreAllUses, AreNodes, def_input, node_or, use_in}
+use Rattle.rt_track.specs.Inside.Nodes.{IsSolved, value_in}
 use Rattle.rt_track.specs.Operations.{number_in, op_in, ops_sites}
 use Rattle.rt_track.specs.Told.{sites_of, value_at, value_of}
 use Rattle.rt_track.specs.Tracked.{AreValuesOf}
@@ -33,10 +33,10 @@ abbrev pub valued : List (Option Value) → List (ℕ × Input) → List (ℕ ×
 valued states changes = map (λ c. (c.0, value_in states c.1)) changes
 
 -- their sites rise as before
-rising_valued : (states : List (Option Value)) (changes : List (ℕ × Input)) → IsRising changes → IsRising (valued states changes)
-rising_valued states changes rising i j d le less =
+ascending_valued : (states : List (Option Value)) (changes : List (ℕ × Input)) → IsAscending changes → IsAscending (valued states changes)
+ascending_valued states changes ascending i j d le less =
     let short : j < length changes = simp length-map at less in
-    let before : (slice_index_or changes i (d.0, input.Nothing)).0 ≤ (slice_index_or changes j (d.0, input.Nothing)).0 = rising i j (d.0, input.Nothing) le short in
+    let before : (slice_index_or changes i (d.0, input.Nothing)).0 ≤ (slice_index_or changes j (d.0, input.Nothing)).0 = ascending i j (d.0, input.Nothing) le short in
     subst (λ p. p.0 ≤ (slice_index_or (valued states changes) j d).0) (sym (get_or-map (λ c. (c.0, value_in states c.1)) changes i (d.0, input.Nothing) d (omega arith)))
     (subst (λ p. (slice_index_or changes i (d.0, input.Nothing)).0 ≤ p.0) (sym (get_or-map (λ c. (c.0, value_in states c.1)) changes j (d.0, input.Nothing) d short)) before)
 
@@ -45,12 +45,12 @@ module _ (reach : Reach) (ops : Ops) (joins : List (Input × Input)) (uses : Lis
   pub each_valued : (rows : List (List (ℕ × Value))) → rows ≡ map (valued states) uses → length rows ≡ 32
   each_valued rows e = ap length e ∙ length-map uses (valued states) ∙ are_uses.each
 
-  pub all_rising : (rows : List (List (ℕ × Value))) → rows ≡ map (valued states) uses → All (λ changes. IsRising changes) rows
-  all_rising rows e k d less =
+  pub all_ascending : (rows : List (List (ℕ × Value))) → rows ≡ map (valued states) uses → All (λ changes. IsAscending changes) rows
+  all_ascending rows e k d less =
       let within : k < 32 = subst (λ n. k < n) (each_valued rows e) less in
       let short : k < length uses = subst (λ n. k < n) (sym are_uses.each) within in
       let row : slice_index_or rows k d ≡ valued states (slice_index_or uses k []) = ap (λ (rs : List (List (ℕ × Value))). slice_index_or rs k d) e ∙ get_or-map (valued states) uses k [] d short in
-      subst (λ (cs : List (ℕ × Value)). IsRising cs) (sym row) (rising_valued states (slice_index_or uses k []) (are_uses.each_uses k within).rising)
+      subst (λ (cs : List (ℕ × Value)). IsAscending cs) (sym row) (ascending_valued states (slice_index_or uses k []) (are_uses.each_uses k within).ascending)
 
   module _ (same_sites : ops_sites ops ≡ reaching.sites_of reach) (told : (body : Body) → IsReachOf body reach → (site : ℕ) (loc : ℤ) → site < reaching.sites_of reach → AreReaching body loc site (defs_in reach site loc))
       (nodes : List GraphNode) (are_nodes : AreNodes ops uses joins nodes) (solved : IsSolved nodes states) (values : Values) (rows_are : values.uses.items ≡ map (valued states) uses) (definitions_are : AreDefinitions ops states values.definitions) (sites_are : values.sites ≡ reaching.sites_of reach) where

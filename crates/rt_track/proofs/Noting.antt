@@ -8,7 +8,7 @@ use Rattle.rt_flow.proofs.Pushed.{pushed, pushed_kept, pushed_here, pushed_cases
 use Rattle.rt_track.specs.declared.nodes.Input.{Input}
 use Rattle.rt_track.specs.declared.nodes.Input.TheVariants as input
 use Rattle.rt_track.specs.declared.nodes.Node.{Node}
-use Rattle.rt_track.specs.Nodes.{AreReaders, Notes, NotesBoth, NotesNode, Takes}
+use Rattle.rt_track.specs.Inside.Nodes.{AreReaders, Notes, NotesBoth, NotesNode, Takes}
 
 -- nothing is noted of what is no node's value
 pub passed : (old : List (List ℕ)) (x : Input) (reader : ℕ) → ((i : ℕ) → i < length old → x ≡ input.Node i → ⊥) → Notes old x reader old

@@ -4,7 +4,7 @@ use Rattle.rt_track.specs.declared.value.Value.{Value}
 use Rattle.rt_track.specs.declared.value.Value.TheVariants.{Multi}
 use Rattle.rt_track.specs.declared.nodes.Input.{Input}
 use Rattle.rt_track.specs.declared.nodes.Node.TheVariants as node
-use Rattle.rt_track.specs.Nodes.{Covers, Gives, IsGiven, IsJoined, state_of}
+use Rattle.rt_track.specs.Inside.Nodes.{Covers, Gives, IsGiven, IsJoined, state_of}
 
 -- the value of a join takes in both values, and is one of them, or several where they differ
 pub join_given : (states : List (Option Value)) (a b : Input) (r : Option Value) → IsJoined (state_of states a) (state_of states b) r → IsGiven states (node.Join a b) r

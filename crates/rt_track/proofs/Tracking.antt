@@ -22,10 +22,10 @@ use Rattle.rt_track.specs.declared.nodes.Node.TheVariants as node
 use Rattle.rt_track.specs.declared.nodes.Node.{Node as GraphNode}
 use Rattle.rt_track.specs.Candidates.{Node, Use, Definition, IsCandidate, IsSole, IsValue, entry_value}
 use Rattle.rt_track.specs.Candidates.IsCandidate.{of_zero, of_reaching, of_entry, of_own, of_const, of_sym, of_add_i, of_add, of_several}
-use Rattle.rt_track.specs.Inputs.{AreAllUses, AreNodes, Gathers, IsOfSource, IsUse, def_input, node_of, node_or, use_in}
-use Rattle.rt_track.specs.Inputs.Gathers.{none as gathers_none, more as gathers_more}
-use Rattle.rt_track.specs.Nodes.{Covers, Gives, IsSolved, Made, state_of, value_in}
-use Rattle.rt_track.specs.Nodes.Made.{known, fixed, left, right, raised, added, several}
+use Rattle.rt_track.specs.Inside.Inputs.{AreAllUses, AreNodes, Gathers, IsOfSource, IsUse, def_input, node_of, node_or, use_in}
+use Rattle.rt_track.specs.Inside.Inputs.Gathers.{none as gathers_none, more as gathers_more}
+use Rattle.rt_track.specs.Inside.Nodes.{Covers, Gives, IsSolved, Made, state_of, value_in}
+use Rattle.rt_track.specs.Inside.Nodes.Made.{known, fixed, left, right, raised, added, several}
 use Rattle.rt_track.specs.Operations.{entries_of, number_in, op_in, ops_sites}
 use Rattle.rt_track.specs.Placed.{NamesRegisters}
 use Rattle.rt_track.specs.Values.{plus, sum}

@@ -12,9 +12,9 @@ use Rattle.rt_flow.specs.declared.source.Source.TheVariants.{Own, Shared}
 use Rattle.rt_track.specs.declared.ops.Ops.{Ops}
 use Rattle.rt_track.specs.declared.nodes.Input.{Input}
 use Rattle.rt_track.specs.declared.nodes.Input.TheVariants as input
-use Rattle.rt_track.specs.Inputs.{AreAllUses, AreKnown, AreUses, Finds, Gathers, IsOfSource, IsUse, Keeps, def_input}
-use Rattle.rt_track.specs.Inputs.Gathers.{none, more}
-use Rattle.rt_track.specs.Changes.{change_at, IsRising}
+use Rattle.rt_track.specs.Inside.Inputs.{AreAllUses, AreKnown, AreUses, Finds, Gathers, IsOfSource, IsUse, Keeps, def_input}
+use Rattle.rt_track.specs.Inside.Inputs.Gathers.{none, more}
+use Rattle.rt_track.specs.Changes.{change_at, IsAscending}
 use Rattle.rt_track.specs.Operations.{entries_of}
 use Rattle.rt_track.proofs.Changing.{change_at-push}
 use Rattle.rt_flow.specs.Reaching.{sites_of}
@@ -60,8 +60,8 @@ use_of_source reach ops joins zero s x some is = absurd (omega arith)
 use_of_source reach ops joins (suc r) s x some is = is
 
 -- a change behind the others
-rising_push : (changes : List (ℕ × Input)) (c : ℕ × Input) → IsRising changes → ((k : ℕ) (d : ℕ × Input) → k < length changes → (slice_index_or changes k d).0 ≤ c.0) → IsRising (changes ++ c ∷ [])
-rising_push changes c rising below i j d le less = by (cases_lt j (length changes)) (cases_lt i (length changes))
+ascending_push : (changes : List (ℕ × Input)) (c : ℕ × Input) → IsAscending changes → ((k : ℕ) (d : ℕ × Input) → k < length changes → (slice_index_or changes k d).0 ≤ c.0) → IsAscending (changes ++ c ∷ [])
+ascending_push changes c ascending below i j d le less = by (cases_lt j (length changes)) (cases_lt i (length changes))
   where
     long : length (changes ++ c ∷ []) ≡ length changes + 1
     long = length-append changes (c ∷ [])
@@ -73,7 +73,7 @@ rising_push changes c rising below i j d le less = by (cases_lt j (length change
     at_end k h = get_or_push changes c d k h
 
     by : (j < length changes) ⊎ (length changes ≤ j) → (i < length changes) ⊎ (length changes ≤ i) → (slice_index_or (changes ++ c ∷ []) i d).0 ≤ (slice_index_or (changes ++ c ∷ []) j d).0
-    by (inl h) (inl g) = subst (λ p. p.0 ≤ (slice_index_or (changes ++ c ∷ []) j d).0) (sym (old i g)) (subst (λ p. (slice_index_or changes i d).0 ≤ p.0) (sym (old j h)) (rising i j d le h))
+    by (inl h) (inl g) = subst (λ p. p.0 ≤ (slice_index_or (changes ++ c ∷ []) j d).0) (sym (old i g)) (subst (λ p. (slice_index_or changes i d).0 ≤ p.0) (sym (old j h)) (ascending i j d le h))
     by (inl h) (inr g) = absurd (omega arith)
     by (inr h) (inl g) = subst (λ p. p.0 ≤ (slice_index_or (changes ++ c ∷ []) j d).0) (sym (old i g)) (subst (λ p. (slice_index_or changes i d).0 ≤ p.0) (sym (at_end j (omega (arith, long)))) (below i d g))
     by (inr h) (inr g) = subst (λ p. p.0 ≤ (slice_index_or (changes ++ c ∷ []) j d).0) (sym (at_end i (omega (arith, long)))) (subst (λ p. c.0 ≤ p.0) (sym (at_end j (omega (arith, long)))) (omega arith))
@@ -85,7 +85,7 @@ pub record IsChanging (reach : Reach) (ops : Ops) (r : ℕ) (start : List (Input
   pub are_known : AreKnown reach ops joins r known
   pub past : (t : ℕ) → t < site → IsOfSource reach ops joins r (source_in reach t (pos r)) (change_at changes t input.Nothing)
   pub ahead : (source : Source) → last ≡ Some source → (t : ℕ) → site ≤ t → IsOfSource reach ops joins r source (change_at changes t input.Nothing)
-  pub rising : IsRising changes
+  pub ascending : IsAscending changes
   pub below : (k : ℕ) (d : ℕ × Input) → k < length changes → (slice_index_or changes k d).0 < site
 
 module _ (reach : Reach) (ops : Ops) (r : ℕ) (start : List (Input × Input)) where
@@ -96,7 +96,7 @@ module _ (reach : Reach) (ops : Ops) (r : ℕ) (start : List (Input × Input)) w
     are_known = λ n x e. absurd (clash x (sym (empty n) ∙ e));
     past = λ t less. absurd (omega arith);
     ahead = λ source e. absurd (other source e);
-    rising = λ i j d le less. absurd (omega arith);
+    ascending = λ i j d le less. absurd (omega arith);
     below = λ k d less. absurd (omega arith);
   }
     where
@@ -116,7 +116,7 @@ module _ (reach : Reach) (ops : Ops) (r : ℕ) (start : List (Input × Input)) w
       are_known = is.are_known;
       past = λ t less. past t less (cases_lt t site);
       ahead = λ other e t le. is.ahead other e t (omega arith);
-      rising = is.rising;
+      ascending = is.ascending;
       below = λ k d less. let h = is.below k d less in omega arith;
     }
       where
@@ -136,7 +136,7 @@ module _ (reach : Reach) (ops : Ops) (r : ℕ) (start : List (Input × Input)) w
       are_known = finds.are_known;
       past = λ t less. past t less (cases_lt t site);
       ahead = λ other e t le. subst (λ q. IsOfSource reach ops joins' r q (change_at (changes ++ (site, x) ∷ []) t input.Nothing)) (one other e) (here t (omega arith));
-      rising = rising_push changes (site, x) is.rising (λ k d less. let h = is.below k d less in omega arith);
+      ascending = ascending_push changes (site, x) is.ascending (λ k d less. let h = is.below k d less in omega arith);
       below = λ k d less. below k d less (cases_lt k (length changes));
     })
       where
@@ -163,7 +163,7 @@ module _ (reach : Reach) (ops : Ops) (r : ℕ) (start : List (Input × Input)) w
   -- all sites
   pub all_changes : (site : ℕ) (joins : List (Input × Input)) (known : List (Option Input)) (changes : List (ℕ × Input)) (last : Option Source) → IsChanging reach ops r start site joins known changes last → sites_of reach ≤ site → 0 < r → AreUses reach ops joins r changes
   all_changes site joins known changes last is whole some = record {
-    rising = is.rising;
+    ascending = is.ascending;
     at = λ s less. use_of_source reach ops joins r s (change_at changes s input.Nothing) some (is.past s (omega arith));
   }
 
@@ -199,7 +199,7 @@ pub record AreFirstUses (reach : Reach) (ops : Ops) (joins : List (Input × Inpu
   pub first_uses : (r : ℕ) → r < reg → AreUses reach ops joins r (slice_index_or uses r [])
 
 pub uses_still : (reach : Reach) (ops : Ops) (joins joins' : List (Input × Input)) → Keeps joins joins' → (r : ℕ) (changes : List (ℕ × Input)) → AreUses reach ops joins r changes → AreUses reach ops joins' r changes
-uses_still reach ops joins joins' keeps r changes are = record { rising = are.rising; at = λ s less. use_still ops joins joins' keeps reach r s (change_at changes s input.Nothing) (are.at s less) }
+uses_still reach ops joins joins' keeps r changes are = record { ascending = are.ascending; at = λ s less. use_still ops joins joins' keeps reach r s (change_at changes s input.Nothing) (are.at s less) }
 
 pub one_more_register : (reach : Reach) (ops : Ops) (joins joins' : List (Input × Input)) (reg : ℕ) (uses : List (List (ℕ × Input))) → AreFirstUses reach ops joins reg uses → Keeps joins joins'
     → (changes : List (ℕ × Input)) → AreUses reach ops joins' reg changes → (uses' : List (List (ℕ × Input))) → uses' ≡ uses ++ changes ∷ [] → AreFirstUses reach ops joins' (reg + 1) uses'

@@ -13,8 +13,8 @@ use Rattle.rt_track.specs.declared.nodes.Input.{Input}
 use Rattle.rt_track.specs.declared.nodes.Input.TheVariants as input
 use Rattle.rt_track.specs.declared.nodes.Node.{Node}
 use Rattle.rt_track.specs.declared.nodes.Node.TheVariants as node
-use Rattle.rt_track.specs.Nodes.{AreReaders, Covers, Gives, IsClosed, IsGiven, IsRisen, IsSolved, Made, Rises, Takes, Visits, state_of}
-use Rattle.rt_track.specs.Nodes.Made.{known, fixed, left, right, raised, added, several}
+use Rattle.rt_track.specs.Inside.Nodes.{AreReaders, Covers, Gives, IsClosed, IsGiven, IsRisen, IsSolved, Made, Rises, Takes, Visits, state_of}
+use Rattle.rt_track.specs.Inside.Nodes.Made.{known, fixed, left, right, raised, added, several}
 
 -- a node stands once at a number
 one_node : (nodes : List Node) (i : ℕ) (m n : Node) → slice_get nodes i ≡ Some m → slice_get nodes i ≡ Some n → m ≡ n

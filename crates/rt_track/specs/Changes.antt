@@ -8,5 +8,5 @@ change_at [] site x = x
 change_at (c ∷ cs) site x = change_at cs site (if nat_le c.0 site then c.1 else x)
 
 -- the sites of changes rise
-abbrev pub IsRising : {X : Type 0} → List (ℕ × X) → Type 0
-IsRising changes = IsNonDecreasingBy (λ c. c.0) changes
+abbrev pub IsAscending : {X : Type 0} → List (ℕ × X) → Type 0
+IsAscending changes = IsNonDecreasingBy (λ c. c.0) changes

@@ -2,9 +2,7 @@ pub mod Values
 pub mod Candidates
 pub mod Placed
 pub mod Operations
-pub mod Nodes
 pub mod Changes
-pub mod Inputs
-pub mod Definitions
 pub mod Told
 pub mod Tracked
+pub mod Inside

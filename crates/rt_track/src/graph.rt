@@ -1,7 +1,7 @@
 // The nodes of definitions with an operation, and of joins.
 ghost use Rattle.std.specs.Prelude.{◌≡◌, ◌<◌, ℕ, [], IfOk, length, slice_index_or};
-ghost use Rattle.rt_track.specs.Changes.{IsRising};
-ghost use Rattle.rt_track.specs.Inputs.{node_of, use_in, AreNodes};
+ghost use Rattle.rt_track.specs.Changes.{IsAscending};
+ghost use Rattle.rt_track.specs.Inside.Inputs.{node_of, use_in, AreNodes};
 ghost use Rattle.rt_track.specs.Placed.{NamesRegisters};
 
 use crate::changes::change_at;
@@ -15,7 +15,7 @@ use std::alloc::Global;
 // What a use of a register at a site takes.
 fn use_at(uses: &[Sequence<(u32, Input)>], site: u32, reg: u8) -> Input
     requires reg { reg < length uses.now }
-    requires rising { (r : ℕ) → r < length uses.now → IsRising (slice_index_or uses.now r []) }
+    requires ascending { (r : ℕ) → r < length uses.now → IsAscending (slice_index_or uses.now r []) }
     ensures { result ≡ use_in uses.now site reg }
 {
     change_at(uses[reg as usize].items(), site, Input::Nothing)
@@ -24,7 +24,7 @@ fn use_at(uses: &[Sequence<(u32, Input)>], site: u32, reg: u8) -> Input
 // The node of a definition of a register by its operation.
 fn node(uses: &[Sequence<(u32, Input)>], site: u32, reg: u8, op: Op) -> Node
     requires each { length uses.now ≡ 32 }
-    requires rising { (r : ℕ) → r < length uses.now → IsRising (slice_index_or uses.now r []) }
+    requires ascending { (r : ℕ) → r < length uses.now → IsAscending (slice_index_or uses.now r []) }
     requires named { NamesRegisters op }
     ensures { result ≡ node_of (use_in uses.now site) site reg op }
 {
@@ -42,7 +42,7 @@ fn node(uses: &[Sequence<(u32, Input)>], site: u32, reg: u8, op: Op) -> Node
 }
 
 /// The nodes of definitions with an operation, in the order of their numbers, and those of joins behind them. The error is
-/// want of memory.
+/// out of memory.
 pub(crate) fn nodes(
     alloc: Global,
     ops: &Ops,
@@ -50,7 +50,7 @@ pub(crate) fn nodes(
     joins: &[(Input, Input)],
 ) -> Result<Vec<Node>, Memory>
     requires each { length uses.now ≡ 32 }
-    requires rising { (r : ℕ) → r < length uses.now → IsRising (slice_index_or uses.now r []) }
+    requires ascending { (r : ℕ) → r < length uses.now → IsAscending (slice_index_or uses.now r []) }
     ensures { IfOk result (λ nodes. AreNodes ops.now uses.now joins.now nodes.items) }
 {
     let mut nodes = Vec::with_capacity(alloc, ops.count())?;

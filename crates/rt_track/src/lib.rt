@@ -28,7 +28,7 @@ pub use values::Values;
 
 /// The values of registers, where these definitions reach sites, and definitions have these operations. The time is linear, but
 /// for logarithms, in sites times registers and in the members of the shared lists of registers that sites use; the answer is
-/// linear in definitions and in how often the definitions that reach change from site to site. The error is want of memory.
+/// linear in definitions and in how often the definitions that reach change from site to site. The error is out of memory.
 pub fn track(alloc: Global, reach: &Reach, ops: &Ops) -> Result<Values, Memory>
     requires { ops_sites ops.now ≡ sites_of reach.now }
     ensures { IfOk result (AreValuesOf reach.now ops.now) }

@@ -1,6 +1,6 @@
 // Nodes that take each other's values.
 ghost use Rattle.std.specs.Prelude.{◌≡◌};
-ghost use Rattle.rt_track.specs.Nodes.{state_of, IsGiven, IsJoined};
+ghost use Rattle.rt_track.specs.Inside.Nodes.{state_of, IsGiven, IsJoined};
 
 use crate::value::Value;
 

@@ -20,7 +20,7 @@ pub struct Ops {
 impl Ops {
     ghost use Rattle.rt_track.specs.Operations.{entries_of, number_in, op_in, ops_sites};
 
-    /// No operations, for so many sites. The error is want of memory.
+    /// No operations, for so many sites. The error is out of memory.
     pub fn new(alloc: Global, sites: u32) -> Result<Ops, Memory>
         ensures sites { IfOk result (λ ops. ops_sites ops ≡ sites) }
         ensures own { IfOk result (λ ops. (s r : ℕ) → op_in ops s r ≡ Op.Own) }
@@ -29,7 +29,7 @@ impl Ops {
         Ok(Ops { sites, given })
     }
 
-    /// Gives an operation to the definition of a register at a site, in place of the one that it had. After want of memory
+    /// Gives an operation to the definition of a register at a site, in place of the one that it had. When out of memory,
     /// each definition has the operation that it had.
     pub fn set(&mut self, site: u32, reg: u8, op: Op) -> Result<(), Memory>
         requires site { site < ops_sites self.old }

@@ -1,6 +1,6 @@
 // What nodes have: they are visited until each has what its inputs give it.
 ghost use Rattle.std.specs.Prelude.{◌≡◌, ℕ, ◌<◌, ◌++◌, Contains, IfOk, MatchOption, OnOk, length, slice_get, slice_index_or};
-ghost use Rattle.rt_track.specs.Nodes.{AreReaders, Covers, IsRisen, IsSolved, Notes, NotesBoth, NotesNode, Visits};
+ghost use Rattle.rt_track.specs.Inside.Nodes.{AreReaders, Covers, IsRisen, IsSolved, Notes, NotesBoth, NotesNode, Visits};
 
 use crate::nodes::{Input, Node};
 use crate::value::Value;
@@ -116,7 +116,7 @@ fn visit(
 }
 
 /// What each node has, if it has a value: the one that it may have, or several. The time is linear in nodes, since each rises
-/// twice at most. The error is want of memory.
+/// twice at most. The error is out of memory.
 pub(crate) fn solve(alloc: Global, nodes: &[Node]) -> Result<Vec<Option<Value>>, Memory>
     ensures { IfOk result (λ states. IsSolved nodes.now states.items) }
 {

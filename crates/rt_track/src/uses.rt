@@ -2,7 +2,7 @@
 ghost use Rattle.std.specs.Prelude.{◌≡◌, ◌<◌, IfOk, OnOk, IsTrue, ◌↔◌, Some, length};
 ghost use Rattle.rt_flow.specs.Sources.{shared_count_of, shared_in, IsSourceIn};
 ghost use Rattle.rt_track.specs.Candidates.{entry_value};
-ghost use Rattle.rt_track.specs.Inputs.{def_input, node_or, AreAllUses, AreKnown, AreUses, Finds, Gathers, Keeps};
+ghost use Rattle.rt_track.specs.Inside.Inputs.{def_input, node_or, AreAllUses, AreKnown, AreUses, Finds, Gathers, Keeps};
 ghost use Rattle.rt_flow.specs.declared.source.Source.TheVariants.{Shared};
 
 use crate::nodes::Input;
@@ -154,7 +154,7 @@ fn uses_of(
 }
 
 /// What the uses of each register take, from site to site, and the joins of what definitions in shared lists have. The error
-/// is want of memory.
+/// is out of memory.
 pub(crate) fn uses(
     alloc: Global,
     reach: &Reach,

@@ -1,8 +1,8 @@
 // The values of registers.
 ghost use Rattle.std.specs.Prelude.{◌≡◌, ◌<◌, All, IfOk, length, map};
-ghost use Rattle.rt_track.specs.Changes.{IsRising};
-ghost use Rattle.rt_track.specs.Nodes.{value_in};
-ghost use Rattle.rt_track.specs.Definitions.{AreDefinitions};
+ghost use Rattle.rt_track.specs.Changes.{IsAscending};
+ghost use Rattle.rt_track.specs.Inside.Nodes.{value_in};
+ghost use Rattle.rt_track.specs.Inside.Definitions.{AreDefinitions};
 
 use crate::changes::change_at;
 use crate::nodes::Input;
@@ -21,7 +21,7 @@ pub struct Values {
     // The values of definitions that have an operation.
     pub(crate) definitions: HashMap<(u32, u8), Value>,
     ghost each: { length uses.items ≡ 32 },
-    ghost rising: { All (λ changes. IsRising changes) uses.items },
+    ghost ascending: { All (λ changes. IsAscending changes) uses.items },
 }
 
 #[tactic(auto, unfolding(crate::specs::Told::sites_of, crate::specs::Told::value_at, crate::specs::Told::value_of))]
@@ -75,7 +75,7 @@ fn valued(
     Ok(values)
 }
 
-/// The values of the uses of each register. The error is want of memory.
+/// The values of the uses of each register. The error is out of memory.
 pub(crate) fn use_values(
     alloc: Global,
     uses: &[Sequence<(u32, Input)>],
@@ -91,7 +91,7 @@ pub(crate) fn use_values(
     Ok(values)
 }
 
-/// The values of definitions that have an operation. The error is want of memory.
+/// The values of definitions that have an operation. The error is out of memory.
 pub(crate) fn definition_values(
     alloc: Global,
     ops: &Ops,

@@ -6,7 +6,7 @@ use Rattle.std.proofs.lemmas.Option.{slice_get_within}
 use Rattle.rt_lines.specs.declared.label.Label.TheVariants.{In}
 use Rattle.rt_lines.specs.declared.label.Loc.TheVariants.{Arg}
 use Rattle.rt_tree.specs.declared.links.Link.{Link}
-use Rattle.rt_tree.specs.Splits.{AreFirstLabels, label_row, link_of, links_from, links_of}
+use Rattle.rt_tree.specs.Inside.Splits.{AreFirstLabels, label_row, link_of, links_from, links_of}
 use Rattle.rt_tree.specs.Trees.{Nodes, leaf, node_at}
 use Rattle.rt_tree.proofs.Firsts.{AreFirsts}
 

@@ -12,7 +12,7 @@ use Rattle.rt_lines.specs.declared.label.Label.{Label}
 use Rattle.rt_tree.specs.declared.links.Link.{Link}
 use Rattle.rt_tree.specs.Pairs.{ArePaired}
 use Rattle.rt_tree.specs.Partitions.{AreCoarseClasses, AreToldNodes}
-use Rattle.rt_tree.specs.Splits.{AreAlike, AreFirstLabels, AreInto, AreIntoTo, AreLed, AreTold, IsIn, IsSplit, LeadsBy, link_of, links_from, links_of}
+use Rattle.rt_tree.specs.Inside.Splits.{AreAlike, AreFirstLabels, AreInto, AreIntoTo, AreLed, AreTold, IsIn, IsSplit, LeadsBy, link_of, links_from, links_of}
 use Rattle.rt_tree.specs.Trees.{Nodes, node_at, AreLike, IsEdge}
 use Rattle.rt_tree.proofs.Alike.{edges_of, like_edges}
 use Rattle.rt_tree.proofs.Moving.{row_added, row_kept, row_only}

@@ -6,7 +6,7 @@ use Rattle.std.proofs.lemmas.Bool.{cases_eq, eqb-true, eq-eqb}
 use Rattle.std.proofs.lemmas.List.{get_or_append_left, get_or_default, get_or_past, get_or_push}
 use Rattle.std.proofs.lemmas.List.Elements.{Contains-append_left, Contains-push, Contains-push_cases}
 use Rattle.rt_base.proofs.Lists.{Contains-none, Contains-at, Contains-flat_map, Contains-flat_map_source, filter-has, filter-source}
-use Rattle.rt_tree.specs.Splits.{AreBlocks, HasMoreRows, IsIn, IsMoved, IsSplitTo, IsTwin, AreLed, led_to, living_in}
+use Rattle.rt_tree.specs.Inside.Splits.{AreBlocks, HasMoreRows, IsIn, IsMoved, IsSplitTo, IsTwin, AreLed, led_to, living_in}
 
 two_ways : (i j : ℕ) → (j < i) ⊎ (i ≤ j)
 two_ways i j = search (arith)

@@ -6,7 +6,7 @@ use Rattle.std.proofs.lemmas.List.{get_or_append_left, get_or_push, length-set, 
 use Rattle.rt_lines.specs.declared.label.Label.{Label}
 use Rattle.rt_tree.specs.Trees.{Node, Nodes, ends_of, Stand, Numbered}
 use Rattle.rt_tree.specs.Pairs.{ArePaired}
-use Rattle.rt_tree.specs.Quotients.{IsEndOf, gaps, AreNumbers, IsNumberOf, Extends, Stands}
+use Rattle.rt_tree.specs.Inside.Quotients.{IsEndOf, gaps, AreNumbers, IsNumberOf, Extends, Stands}
 use Rattle.rt_base.proofs.Numbers.{last_or_before}
 
 -- no class has a number yet

@@ -16,7 +16,7 @@ use Rattle.rt_tree.specs.Labels.{label_cmp}
 use Rattle.rt_tree.specs.Trees.{Node, Nodes, leaf, edge_of, step_of, walk, marks_of, marks_from, ends_of, node_at, AreSame, AreLike, IsReached, IsMinimal, IsBreadthFirst, Stand, AreOrdered, IsEdge, IsNode, IsTree, IsReachedTree}
 use Rattle.rt_tree.specs.Pairs.{ArePaired}
 use Rattle.rt_tree.specs.Partitions.{AreClassesOf}
-use Rattle.rt_tree.specs.Quotients.{IsEndOf, IsImage, AreNumbers, Extends, Stands, IsQuotientOf, IsQuotient}
+use Rattle.rt_tree.specs.Inside.Quotients.{IsEndOf, IsImage, AreNumbers, Extends, Stands, IsQuotientOf, IsQuotient}
 use Rattle.rt_tree.proofs.Comparing.{not_less_itself}
 use Rattle.rt_tree.proofs.Edges.{each_weaker}
 use Rattle.rt_tree.proofs.Words.{step_in, walk_on}

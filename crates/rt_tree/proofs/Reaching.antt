@@ -132,7 +132,7 @@ grown_reached t from l x less none all n inside = by (cases n (length t) within)
         subst (IsReached (joined (t ++ x ∷ []) from l (length t))) new
         (h.0 ++ l ∷ [], walk_on (joined (t ++ x ∷ []) from l (length t)) 0 h.0 from l (length t) h.1 (new_step (t ++ x ∷ []) from l (length t) from_inside none))
 
--- with the edge, or as it was for want of memory
+-- with the edge, or as it was for out of memory
 pub edge_or_same : (t : Nodes) (from : ℕ) (l : Label) (to : ℕ) (node : Node) → IsReachedTree t → from < length t → IsLabel l → to < length t → step_of t from l ≡ None → (node ≡ longer_node (node_at t from) l to) ⊎ (node ≡ node_at t from) → IsReachedTree (set t from node)
 edge_or_same t from l to node good less label less' none (inl e) =
     subst (λ n. IsReachedTree (set t from n)) (sym e) (record { whole = with_joined t from l to good.whole less label less' none; reached = joined_reached t from l to less none good.reached })

@@ -2,8 +2,6 @@ pub mod Labels
 pub mod Kinds
 pub mod Trees
 pub mod Pairs
-pub mod Rooms
 pub mod Laws
 pub mod Partitions
-pub mod Quotients
-pub mod Splits
+pub mod Inside

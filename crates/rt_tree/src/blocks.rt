@@ -1,6 +1,6 @@
 // Items in blocks, which are split by what leads to one of them.
 ghost use Rattle.std.specs.Prelude.{◌≡◌, ℕ, ◌<◌, ◌≤◌, All, IfOk, OnOk, [], length, slice_index, slice_set};
-ghost use Rattle.rt_tree.specs.Splits.{AreBlocks, AreLed, HasMoreRows, IsMoved, IsSplit, IsTwin, led_to, living_in};
+ghost use Rattle.rt_tree.specs.Inside.Splits.{AreBlocks, AreLed, HasMoreRows, IsMoved, IsSplit, IsTwin, led_to, living_in};
 
 use crate::links::empty_rows;
 use rt_base::{Memory, Sequence};
@@ -30,7 +30,7 @@ pub(crate) struct Blocks {
 }
 
 impl Blocks {
-    /// The blocks that items are in. The error is want of memory.
+    /// The blocks that items are in. The error is out of memory.
     pub(crate) fn of(alloc: Global, class: Vec<usize>) -> Result<Blocks, Memory>
         requires { All (λ b. b < length class.items) class.items }
         ensures class { IfOk result (λ blocks. blocks.class.items ≡ class.items) }
@@ -70,7 +70,7 @@ impl Blocks {
         Ok(living)
     }
 
-    /// What leads to the items of a block. The error is want of memory.
+    /// What leads to the items of a block. The error is out of memory.
     pub(crate) fn led(
         &mut self,
         alloc: Global,
@@ -164,7 +164,7 @@ impl Blocks {
     }
 
     /// Puts what is led to into twins of the blocks: what was in one block is in one twin, which is new. The result has for each
-    /// of these items its block and the twin. The error is want of memory.
+    /// of these items its block and the twin. The error is out of memory.
     pub(crate) fn split(
         &mut self,
         alloc: Global,

@@ -81,7 +81,7 @@ impl Entry {
         if last == label { Some(end) } else { None }
     }
 
-    /// Adds an edge. After want of memory the node is as it was.
+    /// Adds an edge. When out of memory, the node is as it was.
     pub(crate) fn add(&mut self, label: Label, to: u32) -> Result<(), Memory>
         requires label { IsLabel label }
         requires edges { AllByRecursion (λ edge. IsLabel edge.0) self.old.edges }

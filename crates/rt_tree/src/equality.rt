@@ -28,7 +28,7 @@ pub struct Work {
 
 impl Model for Work {
     ghost use Rattle.std.specs.Prelude.{◌≡◌, ◌+◌, length};
-    ghost use Rattle.rt_tree.specs.Rooms.{Room};
+    ghost use Rattle.rt_tree.specs.Inside.Rooms.{Room};
 
     ghost Value = { Room };
 
@@ -39,7 +39,7 @@ impl Model for Work {
 }
 
 impl Work {
-    /// Room for trees of so many nodes. The error is want of memory.
+    /// Room for trees of so many nodes. The error is out of memory.
     pub fn new(alloc: Global, a: u32, b: u32) -> Result<Work, Memory>
         ensures first { IfOk result (λ work. work.first ≡ a) }
         ensures second { IfOk result (λ work. work.second ≡ b) }

@@ -2,7 +2,7 @@
 ghost use Rattle.std.specs.Prelude.{◌≡◌, ℕ, ◌+◌, ◌<◌, ◌≤◌, ◌^◌, ◌++◌, ◌∷◌, [], All, IfOk, OnOk};
 ghost use Rattle.std.specs.Prelude.{length, map, slice_index_or};
 ghost use Rattle.rt_lines.specs.Words.{IsLabel};
-ghost use Rattle.rt_tree.specs.Splits.{AreFirstLabels, AreInto, label_row, link_of, links_of};
+ghost use Rattle.rt_tree.specs.Inside.Splits.{AreFirstLabels, AreInto, label_row, link_of, links_of};
 
 use crate::entry::Entry;
 use crate::order::rank;
@@ -20,7 +20,7 @@ pub(crate) struct Link {
     pub(crate) to: usize,
 }
 
-/// The edges of all nodes, those of a node in order, nodes by their numbers. The error is want of memory.
+/// The edges of all nodes, those of a node in order, nodes by their numbers. The error is out of memory.
 pub(crate) fn links_of(alloc: Global, nodes: &[Entry]) -> Result<Vec<Link>, Memory>
     ensures { IfOk result (λ links. links.items ≡ links_of nodes.now) }
 {
@@ -46,7 +46,7 @@ fn add_links(links: &mut Vec<Link>, from: usize, edges: &[(Label, u32)]) -> Resu
     Ok(())
 }
 
-/// So many empty rows. The error is want of memory.
+/// So many empty rows. The error is out of memory.
 pub(crate) fn empty_rows(alloc: Global, count: usize) -> Result<Vec<Sequence<usize>>, Memory>
     ensures length { IfOk result (λ rows. length rows.items ≡ count) }
     ensures empty { IfOk result (λ rows. (v : ℕ) → slice_index_or rows.items v [] ≡ []) }
@@ -89,7 +89,7 @@ fn label_row(alloc: Global, label: Label) -> Result<Vec<usize>, Memory>
     Ok(row)
 }
 
-/// For each edge the first one with its label. The error is want of memory.
+/// For each edge the first one with its label. The error is out of memory.
 pub(crate) fn first_labels(alloc: Global, links: &[Link]) -> Result<Vec<usize>, Memory>
     requires { All (λ link. IsLabel link.label) links.now }
     ensures { IfOk result (λ first. AreFirstLabels links.now first.items) }

@@ -38,7 +38,7 @@ impl Graph {
         }
     }
 
-    /// Adds a node at the end, with its lower and its upper mark; the result is its number. The error is want of memory, or of
+    /// Adds a node at the end, with its lower and its upper mark; the result is its number. The error is out of memory, or of
     /// numbers of 32 bits, and the graph is as it was then.
     pub fn grow(&mut self, low: u16, up: u16) -> Result<u32, Memory>
         ensures ok { OnOk result (self.new ≡ self.old ++ leaf low up ∷ []) }
@@ -54,7 +54,7 @@ impl Graph {
         Ok(number)
     }
 
-    /// Adds an edge. After want of memory the graph is as it was.
+    /// Adds an edge. When out of memory, the graph is as it was.
     pub fn edge(&mut self, from: u32, label: &Label, to: u32) -> Result<(), Memory>
         requires from { from < length self.old }
         requires label { IsLabel label.now }
@@ -91,7 +91,7 @@ impl Model for Partition {
 
 impl Partition {
     /// Nodes are in one class if they have the same words and marks after them, and the first of them names it. The error is
-    /// want of memory.
+    /// out of memory.
     pub fn of(alloc: Global, graph: &Graph) -> Result<Partition, Memory>
         ensures { IfOk result (λ partition. AreClassesOf graph.now partition) }
     {

@@ -4,7 +4,7 @@ ghost use Rattle.std.specs.List.{AllByRecursion};
 ghost use Rattle.rt_tree.specs.Trees.{AreSame, IsMinimal, IsBreadthFirst, IsEdge, IsTree, Stand};
 ghost use Rattle.rt_tree.specs.Pairs.{ArePaired};
 ghost use Rattle.rt_tree.specs.Partitions.{AreClassesOf};
-ghost use Rattle.rt_tree.specs.Quotients.{AreNumbers, Extends, IsEndOf, IsNumberOf, IsQuotient};
+ghost use Rattle.rt_tree.specs.Inside.Quotients.{AreNumbers, Extends, IsEndOf, IsNumberOf, IsQuotient};
 
 use crate::entry::Entry;
 use crate::splitting::classes;
@@ -102,7 +102,7 @@ fn quotient_of(alloc: Global, nodes: &[Entry], class: &[usize]) -> Result<Vec<En
 }
 
 /// The least tree with the same words and marks: two of its nodes differ in some word or mark, and they are numbered breadth
-/// first. The error is want of memory.
+/// first. The error is out of memory.
 pub fn minimal(alloc: Global, tree: &Tree) -> Result<Tree, Memory>
     ensures same { IfOk result (λ least. AreSame tree.now least) }
     ensures least { IfOk result (λ least. IsMinimal least) }

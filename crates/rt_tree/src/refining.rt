@@ -67,7 +67,7 @@ pub(crate) fn first_with(rows: &mut Rows, row: Vec<usize>, x: usize) -> Result<u
     Ok(x)
 }
 
-/// Classes that are finer by one label, in time near linear in the edges. The error is want of memory.
+/// Classes that are finer by one label, in time near linear in the edges. The error is out of memory.
 pub(crate) fn finer(alloc: Global, nodes: &[Entry], class: &[usize]) -> Result<Vec<usize>, Memory>
     requires nodes { All (IsNode (length nodes.now)) nodes.now }
     requires class { length class.now ≡ length nodes.now }
@@ -82,7 +82,7 @@ pub(crate) fn finer(alloc: Global, nodes: &[Entry], class: &[usize]) -> Result<V
     Ok(finer)
 }
 
-/// The first node for each of so many nodes. The error is want of memory.
+/// The first node for each of so many nodes. The error is out of memory.
 pub(crate) fn one_class(alloc: Global, count: usize) -> Result<Vec<usize>, Memory>
     ensures each { IfOk result (λ class. length class.items ≡ count) }
     ensures one { IfOk result (λ class. (x : ℕ) → slice_index class.items x ≡ 0) }
@@ -94,8 +94,8 @@ pub(crate) fn one_class(alloc: Global, count: usize) -> Result<Vec<usize>, Memor
     Ok(class)
 }
 
-/// The classes of nodes that have the same words and marks after them, each named by its first node: classes that tell no like
-/// nodes apart are made finer by one label after another until that changes none. The error is want of memory.
+/// The classes of nodes that have the same words and marks after them, each named by its first node: classes that keep no like
+/// nodes apart are made finer by one label after another until that changes none. The error is out of memory.
 pub(crate) fn refined(alloc: Global, nodes: &[Entry], told: &[usize]) -> Result<Vec<usize>, Memory>
     requires nodes { All (IsNode (length nodes.now)) nodes.now }
     requires each { length told.now ≡ length nodes.now }

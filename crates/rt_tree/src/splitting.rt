@@ -2,7 +2,7 @@
 ghost use Rattle.std.specs.Prelude.{◌≡◌, ℕ, ◌+◌, ◌<◌, ◌^◌, ◌++◌, All, IfOk, OnOk, length, map};
 ghost use Rattle.rt_tree.specs.Trees.{Nodes, AreLike, IsNode};
 ghost use Rattle.rt_tree.specs.Partitions.{AreClassesOf, AreToldNodes};
-ghost use Rattle.rt_tree.specs.Splits.{AreBlocks, AreInto, AreTold, IsIn, links_of};
+ghost use Rattle.rt_tree.specs.Inside.Splits.{AreBlocks, AreInto, AreTold, IsIn, links_of};
 
 use crate::blocks::Blocks;
 use crate::entry::Entry;
@@ -36,7 +36,7 @@ fn split_by(
     Ok(())
 }
 
-/// Classes that tell items apart where what leads to a class does. Items that are alike stay in one class. The error is want of
+/// Classes that tell items apart where what leads to a class does. Items that are alike stay in one class. The error is out of
 /// memory.
 pub(crate) fn split(
     alloc: Global,
@@ -88,7 +88,7 @@ fn first_classes(alloc: Global, nodes: &[Entry], links: &[Link]) -> Result<Vec<u
     Ok(class)
 }
 
-/// Classes of nodes, of which nodes that are alike have one. The error is want of memory.
+/// Classes of nodes, of which nodes that are alike have one. The error is out of memory.
 pub(crate) fn told(alloc: Global, nodes: &[Entry]) -> Result<Vec<usize>, Memory>
     requires numbered { length nodes.now < 2 ^ 32 }
     requires nodes { All (IsNode (length nodes.now)) nodes.now }
@@ -103,7 +103,7 @@ pub(crate) fn told(alloc: Global, nodes: &[Entry]) -> Result<Vec<usize>, Memory>
     Ok(class)
 }
 
-/// The classes of nodes that have the same words and marks after them, each named by its first node. The error is want of memory.
+/// The classes of nodes that have the same words and marks after them, each named by its first node. The error is out of memory.
 pub(crate) fn classes(alloc: Global, nodes: &[Entry]) -> Result<Vec<usize>, Memory>
     requires numbered { length nodes.now < 2 ^ 32 }
     requires nodes { All (IsNode (length nodes.now)) nodes.now }

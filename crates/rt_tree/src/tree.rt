@@ -28,7 +28,7 @@ impl Model for Tree {
 }
 
 impl Tree {
-    /// The root alone, with its lower and its upper mark. The error is want of memory.
+    /// The root alone, with its lower and its upper mark. The error is out of memory.
     pub fn new(alloc: Global, low: u16, up: u16) -> Result<Tree, Memory>
         ensures { IfOk result (λ tree. tree ≡ leaf low up ∷ []) }
     {
@@ -38,7 +38,7 @@ impl Tree {
     }
 
     /// Adds a node at the end, with its lower and its upper mark, and an edge to it; the result is its number. The error is
-    /// want of memory, or of numbers of 32 bits, and the tree is as it was then.
+    /// out of memory, or of numbers of 32 bits, and the tree is as it was then.
     pub fn grow(&mut self, from: u32, label: &Label, low: u16, up: u16) -> Result<u32, Memory>
         requires from { from < length self.old }
         requires label { IsLabel label.now }
@@ -62,7 +62,7 @@ impl Tree {
         }
     }
 
-    /// Adds an edge. After want of memory the tree is as it was.
+    /// Adds an edge. When out of memory, the tree is as it was.
     pub fn edge(&mut self, from: u32, label: &Label, to: u32) -> Result<(), Memory>
         requires from { from < length self.old }
         requires label { IsLabel label.now }

@@ -18,7 +18,7 @@ pub(crate) struct Waiting {
 }
 
 impl Waiting {
-    /// As many blocks as there are items, all of which wait, with the items of these classes. The error is want of memory.
+    /// As many blocks as there are items, all of which wait, with the items of these classes. The error is out of memory.
     pub(crate) fn of(alloc: Global, class: &[usize]) -> Result<Waiting, Memory> {
         let count = class.len();
         let mut waiting = Waiting {

@@ -13,7 +13,7 @@ use std::alloc::Global;
 
 /// The lines with those of idle existentials as their shapes, so fewer `<=` lines and bounds, or None where there are
 /// no such lines. It takes time nearly linear in the lines, and for each variable in the letters of all that begin it.
-/// The error is want of memory.
+/// The error is out of memory.
 pub fn trim(alloc: Global, lines: &[Line]) -> Result<Option<Lines>, Memory>
     ensures trimmed { IfOk result (λ after. MatchOption after (HasNoneIdle lines.now) (IsTrimmed lines.now)) }
     ensures smaller { IfOk result (λ after. IfSome after (λ left. flow_count left < flow_count lines.now)) }

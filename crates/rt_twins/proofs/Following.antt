@@ -10,7 +10,7 @@ use Rattle.rt_lines.specs.declared.variable.Dtv.{Dtv}
 use Rattle.rt_lines.specs.declared.line.Line.{Line}
 use Rattle.rt_polar.proofs.Pairs.{pair_equal}
 use Rattle.rt_rules.specs.Put.{use_of}
-use Rattle.rt_twins.specs.Leading.{AreArrows, AreOfLines, DoLead, IsBare, IsBareBut, is_in}
+use Rattle.rt_twins.specs.Inside.Leading.{AreArrows, AreOfLines, DoLead, IsBare, IsBareBut, is_in}
 use Rattle.rt_twins.specs.Twinnings.{IsEnd, LeadsOut}
 use Rattle.rt_twins.specs.Twinnings.LeadsOut.{ends, goes_on}
 

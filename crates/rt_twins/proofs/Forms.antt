@@ -7,7 +7,7 @@ use Rattle.rt_lines.specs.declared.variable.Dtv.{Dtv}
 use Rattle.rt_lines.specs.Words.{label_variance, times, variance_of_word}
 use Rattle.rt_lines.proofs.Signs.{times-co, variance_of_word-append}
 use Rattle.rt_rules.specs.Rules.{longer}
-use Rattle.rt_twins.specs.Parts.{is_other, leads}
+use Rattle.rt_twins.specs.Inside.Parts.{is_other, leads}
 use Rattle.rt_twins.specs.Twinnings.{IsLeftUse, IsRightUse}
 
 other_left : (s v : Variance) → is_other s v ≡ true → v ≡ times Contra s

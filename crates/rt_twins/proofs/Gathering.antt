@@ -14,7 +14,7 @@ use Rattle.rt_lines.specs.declared.line.Line.TheVariants.{Sub}
 use Rattle.rt_polar.specs.Index.{IsBareNoted}
 use Rattle.rt_rules.specs.Put.{exist, use_of}
 use Rattle.rt_refine.specs.Groups.{AreNoted}
-use Rattle.rt_twins.specs.Leading.{AreOfLines, IsBare}
+use Rattle.rt_twins.specs.Inside.Leading.{AreOfLines, IsBare}
 
 -- one line more
 pub of_lines_more : (P : ℕ → Line → Type 0) (lines : List Line) (i : ℕ) (l : Line) (old new : ℕ → Bool) → i < length lines →

@@ -17,7 +17,7 @@ use Rattle.rt_refine.proofs.Sources.{sub_source, low_source, up_source}
 use Rattle.rt_twins.specs.Twinnings.{IsLeftUse, IsRightUse, AreOne, AreMatched, IsEnd, LeadsOut, IsTwinning}
 use Rattle.rt_twins.specs.Twinnings.LeadsOut.{ends, goes_on}
 use Rattle.rt_twins.specs.Laws.{TwinnedRestLaw}
-use Rattle.rt_twins.specs.Parts.{leads}
+use Rattle.rt_twins.specs.Inside.Parts.{leads}
 use Rattle.rt_twins.proofs.Forms.{leads_left, leads_right, not_both, not_both_back}
 use Rattle.rt_twins.proofs.Matching.{same_one, match_above, match_beneath, match_both, match_low, match_up, match_bare}
 use Rattle.rt_twins.proofs.OneTwinning.{leads_named, left_own}

@@ -18,7 +18,7 @@ use Rattle.rt_refine.specs.Uses.{Use, Variable, Constant, use_line, move_use, St
 use Rattle.rt_refine.proofs.Classmates.{AreOfClass, base_cases}
 use Rattle.rt_twins.specs.declared.parts.Part.{Part}
 use Rattle.rt_twins.specs.declared.parts.Part.TheVariants.{Both, Left as LeftUses, Right as RightUses}
-use Rattle.rt_twins.specs.Parts.{is_other, leads, of_sides, is_of, shape_of, kept_of, part_of}
+use Rattle.rt_twins.specs.Inside.Parts.{is_other, leads, of_sides, is_of, shape_of, kept_of, part_of}
 use Rattle.rt_twins.specs.Twinnings.{IsLeftUse, IsRightUse, AreOne, AreMatched}
 use Rattle.rt_twins.proofs.Forms.{leads_left, leads_right, left_leads, right_leads, not_both, not_both_back}
 

@@ -6,8 +6,8 @@ use Rattle.rt_lines.specs.declared.line.Line.{Line}
 use Rattle.rt_rules.specs.Laws.{NamesBase}
 use Rattle.rt_refine.specs.Groups.{IsGrouped, IsNamed}
 use Rattle.rt_refine.proofs.Shaping.{key_one}
-use Rattle.rt_twins.specs.Leading.{lead_key, DoLead}
-use Rattle.rt_twins.specs.Splits.{AreClasses}
+use Rattle.rt_twins.specs.Inside.Leading.{lead_key, DoLead}
+use Rattle.rt_twins.specs.Inside.Splits.{AreClasses}
 use Rattle.rt_twins.specs.Twinnings.{LeadsOut}
 use Rattle.rt_twins.proofs.OneTwinning.{leads_named}
 

@@ -12,8 +12,8 @@ use Rattle.rt_refine.specs.Uses.{HaveSameUses}
 use Rattle.rt_refine.proofs.Above.{above_most, above_less}
 use Rattle.rt_twins.specs.declared.parts.Part.{Part}
 use Rattle.rt_twins.specs.declared.parts.Part.TheVariants.{Both, Left as LeftUses, Right as RightUses}
-use Rattle.rt_twins.specs.Parts.{part_of}
-use Rattle.rt_twins.specs.Splits.{AreClasses, AreExact, AreExactClasses, IsSplitTwice}
+use Rattle.rt_twins.specs.Inside.Parts.{part_of}
+use Rattle.rt_twins.specs.Inside.Splits.{AreClasses, AreExact, AreExactClasses, IsSplitTwice}
 use Rattle.rt_twins.specs.Twinnings.{AreMatched, LeadsOut, IsTwinning, IsCoarsestTwinning}
 use Rattle.rt_twins.proofs.OneTwinning.{leads_named}
 use Rattle.rt_twins.proofs.Splitting.{part_named, named_part, left_moved, right_moved, left_exact, right_exact, parts_matched}

@@ -30,7 +30,7 @@ use Rattle.rt_refine.proofs.Holding.{hold}
 use Rattle.rt_refine.proofs.Classmates.{AreTwo, variable_cases, shorter, move_longer, moved_twice}
 use Rattle.rt_twins.specs.Twinnings.{IsRightUse, IsTwinning}
 use Rattle.rt_twins.specs.Laws.{TwinnedAlikeLaw}
-use Rattle.rt_twins.specs.Parts.{leads}
+use Rattle.rt_twins.specs.Inside.Parts.{leads}
 use Rattle.rt_twins.proofs.Forms.{leads_left, leads_right, leads-co, leads-contra, Form, Lowest, Highest, chained, raised, lowered}
 use Rattle.rt_twins.proofs.Forms.{reversed, some_of, some_low, some_high, lettered}
 use Rattle.rt_twins.proofs.Matching.{match_above, match_beneath, match_both, match_low, match_up}

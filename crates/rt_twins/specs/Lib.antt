@@ -1,5 +1,3 @@
 pub mod Twinnings
 pub mod Laws
-pub mod Parts
-pub mod Splits
-pub mod Leading
+pub mod Inside

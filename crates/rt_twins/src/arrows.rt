@@ -7,7 +7,7 @@ ghost use Rattle.rt_lines.specs.declared.variable.Base.TheVariants.{Exist as Exi
 ghost use Rattle.rt_polar.specs.Index.{has};
 ghost use Rattle.rt_rules.specs.Put.{exist};
 ghost use Rattle.rt_refine.specs.Groups.{AreNoted};
-ghost use Rattle.rt_twins.specs.Leading.{is_in, AreArrows, AreOfLines, IsBare, IsBareBut};
+ghost use Rattle.rt_twins.specs.Inside.Leading.{is_in, AreArrows, AreOfLines, IsBare, IsBareBut};
 
 use rt_base::Memory;
 use rt_lines::{Base, Dtv, Line, Variance};

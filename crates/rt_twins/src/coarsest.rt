@@ -6,8 +6,8 @@ ghost use Rattle.std.specs.BTreeMap.{get};
 ghost use Rattle.std.specs.Ordering.{nat_cmp};
 ghost use Rattle.rt_refine.specs.Groups.{class_of};
 ghost use Rattle.rt_twins.specs.declared.parts.Part.TheVariants.{Left as LeftUses, Right as RightUses};
-ghost use Rattle.rt_twins.specs.Parts.{part_of};
-ghost use Rattle.rt_twins.specs.Splits.{AreClasses, AreExactClasses, IsSplitTwice};
+ghost use Rattle.rt_twins.specs.Inside.Parts.{part_of};
+ghost use Rattle.rt_twins.specs.Inside.Splits.{AreClasses, AreExactClasses, IsSplitTwice};
 ghost use Rattle.rt_twins.specs.Twinnings.{IsCoarsestTwinning};
 
 use crate::parts::{Part, part_of};

@@ -4,8 +4,8 @@ ghost use Rattle.std.specs.BTreeMap.{get};
 ghost use Rattle.std.specs.BTreeSet.{contains};
 ghost use Rattle.std.specs.Ordering.{nat_cmp};
 ghost use Rattle.rt_refine.specs.Groups.{class_of};
-ghost use Rattle.rt_twins.specs.Leading.{DoLead, lead_key};
-ghost use Rattle.rt_twins.specs.Splits.{AreClasses};
+ghost use Rattle.rt_twins.specs.Inside.Leading.{DoLead, lead_key};
+ghost use Rattle.rt_twins.specs.Inside.Splits.{AreClasses};
 
 use crate::arrows::{arrows, beside_others, first_arrow};
 use rt_base::Memory;

@@ -1,6 +1,6 @@
 // Lines in parts, by the uses of a sign that they are.
 ghost use Rattle.std.specs.Prelude.{◌≡◌, IfOk};
-ghost use Rattle.rt_twins.specs.Parts.{is_of, is_other, kept_of, leads, of_low, of_sides, of_up, part_of, shape_of};
+ghost use Rattle.rt_twins.specs.Inside.Parts.{is_of, is_other, kept_of, leads, of_low, of_sides, of_up, part_of, shape_of};
 
 use rt_base::{Memory, Sequence};
 use rt_lines::{Dtv, Line, Lines, Variance, variance_of};

@@ -19,7 +19,7 @@ use Rattle.rt_loose.specs.Kinds.{IsPointer}
 use Rattle.rt_shape.specs.Graphs.{IsReadWrite}
 use Rattle.rt_ways.specs.declared.frame.Frame.{Frame}
 use Rattle.rt_ways.specs.Arcs.{AreMore, IsAdded, IsInRow}
-use Rattle.rt_ways.specs.Frames.{AreExchanged, AreFirst, IsAtHub, IsForHub, IsFrameOf, IsOfLine, IsPointee, IsReady, IsToHub, hub_of, or_else}
+use Rattle.rt_ways.specs.Inside.Frames.{AreExchanged, AreFirst, IsAtHub, IsForHub, IsFrameOf, IsOfLine, IsPointee, IsReady, IsToHub, hub_of, or_else}
 use Rattle.rt_ways.specs.Pushes.{AreDistinct, IsMade, step_of, variable_at}
 use Rattle.rt_ways.proofs.Entering.{more_none, one_line}
 use Rattle.rt_ways.proofs.Knowing.{flat_derives, no_order}

@@ -21,7 +21,7 @@ use Rattle.rt_named.proofs.Contents.{contents_law, once_law}
 use Rattle.rt_loose.specs.Laws.{flat_lines, is_sub}
 use Rattle.rt_shape.specs.Graphs.{Graph}
 use Rattle.rt_shape.specs.Shapes.{IsShapeOf}
-use Rattle.rt_ways.specs.Frames.{HaveNodes, flattened_line}
+use Rattle.rt_ways.specs.Inside.Frames.{HaveNodes, flattened_line}
 use Rattle.rt_ways.specs.Pushes.{AreDistinct, variable_at}
 use Rattle.rt_ways.proofs.Entering.{one_line}
 

@@ -22,7 +22,7 @@ use Rattle.rt_shape.specs.Graphs.{IsReadWrite}
 use Rattle.rt_shape.proofs.ReadWrite.{read_write_lem}
 use Rattle.rt_ways.specs.declared.frame.Frame.{Frame}
 use Rattle.rt_ways.specs.Arcs.{IsInRow}
-use Rattle.rt_ways.specs.Frames.{AreExchanged, AreFirst, IsFrameOf, IsPointee}
+use Rattle.rt_ways.specs.Inside.Frames.{AreExchanged, AreFirst, IsFrameOf, IsPointee}
 use Rattle.rt_ways.specs.Pushes.{Closure, IsMade, variable_at}
 use Rattle.rt_ways.specs.Pushes.Closure.{arc, stay, chain, co, contra}
 use Rattle.rt_ways.proofs.Hubs.{class_node}

@@ -6,7 +6,7 @@ use Rattle.rt_lines.specs.declared.line.Line.{Line}
 use Rattle.rt_loose.specs.Laws.{FlexibleLaw, TurnedLaw}
 use Rattle.rt_ways.specs.declared.frame.Frame.{Frame}
 use Rattle.rt_ways.specs.Arcs.{AreTurned, IsInRow}
-use Rattle.rt_ways.specs.Frames.{AreFirst, IsFrameOf}
+use Rattle.rt_ways.specs.Inside.Frames.{AreFirst, IsFrameOf}
 use Rattle.rt_ways.specs.Nets.{AreWaysOf, IsSized}
 use Rattle.rt_ways.specs.Pushes.{AreClosure}
 use Rattle.rt_ways.proofs.Meaning.{closure_right, flex, meaning}

@@ -12,7 +12,7 @@ use Rattle.rt_rules.specs.Rules.{longer}
 use Rattle.rt_shape.specs.Graphs.{Graph, letter_eq, node_of, step_of as graph_step}
 use Rattle.rt_shape.proofs.Letters.{letter_equal, letter_self}
 use Rattle.rt_shape.proofs.Walks.{node_of-longer}
-use Rattle.rt_ways.specs.Frames.{AreBehind, AreNodes, flattened_line}
+use Rattle.rt_ways.specs.Inside.Frames.{AreBehind, AreNodes, flattened_line}
 use Rattle.rt_ways.specs.Pushes.{AreDistinct, AreSteps, IsMade, step_of, variable_at}
 use Rattle.rt_ways.proofs.Pushing.{made_one}
 use Rattle.rt_named.proofs.Making.{no_base}

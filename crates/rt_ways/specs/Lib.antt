@@ -1,4 +1,4 @@
 pub mod Arcs
 pub mod Pushes
-pub mod Frames
 pub mod Nets
+pub mod Inside

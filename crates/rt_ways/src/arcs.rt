@@ -7,7 +7,7 @@ ghost use Rattle.rt_rules.specs.Rules.{HasSide};
 ghost use Rattle.rt_loose.specs.Kinds.{IsPointer};
 ghost use Rattle.rt_shape.specs.Graphs.{IsReadWrite};
 ghost use Rattle.rt_ways.specs.Arcs.{AreMore};
-ghost use Rattle.rt_ways.specs.Frames.{AreFirst, IsAtHub, IsForHub, IsFrameOf, IsOfLine, IsPointee, IsReady, IsToHub, hub_of};
+ghost use Rattle.rt_ways.specs.Inside.Frames.{AreFirst, IsAtHub, IsForHub, IsFrameOf, IsOfLine, IsPointee, IsReady, IsToHub, hub_of};
 ghost use Rattle.rt_ways.specs.Pushes.{AreDistinct};
 
 use crate::closing::{add, step};

@@ -22,7 +22,7 @@ pub(crate) struct Frame {
 }
 
 impl Frame {
-    ghost use Rattle.rt_ways.specs.Frames.{IsFrameOf};
+    ghost use Rattle.rt_ways.specs.Inside.Frames.{IsFrameOf};
 
     // What is known of the variables that the lines name.
     pub(crate) fn of(alloc: Global, lines: &[Line]) -> Result<Frame, Memory>

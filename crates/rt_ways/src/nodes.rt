@@ -2,7 +2,7 @@
 ghost use Rattle.std.specs.Prelude.{◌≡◌, ◌++◌, ◌<◌, ◌+◌, ℕ, [], Some, IfOk, OnOk, flat_map, length, slice_index_or};
 ghost use Rattle.rt_shape.specs.Graphs.{node_of};
 ghost use Rattle.rt_named.specs.Naming.{named as all_named};
-ghost use Rattle.rt_ways.specs.Frames.{AreBehind, AreClasses, AreNodes, HaveNodes, flattened_line};
+ghost use Rattle.rt_ways.specs.Inside.Frames.{AreBehind, AreClasses, AreNodes, HaveNodes, flattened_line};
 ghost use Rattle.rt_ways.specs.Pushes.{AreDistinct, AreSteps, variable_at};
 
 use indexmap::IndexMap;

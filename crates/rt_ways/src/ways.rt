@@ -53,7 +53,7 @@ impl Model for Ways {
 }
 
 impl Ways {
-    /// The ways of lines. The error is want of memory.
+    /// The ways of lines. The error is out of memory.
     pub fn of(alloc: Global, lines: &[Line]) -> Result<Ways, Memory>
         ensures { IfOk result (AreWaysOf lines.now) }
     {

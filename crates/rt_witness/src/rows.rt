@@ -29,7 +29,7 @@ pub(crate) fn put(row: u32, i: usize, rows: &mut Vec<Sequence<usize>>) -> Result
 }
 
 // Whether the flag of one of the numbers is set. As lines go from the last to the first, all before the first that has gone
-// stand: of a row with rising numbers, all are gone through only where the first has gone.
+// stand: of a row with ascending numbers, all are gone through only where the first has gone.
 pub(crate) fn have_standing(row: &[usize], stands: &[bool]) -> bool
     ensures none { result ≡ false → (i : ℕ) → Contains row.now i → slice_index_or stands.now i false ≡ false }
     ensures some { result ≡ true → (i : ℕ) × Contains row.now i × (slice_index_or stands.now i false ≡ true) }

@@ -26,7 +26,7 @@ pub struct Witnesses {
 }
 
 impl Witnesses {
-    /// Of the lines, in memory and time linear in their letters, but for what their shape takes. The error is want of memory.
+    /// Of the lines, in memory and time linear in their letters, but for what their shape takes. The error is out of memory.
     pub fn of(alloc: Global, lines: &[Line]) -> Result<Witnesses, Memory>
         ensures { IfOk result (IsWitnesses lines.now) }
     {

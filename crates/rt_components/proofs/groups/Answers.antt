@@ -3,7 +3,7 @@ use Rattle.std.proofs.lemmas.List.{get_or_default}
 use Rattle.std.proofs.lemmas.Result.{IfOk-weaker}
 use Rattle.rt_components.specs.Graphs.{HasEdge}
 use Rattle.rt_components.specs.Groups.{AreGroups, group_at}
-use Rattle.rt_components.specs.Orders.{AreLinked, AreAllInOrder}
+use Rattle.rt_components.specs.Inside.Orders.{AreLinked, AreAllInOrder}
 use Rattle.rt_components.proofs.Arranging.{are_linked, are_groups}
 use Rattle.rt_components.proofs.groups.Goals as goal
 

@@ -1,7 +1,7 @@
 use Rattle.std.proofs.Common.{rules, ◌≡◌, [], ◌++◌, sym, ap, subst, ◌∙◌}
 use Rattle.rt_lines.specs.Orders.{Below}
 use Rattle.rt_reduction.specs.Emits.{flow_lines, AreJoined}
-use Rattle.rt_emit.specs.Joins.{HasNoOuter}
+use Rattle.rt_emit.specs.Inside.Joins.{HasNoOuter}
 use Rattle.rt_emit.proofs.Emitted.{no_outer}
 use Rattle.rt_emit.proofs.emit_shape.Goals as goal
 

@@ -7,7 +7,7 @@ use Rattle.rt_flow.proofs.reaching.Goals as goal
 pub invariant_of-result : goal.invariant_of-result
 invariant_of-result c = record {
   known = c.in_ok-locations.ensures.classes.within;
-  rising = c.in_ok-locations.ensures.rising;
+  ascending = c.in_ok-locations.ensures.ascending;
   each_class = c.in_ok-tables.ensures.each;
   each_block = each_table c.in_ok-blocks.blocks.firsts.items c.deref.result.now c.block-entry.result c.in_ok-locations.classes c.in_ok-tables.tables.items c.tables.new.sets c.in_ok-tables.ensures.each c.in_ok-tables.ensures.tables;
   in_sets = all_in_sets c.in_ok-blocks.blocks.firsts.items c.deref.result.now c.block-entry.result c.in_ok-locations.classes c.in_ok-tables.tables.items c.tables.new.sets c.in_ok-tables.ensures.each c.in_ok-tables.ensures.tables;

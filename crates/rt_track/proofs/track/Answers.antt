@@ -3,24 +3,24 @@ use Rattle.std.specs.Prelude.{slice_index_or}
 use Rattle.rt_track.specs.declared.value.Value.{Value}
 use Rattle.rt_track.specs.declared.nodes.Input.{Input}
 use Rattle.rt_track.specs.declared.nodes.Node.{Node}
-use Rattle.rt_track.specs.Changes.{IsRising}
-use Rattle.rt_track.specs.Definitions.{AreDefinitions}
-use Rattle.rt_track.specs.Nodes.{IsSolved}
-use Rattle.rt_track.specs.Inputs.{AreNodes}
-use Rattle.rt_track.proofs.Answering.{valued, each_valued, all_rising, are_values}
+use Rattle.rt_track.specs.Changes.{IsAscending}
+use Rattle.rt_track.specs.Inside.Definitions.{AreDefinitions}
+use Rattle.rt_track.specs.Inside.Nodes.{IsSolved}
+use Rattle.rt_track.specs.Inside.Inputs.{AreNodes}
+use Rattle.rt_track.proofs.Answering.{valued, each_valued, all_ascending, are_values}
 use Rattle.rt_track.proofs.track.Goals as goal
 
-pub nodes-requires-clause-rising : goal.nodes-requires-clause-rising
-nodes-requires-clause-rising c =
-    subst (λ (us : List (List (ℕ × Input))). (r : ℕ) → r < length us → IsRising (slice_index_or us r [])) (sym c.deref.ensures.value)
-    (λ r less. (c.in_ok-uses.ensures.each_uses r (subst (λ n. r < n) c.in_ok-uses.ensures.each less)).rising)
+pub nodes-requires-clause-ascending : goal.nodes-requires-clause-ascending
+nodes-requires-clause-ascending c =
+    subst (λ (us : List (List (ℕ × Input))). (r : ℕ) → r < length us → IsAscending (slice_index_or us r [])) (sym c.deref.ensures.value)
+    (λ r less. (c.in_ok-uses.ensures.each_uses r (subst (λ n. r < n) c.in_ok-uses.ensures.each less)).ascending)
 
 pub invariant_of-result : goal.invariant_of-result
 invariant_of-result c =
     let rows : c.in_ok-use_values.use_values.items ≡ map (valued c.deref-5.result.now) c.in_ok-uses.uses.items = c.in_ok-use_values.ensures ∙ ap (map (valued c.deref-5.result.now)) c.deref-4.ensures.value in
     record {
       each = each_valued c.args.reach.now c.args.ops.now c.uses.new.joins.items c.in_ok-uses.uses.items c.in_ok-uses.ensures c.deref-5.result.now c.in_ok-use_values.use_values.items rows;
-      rising = all_rising c.args.reach.now c.args.ops.now c.uses.new.joins.items c.in_ok-uses.uses.items c.in_ok-uses.ensures c.deref-5.result.now c.in_ok-use_values.use_values.items rows;
+      ascending = all_ascending c.args.reach.now c.args.ops.now c.uses.new.joins.items c.in_ok-uses.uses.items c.in_ok-uses.ensures c.deref-5.result.now c.in_ok-use_values.use_values.items rows;
     }
 
 pub returns : goal.returns

@@ -1,5 +1,5 @@
 use Rattle.std.proofs.Common.{take}
-use Rattle.rt_cdecl.specs.Guesses.{AreDigits}
+use Rattle.rt_cdecl.specs.Inside.Guesses.{AreDigits}
 use Rattle.rt_cdecl.proofs.parts.split_digits.Given as goal
 
 abbrev pub invariant-loop-k : goal.invariant-loop-k

@@ -3,8 +3,8 @@ use Rattle.std.proofs.lemmas.Bool.{false≢true}
 use Rattle.rt_cdecl.specs.declared.declarations.Decls.{Decls}
 use Rattle.rt_cdecl.specs.Texts.{decls_text}
 use Rattle.rt_cdecl.specs.GoodDecls.{IsGoodDecls}
-use Rattle.rt_cdecl.specs.Drafts.{Parts, with_row, Fits}
-use Rattle.rt_cdecl.specs.Endings.{CanEnd, IsReached}
+use Rattle.rt_cdecl.specs.Inside.Drafts.{Parts, with_row, Fits}
+use Rattle.rt_cdecl.specs.Inside.Endings.{CanEnd, IsReached}
 use Rattle.rt_cdecl.proofs.Headers.{IsRead, read_more, unread_line, refused_line, unended_line, reached_now, reached_more, few_more, cut_line, unfinished_text, whole_text, no_header, told_bad, told_yes, told_no, some_rest, no_rest}
 use Rattle.rt_cdecl.proofs.reader.read.Goals as goal
 

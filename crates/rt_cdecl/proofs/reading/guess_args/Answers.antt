@@ -2,7 +2,7 @@ use Rattle.std.proofs.lemmas.Bool.{false≢true}
 use Rattle.std.proofs.Common.{◌∙◌, List, refl}
 use Rattle.rt_lines.specs.declared.label.Loc.{Loc}
 use Rattle.rt_cdecl.specs.declared.declarations.CType.{CType}
-use Rattle.rt_cdecl.specs.Guesses.{Gives}
+use Rattle.rt_cdecl.specs.Inside.Guesses.{Gives}
 use Rattle.rt_cdecl.proofs.ArgTexts.{none_is, some_are}
 use Rattle.rt_cdecl.proofs.reading.guess_args.Goals as goal
 

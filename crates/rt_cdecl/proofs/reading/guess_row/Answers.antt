@@ -1,5 +1,5 @@
 use Rattle.std.proofs.lemmas.Bool.{false≢true}
-use Rattle.rt_cdecl.specs.Guesses.{Gives}
+use Rattle.rt_cdecl.specs.Inside.Guesses.{Gives}
 use Rattle.rt_cdecl.specs.Rows.{Row}
 use Rattle.rt_cdecl.proofs.RowGuesses.{field_row, struct_row, stated_row_of}
 use Rattle.rt_cdecl.proofs.reading.guess_row.Goals as goal

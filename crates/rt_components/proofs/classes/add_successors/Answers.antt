@@ -1,6 +1,6 @@
 use Rattle.std.proofs.Common.{◌≡◌, ◌<◌, [], ◌∷◌, ◌++◌, length, slice_index, get_or, take, sym, ap, subst, ◌∙◌}
 use Rattle.std.proofs.lemmas.List.{get_or_read, take_more}
-use Rattle.rt_components.specs.Classes.{AddsOthers}
+use Rattle.rt_components.specs.Inside.Classes.{AddsOthers}
 use Rattle.rt_components.proofs.Members.{adds_other, adds_same}
 use Rattle.rt_components.proofs.classes.add_successors.Goals as goal
 use Rattle.rt_components.proofs.classes.add_successors.Goals.{then-other-class+in_ok-push, else-other-class}

@@ -1,5 +1,5 @@
 use Rattle.std.proofs.Common.{take}
-use Rattle.rt_components.specs.Classes.{AddsOthers}
+use Rattle.rt_components.specs.Inside.Classes.{AddsOthers}
 use Rattle.rt_components.proofs.classes.add_successors.Given as goal
 
 abbrev pub invariant-loop-node : goal.invariant-loop-node

@@ -1,6 +1,6 @@
 use Rattle.std.proofs.Common.{◌≡◌, ◌<◌, [], ◌∷◌, ◌++◌, length, slice_index, sym, ap, subst, ◌∙◌, arith}
 use Rattle.std.proofs.lemmas.List.{get_or_read}
-use Rattle.rt_components.specs.Classes.{AreMembers}
+use Rattle.rt_components.specs.Inside.Classes.{AreMembers}
 use Rattle.rt_components.proofs.Members.{members_none, members_more}
 use Rattle.rt_components.proofs.classes.members_of.Goals as goal
 

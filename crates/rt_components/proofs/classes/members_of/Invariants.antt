@@ -1,4 +1,4 @@
-use Rattle.rt_components.specs.Classes.{AreMembers}
+use Rattle.rt_components.specs.Inside.Classes.{AreMembers}
 use Rattle.rt_components.proofs.classes.members_of.Given as goal
 
 abbrev pub invariant-loop-node : goal.invariant-loop-node

@@ -1,7 +1,7 @@
 use Rattle.std.proofs.Common.{◌≡◌, ◌<◌, [], length, slice_index, sym, subst, arith}
 use Rattle.std.proofs.lemmas.List.{get_or_read}
 use Rattle.rt_components.specs.Groups.{group_at}
-use Rattle.rt_components.specs.Classes.{AddsOthers}
+use Rattle.rt_components.specs.Inside.Classes.{AddsOthers}
 use Rattle.rt_components.proofs.Members.{successors_more}
 use Rattle.rt_components.proofs.classes.successors_of.Goals as goal
 

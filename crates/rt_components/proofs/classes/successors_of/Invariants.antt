@@ -1,4 +1,4 @@
-use Rattle.rt_components.specs.Classes.{AreSuccessors}
+use Rattle.rt_components.specs.Inside.Classes.{AreSuccessors}
 use Rattle.rt_components.proofs.classes.successors_of.Given as goal
 
 abbrev pub invariant-loop-node : goal.invariant-loop-node

@@ -1,5 +1,5 @@
 use Rattle.std.proofs.Common.{ℕ, ◌-◌, ◌<◌, ◌≤◌, length, slice_index}
-use Rattle.rt_components.specs.Orders.{HasCome}
+use Rattle.rt_components.specs.Inside.Orders.{HasCome}
 use Rattle.rt_components.proofs.order.first_left.Given as goal
 
 abbrev pub invariant-loop-next : goal.invariant-loop-next

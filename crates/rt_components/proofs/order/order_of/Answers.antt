@@ -4,7 +4,7 @@ use Rattle.std.specs.Ordering.{nat_cmp}
 use Rattle.std.specs.declared.cmp.Ordering.TheVariants.{Less}
 use Rattle.std.proofs.lemmas.Bool.{cases_lt, false≢true}
 use Rattle.std.proofs.lemmas.List.Elements.{All-contains}
-use Rattle.rt_components.specs.Orders.{least_of, HaveCome, IsQueueOf}
+use Rattle.rt_components.specs.Inside.Orders.{least_of, HaveCome, IsQueueOf}
 use Rattle.rt_components.proofs.Ending.{is_member, is_free, is_least, opened, all_in_order}
 use Rattle.rt_components.proofs.order.order_of.Goals as goal
 use Rattle.rt_base.proofs.Numbers.{nat_cmp-less}

@@ -1,5 +1,5 @@
 use Rattle.std.proofs.Common.{[]}
-use Rattle.rt_components.specs.Orders.{IsQueue, left_to_come}
+use Rattle.rt_components.specs.Inside.Orders.{IsQueue, left_to_come}
 use Rattle.rt_components.proofs.order.order_of.Given as goal
 
 abbrev pub invariant-loop-least : goal.invariant-loop-least

@@ -1,5 +1,5 @@
 use Rattle.std.proofs.Common.{sym, subst, ◌∙◌, arith}
-use Rattle.rt_components.specs.Walks.{AreInClasses, AreNumbersOf}
+use Rattle.rt_components.specs.Inside.Walks.{AreInClasses, AreNumbersOf}
 use Rattle.rt_components.proofs.Numbering.{all_in, are_classes}
 use Rattle.rt_components.proofs.walk.classes_of.Goals as goal
 

@@ -1,6 +1,6 @@
 use Rattle.std.proofs.Common.{◌≢◌, ℕ, ◌<◌}
 use Rattle.rt_components.specs.declared.walk.State.TheVariants.{Unseen}
-use Rattle.rt_components.specs.Walks.{state_of, IsAtRest}
+use Rattle.rt_components.specs.Inside.Walks.{state_of, IsAtRest}
 use Rattle.rt_components.proofs.walk.classes_of.Given as goal
 
 abbrev pub ghost-visit : goal.ghost-visit

@@ -1,5 +1,5 @@
 use Rattle.std.proofs.Common.{ℕ, ◌≤◌, Contains, length}
-use Rattle.rt_components.specs.Walks.{Rises}
+use Rattle.rt_components.specs.Inside.Walks.{Rises}
 use Rattle.rt_components.proofs.walk.merge.Given as goal
 
 abbrev pub invariant-loop-start : goal.invariant-loop-start

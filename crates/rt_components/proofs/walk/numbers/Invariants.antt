@@ -1,6 +1,6 @@
 use Rattle.std.proofs.Common.{◌≡◌, ℕ, ◌<◌, length, slice_index}
 use Rattle.rt_components.specs.declared.walk.State.TheVariants.{InClass}
-use Rattle.rt_components.specs.Walks.{state_of}
+use Rattle.rt_components.specs.Inside.Walks.{state_of}
 use Rattle.rt_components.proofs.walk.numbers.Given as goal
 
 abbrev pub invariant-loop-node : goal.invariant-loop-node

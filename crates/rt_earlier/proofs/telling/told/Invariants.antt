@@ -3,7 +3,7 @@ use Rattle.std.specs.Prelude.{slice_get}
 use Rattle.rt_lines.specs.declared.line.Line.{Line as Given}
 use Rattle.rt_lines.specs.Orders.{Below}
 use Rattle.rt_rules.specs.Rules.{Derivable}
-use Rattle.rt_earlier.specs.Earlier.{IsSound}
+use Rattle.rt_earlier.specs.Inside.Earlier.{IsSound}
 use Rattle.rt_earlier.proofs.telling.told.Given as goal
 
 abbrev pub invariant-loop-line : goal.invariant-loop-line

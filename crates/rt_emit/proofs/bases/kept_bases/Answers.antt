@@ -5,7 +5,7 @@ use Rattle.indexmap.specs.IndexSet.{insert_key}
 use Rattle.rt_lines.specs.declared.variable.Base.{Base}
 use Rattle.rt_lines.specs.declared.line.Line.{Line}
 use Rattle.rt_lines.specs.Equality.{base_eq}
-use Rattle.rt_emit.specs.Bases.{existential_bases, fixed_bases, AreKeptBases}
+use Rattle.rt_emit.specs.Inside.Bases.{existential_bases, fixed_bases, AreKeptBases}
 use Rattle.rt_emit.proofs.KeptBases.{kept_are}
 use Rattle.rt_emit.proofs.bases.kept_bases.Goals as goal
 

@@ -2,7 +2,7 @@ use Rattle.std.proofs.Common.{◌≡◌, [], fold, take}
 use Rattle.std.specs.List.{flat_map}
 use Rattle.indexmap.specs.IndexSet.{insert_key}
 use Rattle.rt_lines.specs.Equality.{base_eq}
-use Rattle.rt_emit.specs.Bases.{existential_bases, fixed_bases}
+use Rattle.rt_emit.specs.Inside.Bases.{existential_bases, fixed_bases}
 use Rattle.rt_emit.proofs.bases.kept_bases.Given as goal
 
 abbrev pub invariant-loop-line : goal.invariant-loop-line

@@ -4,7 +4,7 @@ use Rattle.indexmap.specs.IndexSet.{insert_key}
 use Rattle.rt_lines.specs.Equality.{base_eq}
 use Rattle.rt_lines.specs.Sides.{sides}
 use Rattle.rt_lines.specs.SidesLeft.{sides_left}
-use Rattle.rt_emit.specs.Bases.{existential_base}
+use Rattle.rt_emit.specs.Inside.Bases.{existential_base}
 use Rattle.rt_emit.proofs.bases.note_existentials.Given as goal
 
 abbrev pub invariant-loop-x : goal.invariant-loop-x

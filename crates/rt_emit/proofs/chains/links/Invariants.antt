@@ -1,5 +1,5 @@
 use Rattle.std.proofs.Common.{◌≡◌, take}
-use Rattle.rt_emit.specs.Joins.{links}
+use Rattle.rt_emit.specs.Inside.Joins.{links}
 use Rattle.rt_emit.proofs.chains.links.Given as goal
 
 abbrev pub invariant-loop-line : goal.invariant-loop-line

@@ -4,7 +4,7 @@ use Rattle.rt_lines.specs.declared.variable.Dtv.{Dtv}
 use Rattle.rt_rules.specs.Rules.{HasSide}
 use Rattle.rt_shape.specs.Graphs.{Has}
 use Rattle.rt_polar.proofs.Giving.{on_ok_both}
-use Rattle.rt_emit.specs.Letters.{with_edges, AreKept}
+use Rattle.rt_emit.specs.Inside.Letters.{with_edges, AreKept}
 use Rattle.std.proofs.lemmas.Result.{on_ok_weaker}
 use Rattle.rt_emit.proofs.Lettering.{sides_walked}
 use Rattle.rt_emit.proofs.letters.enter_line.Goals as goal

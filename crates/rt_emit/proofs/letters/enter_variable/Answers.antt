@@ -8,7 +8,7 @@ use Rattle.rt_rules.specs.Rules.{longer}
 use Rattle.rt_shape.specs.Graphs.{node_of, step_of, walk, Has}
 use Rattle.rt_shape.proofs.Fronts.{front_of, front_of-more}
 use Rattle.rt_shape.proofs.Walks.{node_of-longer}
-use Rattle.rt_emit.specs.Letters.{with_edges, AreKept, IsReached}
+use Rattle.rt_emit.specs.Inside.Letters.{with_edges, AreKept, IsReached}
 use Rattle.rt_emit.proofs.Lettering.{new_here, still_edges, still_there, in_graph, has_node_kept, drop_next}
 use Rattle.rt_emit.proofs.letters.enter_variable.Goals as goal
 

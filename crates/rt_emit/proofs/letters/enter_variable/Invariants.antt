@@ -1,7 +1,7 @@
 use Rattle.std.proofs.Common.{◌≡◌, ℕ, Some, drop}
 use Rattle.rt_shape.specs.Graphs.{node_of, walk}
 use Rattle.rt_shape.proofs.Fronts.{front_of}
-use Rattle.rt_emit.specs.Letters.{with_edges, AreAfter, AreEdges, AreKept}
+use Rattle.rt_emit.specs.Inside.Letters.{with_edges, AreAfter, AreEdges, AreKept}
 use Rattle.rt_emit.proofs.letters.enter_variable.Given as goal
 
 abbrev pub invariant-loop-label : goal.invariant-loop-label

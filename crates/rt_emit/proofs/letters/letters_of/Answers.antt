@@ -6,7 +6,7 @@ use Rattle.rt_lines.specs.declared.line.Line.{Line}
 use Rattle.rt_rules.specs.Rules.{HasSide}
 use Rattle.rt_shape.specs.Graphs.{Has}
 use Rattle.rt_shape.proofs.Named.{turn}
-use Rattle.rt_emit.specs.Letters.{with_edges}
+use Rattle.rt_emit.specs.Inside.Letters.{with_edges}
 use Rattle.rt_emit.proofs.Lettering.{side_there, next_spelled, are_letters}
 use Rattle.rt_emit.proofs.letters.letters_of.Goals as goal
 

@@ -3,7 +3,7 @@ use Rattle.rt_lines.specs.declared.variable.Dtv.{Dtv}
 use Rattle.rt_lines.specs.declared.line.Line.{Line}
 use Rattle.rt_rules.specs.Rules.{HasSide}
 use Rattle.rt_shape.specs.Graphs.{Has}
-use Rattle.rt_emit.specs.Letters.{with_edges, AreAfter, AreEdges}
+use Rattle.rt_emit.specs.Inside.Letters.{with_edges, AreAfter, AreEdges}
 use Rattle.rt_emit.proofs.letters.letters_of.Given as goal
 
 abbrev pub invariant-loop-line : goal.invariant-loop-line

@@ -3,7 +3,7 @@ use Rattle.std.specs.Ordering.{nat_cmp}
 use Rattle.std.specs.BTreeMap.{get}
 use Rattle.std.proofs.lemmas.Result.{on_ok_weaker}
 use Rattle.rt_lines.specs.declared.variable.Dtv.{Dtv}
-use Rattle.rt_emit.specs.Writing.{total, IsNext}
+use Rattle.rt_emit.specs.Inside.Writing.{total, IsNext}
 use Rattle.rt_emit.proofs.Turns.{taken_letters, taken_total}
 use Rattle.rt_emit.proofs.writing.push_letters.Goals as goal
 

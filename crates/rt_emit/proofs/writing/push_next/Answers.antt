@@ -5,7 +5,7 @@ use Rattle.rt_lines.specs.declared.label.Label.TheVariants.{In}
 use Rattle.rt_lines.specs.declared.label.Loc.TheVariants.{Arg}
 use Rattle.rt_lines.specs.declared.variable.Dtv.{Dtv}
 use Rattle.rt_rules.specs.Rules.{longer}
-use Rattle.rt_emit.specs.Writing.{IsNext}
+use Rattle.rt_emit.specs.Inside.Writing.{IsNext}
 use Rattle.rt_emit.proofs.Turns.{next_pushed}
 use Rattle.rt_emit.proofs.writing.push_next.Goals as goal
 

@@ -1,6 +1,6 @@
 use Rattle.std.proofs.Common.{◌↔◌, ◌⊎◌, ◌+◌, ◌≤◌, Contains, length, take}
 use Rattle.rt_lines.specs.declared.variable.Dtv.{Dtv}
-use Rattle.rt_emit.specs.Writing.{IsNext}
+use Rattle.rt_emit.specs.Inside.Writing.{IsNext}
 use Rattle.rt_emit.proofs.writing.push_next.Given as goal
 
 abbrev pub invariant-loop-label : goal.invariant-loop-label

@@ -1,7 +1,7 @@
 use Rattle.std.proofs.Common.{rules, ◌≡◌, Ok, Err, sym, subst}
 use Rattle.std.specs.declared.result.Result.{Result}
 use Rattle.std.specs.Result.{IfOk}
-use Rattle.rt_emit.specs.Bases.{AreKeptBases}
+use Rattle.rt_emit.specs.Inside.Bases.{AreKeptBases}
 use Rattle.rt_emit.proofs.writing.shape_lines.Goals as goal
 
 if_ok_weaker : {X E : Type 0} {P Q : X → Type 0} (r : Result X E) → ((x : X) → P x → Q x) → IfOk r P → IfOk r Q

@@ -2,7 +2,7 @@ use Rattle.std.proofs.Common.{rules, ◌≡◌, ℕ, Some, None, nat_eq, cond, r
 use Rattle.std.specs.Ordering.{nat_cmp}
 use Rattle.std.specs.BTreeMap.{get}
 use Rattle.rt_shape.specs.Graphs.{node_of}
-use Rattle.rt_emit.specs.Writing.IsTurn.{repeats, begins}
+use Rattle.rt_emit.specs.Inside.Writing.IsTurn.{repeats, begins}
 use Rattle.rt_emit.proofs.Turns.{word_put}
 use Rattle.rt_emit.proofs.writing.turn.Goals as goal
 

@@ -1,4 +1,4 @@
-use Rattle.rt_emit.specs.Queues.{IsPopped}
+use Rattle.rt_emit.specs.Inside.Queues.{IsPopped}
 use Rattle.rt_emit.proofs.Turning.{IsWritingOf, turned, popped_has, all_written, writing_begun}
 use Rattle.rt_emit.proofs.writing.write_queued.Goals as goal
 

@@ -2,8 +2,8 @@ use Rattle.std.proofs.Common.{◌+◌, List, length}
 use Rattle.rt_lines.specs.declared.line.Line.{Line}
 use Rattle.rt_lines.specs.Orders.{Below}
 use Rattle.rt_shape.specs.Shapes.{IsShapeOf}
-use Rattle.rt_emit.specs.Bases.{AreFirst}
-use Rattle.rt_emit.specs.Writing.{total}
+use Rattle.rt_emit.specs.Inside.Bases.{AreFirst}
+use Rattle.rt_emit.specs.Inside.Writing.{total}
 use Rattle.rt_emit.proofs.Turning.{IsWritingOf}
 use Rattle.rt_emit.proofs.writing.write_queued.Given as goal
 

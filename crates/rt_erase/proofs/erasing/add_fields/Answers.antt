@@ -5,7 +5,7 @@ use Rattle.rt_tree.specs.Trees.{joined}
 use Rattle.rt_erase.specs.declared.row.Row.{Row}
 use Rattle.rt_erase.specs.Rows.{AreApart, IsRow, label_of}
 use Rattle.rt_erase.specs.Erasures.{target_of}
-use Rattle.rt_erase.specs.Erasing.{IsErasing, KeepsBelow}
+use Rattle.rt_erase.specs.Inside.Erasing.{IsErasing, KeepsBelow}
 use Rattle.rt_erase.proofs.Kept.{first_there}
 use Rattle.rt_erase.proofs.Growing.{erasing_field, erasing_next, free_field, keeps_itself, keeps_joined, keeps_then}
 use Rattle.rt_erase.proofs.erasing.add_fields.Goals as goal

@@ -1,7 +1,7 @@
 use Rattle.std.proofs.Common.{◌≡◌, All, length, take}
 use Rattle.rt_tree.specs.Trees.{node_at}
 use Rattle.rt_erase.specs.Rows.{AreApart, IsRow, fields_of}
-use Rattle.rt_erase.specs.Erasing.{IsErasing, KeepsBelow}
+use Rattle.rt_erase.specs.Inside.Erasing.{IsErasing, KeepsBelow}
 use Rattle.rt_erase.proofs.erasing.add_fields.Given as goal
 
 abbrev pub invariant-loop-row : goal.invariant-loop-row

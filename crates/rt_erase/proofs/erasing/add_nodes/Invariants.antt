@@ -1,6 +1,6 @@
 use Rattle.std.proofs.Common.{◌≤◌, ◌^◌, length}
 use Rattle.rt_erase.specs.Erasures.{HasGrown}
-use Rattle.rt_erase.specs.Erasing.{HasLeaves}
+use Rattle.rt_erase.specs.Inside.Erasing.{HasLeaves}
 use Rattle.rt_erase.proofs.erasing.add_nodes.Given as goal
 
 abbrev pub invariant-loop : goal.invariant-loop

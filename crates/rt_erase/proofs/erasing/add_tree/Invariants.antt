@@ -1,6 +1,6 @@
 use Rattle.std.proofs.Common.{◌+◌, ◌≤◌, [], length}
 use Rattle.rt_erase.specs.Erasures.{HasGrown}
-use Rattle.rt_erase.specs.Erasing.{IsErasing}
+use Rattle.rt_erase.specs.Inside.Erasing.{IsErasing}
 use Rattle.rt_erase.proofs.erasing.add_tree.Given as goal
 
 abbrev pub invariant-loop-node : goal.invariant-loop-node

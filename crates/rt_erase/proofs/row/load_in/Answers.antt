@@ -1,7 +1,7 @@
 use Rattle.std.proofs.Common.{ℕ, sym, ◌∙◌, arith, rules}
 use Rattle.std.proofs.lemmas.List.Sorted.{IsPartitionPoint-from_clause}
 use Rattle.rt_lines.specs.declared.label.Label.{Label}
-use Rattle.rt_erase.specs.Places.{is_argument}
+use Rattle.rt_erase.specs.Inside.Places.{is_argument}
 use Rattle.rt_erase.proofs.Placed.{arguments_first, load_at}
 use Rattle.rt_erase.proofs.row.load_in.Goals as goal
 

@@ -1,7 +1,7 @@
 use Rattle.std.proofs.Common.{◌≡◌, ◌-◌, length, sym, ap, ◌∙◌, rules}
 use Rattle.std.specs.List.{slice_get}
 use Rattle.rt_lines.specs.declared.label.Label.TheVariants.{Store}
-use Rattle.rt_erase.specs.Places.{end_of}
+use Rattle.rt_erase.specs.Inside.Places.{end_of}
 use Rattle.rt_erase.proofs.Placed.{store_last}
 use Rattle.rt_erase.proofs.row.store_in.Goals as goal
 

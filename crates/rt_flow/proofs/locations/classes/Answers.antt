@@ -28,7 +28,7 @@ loop-site-preserved c =
     record {
       items = c.loop-site.invariant.items;
       classing = gets_class c.args.graph.now c.loop-site._site-index c.loop-site.known.entries c.in_ok-none.none c.loop-site.classes c.loop-site.invariant.classing c.defs-site-items.result.now c.loop-site.invariant.items c.loop-site-test.true (0, pos 0)
-          c.in_ok-groups.groups.entries c.in_ok-groups.ensures def.1 refl c.in_ok-sites.sites.items (sym c.in-Some.ensures.value ∙ ap Some (sym copied)) c.rising.result.items c.rising.ensures.rising c.rising.ensures.same
+          c.in_ok-groups.groups.entries c.in_ok-groups.ensures def.1 refl c.in_ok-sites.sites.items (sym c.in-Some.ensures.value ∙ ap Some (sym copied)) c.ascending.result.items c.ascending.ensures.ascending c.ascending.ensures.same
           c.number-in-loop-site.new.self c.in_ok-class.ensures.added c.in_ok-class.class c.in_ok-class.ensures.within (c.in_ok-class.ensures.found eqb-true) c.insert.new.self.entries _ same c.in_ok-insert.ensures.updates.0;
     }
 

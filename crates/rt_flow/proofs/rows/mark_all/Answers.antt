@@ -2,7 +2,7 @@ use Rattle.std.proofs.Common.{◌<◌, ℕ, List, length, take, sym, subst}
 use Rattle.std.specs.Prelude.{slice_index}
 use Rattle.std.proofs.lemmas.List.{take_more, take_all}
 use Rattle.std.proofs.lemmas.List.Elements.{Contains-get_or}
-use Rattle.rt_flow.specs.Spreading.{MarksAll}
+use Rattle.rt_flow.specs.Inside.Spreading.{MarksAll}
 use Rattle.rt_flow.proofs.Marking.{starts, marks}
 use Rattle.rt_flow.proofs.rows.mark_all.Goals as goal
 

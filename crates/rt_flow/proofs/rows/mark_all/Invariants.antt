@@ -1,5 +1,5 @@
 use Rattle.std.proofs.Common.{take}
-use Rattle.rt_flow.specs.Spreading.{MarksAll}
+use Rattle.rt_flow.specs.Inside.Spreading.{MarksAll}
 use Rattle.rt_flow.proofs.rows.mark_all.Given as goal
 
 abbrev pub invariant-loop-block : goal.invariant-loop-block

@@ -1,5 +1,5 @@
 use Rattle.std.proofs.Common.{◌+◌, length}
-use Rattle.rt_flow.specs.Spreading.{rows_without}
+use Rattle.rt_flow.specs.Inside.Spreading.{rows_without}
 use Rattle.rt_flow.proofs.Filling.{IsFilling}
 use Rattle.rt_flow.proofs.rows.spread.Given as goal
 

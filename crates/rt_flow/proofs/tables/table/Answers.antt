@@ -1,16 +1,16 @@
 use Rattle.std.proofs.Common.{List, ℕ, Option, sym, subst}
 use Rattle.std.proofs.lemmas.Result.{IfOk-weaker}
-use Rattle.rt_flow.specs.Spreading.{AreRising, AreRows}
+use Rattle.rt_flow.specs.Inside.Spreading.{AreAscending, AreRows}
 use Rattle.rt_flow.proofs.Tabled.{targets_within, lasts_rise, table_of}
 use Rattle.rt_flow.proofs.tables.table.Goals as goal
 
 pub rows-requires-clause-within : goal.rows-requires-clause-within
 rows-requires-clause-within c = let r = c.requires.of_body in targets_within r.0 c.args.blocks.now.block.items c.args.blocks.now.firsts.items r.2 c.args.targets.now r.1 r.3
 
-pub rows-requires-clause-rising : goal.rows-requires-clause-rising
-rows-requires-clause-rising c =
+pub rows-requires-clause-ascending : goal.rows-requires-clause-ascending
+rows-requires-clause-ascending c =
     let r = c.requires.of_body in
-    subst AreRising (sym c.deref.ensures.value) (lasts_rise r.0 c.args.blocks.now.block.items c.args.blocks.now.firsts.items r.2 c.args.sites.now c.in_ok-lasts.lasts.items c.in_ok-lasts.ensures)
+    subst AreAscending (sym c.deref.ensures.value) (lasts_rise r.0 c.args.blocks.now.block.items c.args.blocks.now.firsts.items r.2 c.args.sites.now c.in_ok-lasts.lasts.items c.in_ok-lasts.ensures)
 
 pub returns-clause-table : goal.returns-clause-table
 returns-clause-table c =

@@ -5,7 +5,7 @@ use Rattle.std.specs.Int.{w32}
 use Rattle.std.proofs.lemmas.Int.{to_z-of_z}
 use Rattle.rt_body.specs.Readings.{action_at}
 use Rattle.rt_body.specs.Told.{reading_of}
-use Rattle.rt_frame.specs.Gathering.{Gains, saved_by}
+use Rattle.rt_frame.specs.Inside.Gathering.{Gains, saved_by}
 use Rattle.rt_frame.proofs.Gathered.{gains_one, gains_none}
 use Rattle.rt_frame.proofs.saved.save_site.Goals as goal
 

@@ -2,7 +2,7 @@ use Rattle.std.proofs.Common.{◌≡◌, ℕ, ℤ, [], Some, length, arith, ap, 
 use Rattle.rt_body.specs.Readings.{action_at}
 use Rattle.rt_body.specs.Told.{reading_of}
 use Rattle.rt_frame.specs.Frames.{IsSaved}
-use Rattle.rt_frame.specs.Gathering.{Gains, Upto, saved_by}
+use Rattle.rt_frame.specs.Inside.Gathering.{Gains, Upto, saved_by}
 use Rattle.rt_frame.proofs.Gathered.{upto_step, upto_all}
 use Rattle.rt_frame.proofs.Savings.{is_saved}
 use Rattle.rt_frame.proofs.saved.saved.Goals as goal

@@ -1,7 +1,7 @@
 use Rattle.std.proofs.Common.{◌≡◌, [], Some}
 use Rattle.rt_body.specs.Readings.{action_at}
 use Rattle.rt_body.specs.Told.{reading_of}
-use Rattle.rt_frame.specs.Gathering.{Gains, Upto, saved_by}
+use Rattle.rt_frame.specs.Inside.Gathering.{Gains, Upto, saved_by}
 use Rattle.rt_frame.proofs.saved.saved.Given as goal
 
 abbrev pub invariant-loop-site : goal.invariant-loop-site

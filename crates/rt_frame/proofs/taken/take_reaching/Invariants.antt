@@ -1,7 +1,7 @@
 use Rattle.std.proofs.Common.{◌≡◌, take}
 use Rattle.rt_track.specs.declared.value.Value.TheVariants.{Frame}
 use Rattle.rt_body.specs.Told.{reading_of}
-use Rattle.rt_frame.specs.Gathering.{Among, Gains}
+use Rattle.rt_frame.specs.Inside.Gathering.{Among, Gains}
 use Rattle.rt_frame.specs.Questions.{def_value}
 use Rattle.rt_frame.proofs.taken.take_reaching.Given as goal
 

@@ -3,7 +3,7 @@ use Rattle.std.specs.Prelude.{FitsSigned}
 use Rattle.std.specs.Int.{w32}
 use Rattle.std.proofs.lemmas.Int.{to_z-of_z}
 use Rattle.rt_track.specs.declared.value.Value.TheVariants.{Frame}
-use Rattle.rt_frame.specs.Gathering.{Gains}
+use Rattle.rt_frame.specs.Inside.Gathering.{Gains}
 use Rattle.rt_frame.proofs.Gathered.{gains_as, frame_offset}
 use Rattle.rt_frame.proofs.taken.take_value.Goals as goal
 

@@ -2,7 +2,7 @@ use Rattle.std.proofs.Common.{[]}
 use Rattle.rt_body.specs.Readings.{action_at}
 use Rattle.rt_body.specs.Told.{reading_of}
 use Rattle.rt_frame.specs.Frames.{IsOfFrame}
-use Rattle.rt_frame.specs.Gathering.{Among, Gains, Upto}
+use Rattle.rt_frame.specs.Inside.Gathering.{Among, Gains, Upto}
 use Rattle.rt_frame.specs.Questions.{questions}
 use Rattle.rt_frame.proofs.taken.taken.Given as goal
 

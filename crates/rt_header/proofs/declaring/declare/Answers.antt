@@ -1,5 +1,5 @@
 use Rattle.std.proofs.Common.{subst}
-use Rattle.rt_header.specs.Built.{IsFunctionBuilt}
+use Rattle.rt_header.specs.Inside.Built.{IsFunctionBuilt}
 use Rattle.rt_header.proofs.Growing.{made_more}
 use Rattle.rt_header.proofs.Joined.{goes_on, numbers_more}
 use Rattle.rt_header.proofs.declaring.declare.Goals as goal

@@ -10,7 +10,7 @@ returns-clause-good c =
     let p = c.in_ok-parts.ensures in
     let d = c.in_ok-decls.ensures in
     (headed c.in_ok-forest.forest c.args.lattice.now c.args.sketches.now c.in_ok-decls.decls c.in_ok-parts.parts.structs c.in_ok-parts.parts.functions
-    p.whole d.structs d.functions d.typedefs f.forest f.names f.trees f.top f.bottom f.lattice c.requires.rising p.numbers).good
+    p.whole d.structs d.functions d.typedefs f.forest f.names f.trees f.top f.bottom f.lattice c.requires.ascending p.numbers).good
 
 pub returns-clause-header : goal.returns-clause-header
 returns-clause-header c =
@@ -18,4 +18,4 @@ returns-clause-header c =
     let p = c.in_ok-parts.ensures in
     let d = c.in_ok-decls.ensures in
     (headed c.in_ok-forest.forest c.args.lattice.now c.args.sketches.now c.in_ok-decls.decls c.in_ok-parts.parts.structs c.in_ok-parts.parts.functions
-    p.whole d.structs d.functions d.typedefs f.forest f.names f.trees f.top f.bottom f.lattice c.requires.rising p.numbers).header
+    p.whole d.structs d.functions d.typedefs f.forest f.names f.trees f.top f.bottom f.lattice c.requires.ascending p.numbers).header

@@ -1,7 +1,7 @@
 use Rattle.std.proofs.Common.{◌≡◌, ℕ, map, take}
 use Rattle.rt_tree.specs.Trees.{Nodes}
 use Rattle.rt_cdecl.specs.GoodDecls.{function_numbers}
-use Rattle.rt_header.specs.Whole.{AreDeclared}
+use Rattle.rt_header.specs.Inside.Whole.{AreDeclared}
 use Rattle.rt_header.proofs.declaring.parts_of.Given as goal
 
 abbrev pub invariant-loop-sketch : goal.invariant-loop-sketch

@@ -4,7 +4,7 @@ use Rattle.std.proofs.lemmas.List.{get_or_read, map_more}
 use Rattle.rt_sketch.specs.Sketches.{HasMarksBelow}
 use Rattle.rt_tree.specs.Trees.{Nodes}
 use Rattle.rt_erase.specs.declared.extremes.Extremes.{Extremes}
-use Rattle.rt_header.specs.Made.{AreErased, IsErased}
+use Rattle.rt_header.specs.Inside.Made.{AreErased, IsErased}
 use Rattle.rt_header.proofs.Planting.{more_erased}
 use Rattle.rt_header.proofs.forest.add_all.Goals as goal
 

@@ -1,6 +1,6 @@
 use Rattle.std.proofs.Common.{◌≡◌, ℕ, map, take}
 use Rattle.rt_tree.specs.Trees.{Nodes}
-use Rattle.rt_header.specs.Made.{AreErased}
+use Rattle.rt_header.specs.Inside.Made.{AreErased}
 use Rattle.rt_header.proofs.forest.add_all.Given as goal
 
 abbrev pub invariant-loop-number : goal.invariant-loop-number

@@ -4,8 +4,8 @@ use Rattle.rt_lines.specs.declared.label.Label.{Label}
 use Rattle.rt_tree.specs.Trees.{Nodes, Stand, node_at}
 use Rattle.rt_cdecl.specs.declared.declarations.CType.{CType}
 use Rattle.rt_cdecl.specs.declared.declarations.CFunction.{CFunction}
-use Rattle.rt_header.specs.Built.{tree_of}
-use Rattle.rt_header.specs.Ports.{AreArguments, AreTyped, structs_of_arguments}
+use Rattle.rt_header.specs.Inside.Built.{tree_of}
+use Rattle.rt_header.specs.Inside.Ports.{AreArguments, AreTyped, structs_of_arguments}
 use Rattle.rt_header.proofs.Growing.{more_chain}
 use Rattle.rt_header.proofs.Typing.{function_built, function_good, function_stands, nodes_are, result_is}
 use Rattle.rt_header.proofs.function.function_of.Goals as goal

@@ -2,7 +2,7 @@ use Rattle.std.proofs.Common.{◌+◌, List, length, sym, subst}
 use Rattle.rt_lines.specs.declared.label.Loc.{Loc}
 use Rattle.rt_tree.specs.Trees.{Stand}
 use Rattle.rt_cdecl.specs.declared.declarations.CType.{CType}
-use Rattle.rt_header.specs.Ports.{AreTyped, structs_of_arguments}
+use Rattle.rt_header.specs.Inside.Ports.{AreTyped, structs_of_arguments}
 use Rattle.rt_header.proofs.Growing.{more_chain}
 use Rattle.rt_header.proofs.Typing.{arguments_stand, typed_next}
 use Rattle.rt_header.proofs.function.typed.Goals as goal

@@ -1,7 +1,7 @@
 use Rattle.std.proofs.Common.{length}
 use Rattle.rt_tree.specs.Trees.{Stand}
-use Rattle.rt_header.specs.Built.{HasMore, IsMaking}
-use Rattle.rt_header.specs.Ports.{AreTyped, structs_of_arguments}
+use Rattle.rt_header.specs.Inside.Built.{HasMore, IsMaking}
+use Rattle.rt_header.specs.Inside.Ports.{AreTyped, structs_of_arguments}
 use Rattle.rt_header.proofs.function.typed.Given as goal
 
 abbrev pub invariant-loop-index : goal.invariant-loop-index

@@ -3,7 +3,7 @@ use Rattle.std.proofs.lemmas.List.{take_more}
 use Rattle.rt_lines.specs.declared.label.Loc.TheVariants.{Arg}
 use Rattle.rt_lines.specs.declared.label.Label.{Label}
 use Rattle.rt_lines.specs.declared.label.Label.TheVariants.{In}
-use Rattle.rt_header.specs.Ports.{AreArguments}
+use Rattle.rt_header.specs.Inside.Ports.{AreArguments}
 use Rattle.rt_header.proofs.ports.arguments.Goals as goal
 
 pub loop-label-preserved : goal.loop-label-preserved

@@ -1,5 +1,5 @@
 use Rattle.std.proofs.Common.{take}
-use Rattle.rt_header.specs.Ports.{AreArguments}
+use Rattle.rt_header.specs.Inside.Ports.{AreArguments}
 use Rattle.rt_header.proofs.ports.arguments.Given as goal
 
 abbrev pub invariant-loop-label : goal.invariant-loop-label

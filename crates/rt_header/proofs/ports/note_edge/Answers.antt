@@ -4,7 +4,7 @@ use Rattle.rt_lines.specs.declared.label.Loc.{Loc}
 use Rattle.rt_lines.specs.declared.label.Label.{Label}
 use Rattle.rt_lines.specs.declared.label.Label.TheVariants.{In, Out, Load, Store, Field}
 use Rattle.rt_lines.specs.Words.{IsLabel, IsLoc}
-use Rattle.rt_header.specs.Ports.{AreArguments, IsNoted, index_of}
+use Rattle.rt_header.specs.Inside.Ports.{AreArguments, IsNoted, index_of}
 use Rattle.rt_header.proofs.Porting.{arguments_next, arguments_other}
 use Rattle.rt_header.proofs.ports.note_edge.Goals as goal
 

@@ -5,7 +5,7 @@ use Rattle.rt_tree.specs.Trees.{Stand}
 use Rattle.rt_erase.specs.declared.row.Row.{Row}
 use Rattle.rt_cdecl.specs.declared.declarations.CField.{CField}
 use Rattle.rt_cdecl.specs.Types.{IsField}
-use Rattle.rt_header.specs.Built.{AreFieldsOf}
+use Rattle.rt_header.specs.Inside.Built.{AreFieldsOf}
 use Rattle.rt_header.specs.Met.{structs_of_fields}
 use Rattle.rt_header.proofs.Growing.{more_chain, fields_more}
 use Rattle.rt_header.proofs.Fields.{fields_pushed, fields_stand}

@@ -1,7 +1,7 @@
 use Rattle.std.proofs.Common.{All, length, take}
 use Rattle.rt_tree.specs.Trees.{Stand}
 use Rattle.rt_cdecl.specs.Types.{IsField}
-use Rattle.rt_header.specs.Built.{AreFieldsOf, HasMore, IsMaking}
+use Rattle.rt_header.specs.Inside.Built.{AreFieldsOf, HasMore, IsMaking}
 use Rattle.rt_header.specs.Met.{structs_of_fields}
 use Rattle.rt_header.proofs.structs.fields_of.Given as goal
 

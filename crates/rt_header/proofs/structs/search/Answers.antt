@@ -1,7 +1,7 @@
 use Rattle.std.proofs.Common.{◌≡◌, ◌+◌, ◌<◌, ◌≤◌, ◌∷◌, [], List, length, sym, ap, subst, ◌∙◌, arith, rules, length-append}
 use Rattle.rt_cdecl.specs.declared.declarations.CStruct.{CStruct}
-use Rattle.rt_header.specs.Built.{IsStructBuilt}
-use Rattle.rt_header.specs.Made.{AreMade, HasSearched}
+use Rattle.rt_header.specs.Inside.Built.{IsStructBuilt}
+use Rattle.rt_header.specs.Inside.Made.{AreMade, HasSearched}
 use Rattle.rt_header.proofs.Growing.{more_none, more_chain}
 use Rattle.rt_header.proofs.Searching.{search_begins, search_goes_on, search_ends, made_pushed}
 use Rattle.rt_header.proofs.structs.search.Goals as goal

@@ -1,6 +1,6 @@
 use Rattle.std.proofs.Common.{◌-◌, length}
-use Rattle.rt_header.specs.Built.{HasMore, IsMaking}
-use Rattle.rt_header.specs.Made.{AreMade, HasSearched}
+use Rattle.rt_header.specs.Inside.Built.{HasMore, IsMaking}
+use Rattle.rt_header.specs.Inside.Made.{AreMade, HasSearched}
 use Rattle.rt_header.proofs.structs.search.Given as goal
 
 abbrev pub invariant-loop-alloc : goal.invariant-loop-alloc

@@ -5,7 +5,7 @@ use Rattle.rt_erase.specs.Rows.{fields_of}
 use Rattle.rt_cdecl.specs.declared.declarations.CField.{CField}
 use Rattle.rt_cdecl.specs.declared.declarations.CStruct.{CStruct}
 use Rattle.rt_cdecl.specs.Types.{IsField}
-use Rattle.rt_header.specs.Built.{AreFieldsOf, tree_of}
+use Rattle.rt_header.specs.Inside.Built.{AreFieldsOf, tree_of}
 use Rattle.rt_header.proofs.Fields.{is_good}
 use Rattle.rt_header.proofs.structs.struct_of.Goals as goal
 

@@ -1,5 +1,5 @@
 use Rattle.rt_lines.specs.Orders.{IsAtOrBelow}
-use Rattle.rt_lattice.specs.Searches.{IsBelowUppers}
+use Rattle.rt_lattice.specs.Inside.Searches.{IsBelowUppers}
 use Rattle.rt_lattice.proofs.joins.is_least.Given as goal
 
 abbrev pub invariant-loop-c : goal.invariant-loop-c

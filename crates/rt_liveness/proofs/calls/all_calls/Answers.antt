@@ -2,7 +2,7 @@ use Rattle.std.proofs.Common.{◌<◌, List, length, get_or, subst, arith}
 use Rattle.std.proofs.lemmas.Option.{slice_get-get_or}
 use Rattle.rt_proc.specs.declared.site.Site.{Site}
 use Rattle.rt_body.specs.Told.{reading_of}
-use Rattle.rt_liveness.specs.Found.{IsProcFound, AreCallsFoundIn}
+use Rattle.rt_liveness.specs.Inside.Found.{IsProcFound, AreCallsFoundIn}
 use Rattle.rt_liveness.proofs.Adding.{read_at}
 use Rattle.rt_liveness.proofs.Pairing.{next_pair}
 use Rattle.rt_liveness.proofs.calls.all_calls.Goals as goal

@@ -1,4 +1,4 @@
-use Rattle.rt_liveness.specs.Found.{ArePaired, IsProcFound}
+use Rattle.rt_liveness.specs.Inside.Found.{ArePaired, IsProcFound}
 use Rattle.rt_liveness.proofs.calls.all_calls.Given as goal
 
 abbrev pub invariant-loop-number : goal.invariant-loop-number

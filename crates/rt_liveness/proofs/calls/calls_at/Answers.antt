@@ -1,6 +1,6 @@
 use Rattle.std.proofs.Common.{◌∙◌}
 use Rattle.rt_body.specs.Told.{reading_of}
-use Rattle.rt_liveness.specs.Found.{IsCallFound}
+use Rattle.rt_liveness.specs.Inside.Found.{IsCallFound}
 use Rattle.rt_liveness.specs.Programs.{callees_of}
 use Rattle.rt_liveness.proofs.Pairing.{next_listed}
 use Rattle.rt_liveness.proofs.calls.calls_at.Goals as goal

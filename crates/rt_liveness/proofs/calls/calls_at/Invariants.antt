@@ -1,5 +1,5 @@
 use Rattle.rt_body.specs.Told.{reading_of}
-use Rattle.rt_liveness.specs.Found.{ArePaired, IsCallFound}
+use Rattle.rt_liveness.specs.Inside.Found.{ArePaired, IsCallFound}
 use Rattle.rt_liveness.specs.Programs.{callees_of}
 use Rattle.rt_liveness.proofs.calls.calls_at.Given as goal
 

@@ -1,7 +1,7 @@
 use Rattle.std.proofs.Common.{◌<◌, length, get_or, arith}
 use Rattle.std.proofs.lemmas.Option.{slice_get-get_or}
 use Rattle.rt_body.specs.Told.{reading_of}
-use Rattle.rt_liveness.specs.Found.{IsSiteFound}
+use Rattle.rt_liveness.specs.Inside.Found.{IsSiteFound}
 use Rattle.rt_liveness.proofs.Pairing.{next_pair}
 use Rattle.rt_liveness.proofs.calls.calls_in.Goals as goal
 

@@ -1,5 +1,5 @@
 use Rattle.rt_body.specs.Told.{reading_of}
-use Rattle.rt_liveness.specs.Found.{ArePaired, IsSiteFound}
+use Rattle.rt_liveness.specs.Inside.Found.{ArePaired, IsSiteFound}
 use Rattle.rt_liveness.proofs.calls.calls_in.Given as goal
 
 abbrev pub invariant-loop-number : goal.invariant-loop-number

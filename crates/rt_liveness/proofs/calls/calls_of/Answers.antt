@@ -8,8 +8,8 @@ use Rattle.rt_proc.specs.declared.site.Site.{Site}
 use Rattle.rt_proc.specs.Procs.{places_of}
 use Rattle.rt_body.specs.Told.{sites_in}
 use Rattle.rt_liveness.specs.Ends.{ends_of}
-use Rattle.rt_liveness.specs.Found.{AreCallsFound}
-use Rattle.rt_liveness.specs.Interfaces.{IsInterface}
+use Rattle.rt_liveness.specs.Inside.Found.{AreCallsFound}
+use Rattle.rt_liveness.specs.Inside.Interfaces.{IsInterface}
 use Rattle.rt_liveness.proofs.Adding.{found_at}
 use Rattle.rt_liveness.proofs.Calling.{site_each_at, calls_are, calls_registers}
 use Rattle.rt_liveness.proofs.calls.calls_of.Goals as goal

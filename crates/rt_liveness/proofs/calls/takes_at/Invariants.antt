@@ -1,7 +1,7 @@
 use Rattle.std.proofs.Common.{◌≡◌, ℕ, ◌+◌, ◌<◌, false, length, get_or}
 use Rattle.rt_body.specs.Told.{reading_of}
-use Rattle.rt_liveness.specs.Closures.{is_met}
-use Rattle.rt_liveness.specs.Conditions.{when_taken}
+use Rattle.rt_liveness.specs.Inside.Closures.{is_met}
+use Rattle.rt_liveness.specs.Inside.Conditions.{when_taken}
 use Rattle.rt_liveness.proofs.calls.takes_at.Given as goal
 
 abbrev pub invariant-loop-n : goal.invariant-loop-n

@@ -2,7 +2,7 @@ use Rattle.std.proofs.Common.{◌≡◌, ◌<◌, ◌+◌, List, [], ◌∷◌, 
 use Rattle.std.proofs.lemmas.List.{get_or_read}
 use Rattle.std.proofs.lemmas.Result.{on_ok_weaker}
 use Rattle.rt_liveness.specs.declared.rule.Rule.{Rule}
-use Rattle.rt_liveness.specs.Closures.{rules_at}
+use Rattle.rt_liveness.specs.Inside.Closures.{rules_at}
 use Rattle.rt_liveness.proofs.Following.{row_added}
 use Rattle.rt_liveness.proofs.closure.add_rule.Goals as goal
 

@@ -1,7 +1,7 @@
 use Rattle.std.proofs.Common.{◌≡◌, List, Contains, ap}
 use Rattle.std.proofs.lemmas.Option.{slice_get-get_or}
 use Rattle.rt_liveness.specs.declared.rule.Rule.{Rule}
-use Rattle.rt_liveness.specs.Closures.{IsPremise, rules_at}
+use Rattle.rt_liveness.specs.Inside.Closures.{IsPremise, rules_at}
 use Rattle.rt_liveness.proofs.Adding.{next_item, all_items, alike, from_none}
 use Rattle.rt_liveness.proofs.Following.{by_premises}
 use Rattle.rt_liveness.proofs.closure.by_premise.Goals as goal

@@ -1,6 +1,6 @@
 use Rattle.std.proofs.Common.{◌≡◌, ℕ}
-use Rattle.rt_liveness.specs.Additions.{Adds}
-use Rattle.rt_liveness.specs.Closures.{rules_at, IsPremise}
+use Rattle.rt_liveness.specs.Inside.Additions.{Adds}
+use Rattle.rt_liveness.specs.Inside.Closures.{rules_at, IsPremise}
 use Rattle.rt_liveness.proofs.Adding.{ForFirst}
 use Rattle.rt_liveness.proofs.closure.by_premise.Given as goal
 

@@ -1,7 +1,7 @@
 use Rattle.std.proofs.Common.{◌↔◌, List, Contains, sym, subst, arith}
 use Rattle.rt_liveness.specs.declared.rule.Rule.{Rule}
 use Rattle.rt_liveness.specs.declared.rule.When.TheVariants.{Always, If}
-use Rattle.rt_liveness.specs.Closures.{IsPremise, IsSaid, rules_at}
+use Rattle.rt_liveness.specs.Inside.Closures.{IsPremise, IsSaid, rules_at}
 use Rattle.rt_liveness.proofs.Adding.{alike, from_none}
 use Rattle.rt_liveness.proofs.Following.{begins, goes_on, ends, same_said}
 use Rattle.rt_liveness.proofs.closure.closure.Goals as goal

@@ -1,5 +1,5 @@
 use Rattle.std.proofs.Common.{◌≡◌, ℕ, ◌-◌, vec_len}
-use Rattle.rt_liveness.specs.Closures.{rules_at}
+use Rattle.rt_liveness.specs.Inside.Closures.{rules_at}
 use Rattle.rt_liveness.proofs.closure.grow.Given as goal
 
 abbrev pub invariant-loop-alloc : goal.invariant-loop-alloc

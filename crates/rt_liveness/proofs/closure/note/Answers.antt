@@ -1,5 +1,5 @@
 use Rattle.std.proofs.Common.{sym, ◌∙◌}
-use Rattle.rt_liveness.specs.Closures.{port_eq}
+use Rattle.rt_liveness.specs.Inside.Closures.{port_eq}
 use Rattle.rt_liveness.proofs.Adding.{inserted}
 use Rattle.rt_liveness.proofs.Following.{noted, one_port, one_when}
 use Rattle.rt_liveness.proofs.closure.note.Goals as goal

@@ -1,5 +1,5 @@
 use Rattle.std.proofs.lemmas.Option.{slice_get-get_or}
-use Rattle.rt_liveness.specs.Closures.{Says, IsSaid}
+use Rattle.rt_liveness.specs.Inside.Closures.{Says, IsSaid}
 use Rattle.rt_liveness.proofs.Adding.{ForFirst, next_item, all_items, alike}
 use Rattle.rt_liveness.proofs.Following.{said}
 use Rattle.std.proofs.Common.{Contains}

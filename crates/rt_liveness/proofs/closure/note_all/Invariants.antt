@@ -1,5 +1,5 @@
-use Rattle.rt_liveness.specs.Additions.{Adds}
-use Rattle.rt_liveness.specs.Closures.{Says}
+use Rattle.rt_liveness.specs.Inside.Additions.{Adds}
+use Rattle.rt_liveness.specs.Inside.Closures.{Says}
 use Rattle.rt_liveness.proofs.Adding.{ForFirst}
 use Rattle.rt_liveness.proofs.closure.note_all.Given as goal
 

@@ -1,5 +1,5 @@
 use Rattle.std.proofs.Common.{◌≡◌, ◌+◌, arith}
-use Rattle.rt_liveness.specs.Conditions.{port_of, when_given}
+use Rattle.rt_liveness.specs.Inside.Conditions.{port_of, when_given}
 use Rattle.rt_liveness.specs.declared.rule.Rule.{Rule}
 use Rattle.rt_liveness.proofs.Adding.{one_more, up_to}
 use Rattle.rt_liveness.proofs.Rules.{pushed_rule}

@@ -1,6 +1,6 @@
 use Rattle.std.proofs.Common.{◌≡◌, ℕ, ◌+◌, ◌<◌}
-use Rattle.rt_liveness.specs.Additions.{Adds}
-use Rattle.rt_liveness.specs.Conditions.{port_of, when_given}
+use Rattle.rt_liveness.specs.Inside.Additions.{Adds}
+use Rattle.rt_liveness.specs.Inside.Conditions.{port_of, when_given}
 use Rattle.rt_liveness.proofs.gives.add_callee.Given as goal
 
 abbrev pub invariant-loop-r : goal.invariant-loop-r

@@ -3,7 +3,7 @@ use Rattle.std.proofs.lemmas.Option.{slice_get-get_or}
 use Rattle.rt_proc.specs.declared.site.Site.{Site}
 use Rattle.rt_body.specs.Told.{reading_of}
 use Rattle.rt_liveness.specs.declared.rule.Rule.{Rule}
-use Rattle.rt_liveness.specs.GivesRules.{AreSiteRules}
+use Rattle.rt_liveness.specs.Inside.GivesRules.{AreSiteRules}
 use Rattle.rt_liveness.proofs.Adding.{at_place, one_more, up_to}
 use Rattle.rt_liveness.proofs.gives.add_procedure.Goals as goal
 

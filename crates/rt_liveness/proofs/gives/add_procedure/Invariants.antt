@@ -1,8 +1,8 @@
 use Rattle.std.proofs.Common.{◌≡◌, ℕ, ◌<◌, slice_get, Some}
 use Rattle.rt_body.specs.Told.{reading_of}
 use Rattle.rt_proc.specs.declared.site.Site.{Site}
-use Rattle.rt_liveness.specs.Additions.{Adds}
-use Rattle.rt_liveness.specs.GivesRules.{AreSiteRules}
+use Rattle.rt_liveness.specs.Inside.Additions.{Adds}
+use Rattle.rt_liveness.specs.Inside.GivesRules.{AreSiteRules}
 use Rattle.rt_liveness.proofs.gives.add_procedure.Given as goal
 
 abbrev pub invariant-loop-site : goal.invariant-loop-site

@@ -1,8 +1,8 @@
 use Rattle.std.proofs.Common.{List, ◌+◌, subst, arith}
 use Rattle.rt_flow.specs.declared.def.Def.{Def}
 use Rattle.rt_body.specs.Told.{reading_of}
-use Rattle.rt_liveness.specs.Additions.{Adds}
-use Rattle.rt_liveness.specs.GivesRules.{AreWriterRules}
+use Rattle.rt_liveness.specs.Inside.Additions.{Adds}
+use Rattle.rt_liveness.specs.Inside.GivesRules.{AreWriterRules}
 use Rattle.rt_liveness.proofs.Adding.{one_more, up_to}
 use Rattle.rt_liveness.proofs.gives.add_return.Goals as goal
 

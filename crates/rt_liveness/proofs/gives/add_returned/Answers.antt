@@ -2,8 +2,8 @@ use Rattle.std.proofs.Common.{◌≡◌, true, sym, ◌∙◌, ap}
 use Rattle.std.proofs.lemmas.Bool.{true≢false}
 use Rattle.std.proofs.lemmas.Result.{on_ok_weaker}
 use Rattle.rt_body.specs.Told.{reading_of}
-use Rattle.rt_liveness.specs.Conditions.{is_return}
-use Rattle.rt_liveness.specs.GivesRules.{AreReturnRules, AreReturnedRules}
+use Rattle.rt_liveness.specs.Inside.Conditions.{is_return}
+use Rattle.rt_liveness.specs.Inside.GivesRules.{AreReturnRules, AreReturnedRules}
 use Rattle.rt_liveness.proofs.Adding.{alike, nothing}
 use Rattle.rt_liveness.proofs.Meeting.{return_kind}
 use Rattle.rt_liveness.proofs.gives.add_returned.Goals as goal

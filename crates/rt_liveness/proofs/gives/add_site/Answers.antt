@@ -2,8 +2,8 @@ use Rattle.std.proofs.Common.{List, subst}
 use Rattle.std.proofs.lemmas.Result.{on_ok_weaker}
 use Rattle.rt_body.specs.Told.{reading_of}
 use Rattle.rt_proc.specs.declared.site.Callee.{Callee}
-use Rattle.rt_liveness.specs.Additions.{Adds}
-use Rattle.rt_liveness.specs.GivesRules.{AreReturnedRules, AreTailRules}
+use Rattle.rt_liveness.specs.Inside.Additions.{Adds}
+use Rattle.rt_liveness.specs.Inside.GivesRules.{AreReturnedRules, AreTailRules}
 use Rattle.rt_liveness.proofs.Adding.{both}
 use Rattle.rt_liveness.proofs.gives.add_site.Goals as goal
 

@@ -1,6 +1,6 @@
 use Rattle.std.proofs.Common.{◌+◌}
 use Rattle.std.proofs.lemmas.Result.{on_ok_weaker}
-use Rattle.rt_liveness.specs.Conditions.{port_of, when_written}
+use Rattle.rt_liveness.specs.Inside.Conditions.{port_of, when_written}
 use Rattle.rt_liveness.proofs.Adding.{read_at}
 use Rattle.rt_liveness.proofs.Rules.{pushed_rule, writer_rule, no_writer}
 use Rattle.rt_liveness.proofs.gives.add_writer.Goals as goal

@@ -1,5 +1,5 @@
 use Rattle.std.proofs.lemmas.Option.{slice_get-get_or}
-use Rattle.rt_liveness.specs.GivesRules.{IsWriterRule}
+use Rattle.rt_liveness.specs.Inside.GivesRules.{IsWriterRule}
 use Rattle.rt_liveness.proofs.Adding.{next_item, all_items}
 use Rattle.rt_liveness.proofs.gives.add_writers.Goals as goal
 

@@ -1,5 +1,5 @@
-use Rattle.rt_liveness.specs.Additions.{Adds}
-use Rattle.rt_liveness.specs.GivesRules.{IsWriterRule}
+use Rattle.rt_liveness.specs.Inside.Additions.{Adds}
+use Rattle.rt_liveness.specs.Inside.GivesRules.{IsWriterRule}
 use Rattle.rt_liveness.proofs.Adding.{ForFirst}
 use Rattle.rt_liveness.proofs.gives.add_writers.Given as goal
 

@@ -6,7 +6,7 @@ use Rattle.rt_proc.specs.declared.site.Site.{Site}
 use Rattle.rt_body.specs.declared.body.Body.{Body}
 use Rattle.rt_body.specs.Told.{reading_of}
 use Rattle.rt_liveness.specs.declared.rule.Rule.{Rule}
-use Rattle.rt_liveness.specs.GivesRules.{AreGivesRules, AreAllRules, IsProcedure}
+use Rattle.rt_liveness.specs.Inside.GivesRules.{AreGivesRules, AreAllRules, IsProcedure}
 use Rattle.rt_liveness.proofs.Adding.{read_at, one_more, up_to, from_none}
 use Rattle.rt_liveness.proofs.Rules.{for_procedure}
 use Rattle.rt_liveness.proofs.gives.gives_rules.Goals as goal

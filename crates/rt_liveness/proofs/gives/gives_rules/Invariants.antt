@@ -2,8 +2,8 @@ use Rattle.std.proofs.Common.{ℕ, ◌<◌}
 use Rattle.rt_proc.specs.declared.proc.Proc.{Proc}
 use Rattle.rt_body.specs.declared.body.Body.{Body}
 use Rattle.rt_body.specs.Told.{reading_of}
-use Rattle.rt_liveness.specs.Additions.{Adds}
-use Rattle.rt_liveness.specs.GivesRules.{IsProcedure, AreGivesRules}
+use Rattle.rt_liveness.specs.Inside.Additions.{Adds}
+use Rattle.rt_liveness.specs.Inside.GivesRules.{IsProcedure, AreGivesRules}
 use Rattle.rt_liveness.proofs.gives.gives_rules.Given as goal
 
 abbrev pub invariant-loop-number : goal.invariant-loop-number

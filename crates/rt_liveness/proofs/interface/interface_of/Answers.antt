@@ -2,9 +2,9 @@ use Rattle.std.proofs.Common.{◌↔◌, List, Contains, subst}
 use Rattle.rt_liveness.specs.declared.named.Named.{Named}
 use Rattle.rt_liveness.specs.declared.rule.Port.{Port}
 use Rattle.rt_liveness.specs.declared.rule.Rule.{Rule}
-use Rattle.rt_liveness.specs.Closures.{Follows}
-use Rattle.rt_liveness.specs.GivesRules.{AreAllRules as AreGivesRules}
-use Rattle.rt_liveness.specs.TakesRules.{AreAllRules as AreTakesRules}
+use Rattle.rt_liveness.specs.Inside.Closures.{Follows}
+use Rattle.rt_liveness.specs.Inside.GivesRules.{AreAllRules as AreGivesRules}
+use Rattle.rt_liveness.specs.Inside.TakesRules.{AreAllRules as AreTakesRules}
 use Rattle.rt_liveness.proofs.interface.interface_of.Goals as goal
 
 pub returns : goal.returns

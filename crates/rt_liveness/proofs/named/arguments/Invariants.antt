@@ -2,7 +2,7 @@ use Rattle.std.proofs.Common.{◌≡◌, ℕ, ◌<◌, ◌||◌, false, length, 
 use Rattle.rt_lines.specs.declared.label.Loc.TheVariants.{Arg}
 use Rattle.rt_lines.specs.declared.label.Label.TheVariants.{In}
 use Rattle.rt_scheme.specs.Ports.{names_label}
-use Rattle.rt_liveness.specs.Signed.{counts_argument}
+use Rattle.rt_liveness.specs.Inside.Signed.{counts_argument}
 use Rattle.rt_liveness.proofs.named.arguments.Given as goal
 
 abbrev pub invariant-loop-n : goal.invariant-loop-n

@@ -2,7 +2,7 @@ use Rattle.std.proofs.Common.{◌≡◌, ℕ, Some, length, slice_get}
 use Rattle.rt_body.specs.Symbols.{symbol_of}
 use Rattle.rt_sigs.specs.Signatures.{signature_of, args_of}
 use Rattle.rt_liveness.specs.declared.named.Named.{Named}
-use Rattle.rt_liveness.specs.Signed.{IsNamedBy}
+use Rattle.rt_liveness.specs.Inside.Signed.{IsNamedBy}
 use Rattle.rt_liveness.proofs.named.named_symbols.Given as goal
 
 abbrev pub invariant-loop-symbol : goal.invariant-loop-symbol

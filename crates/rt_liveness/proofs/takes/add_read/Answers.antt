@@ -1,6 +1,6 @@
 use Rattle.std.proofs.Common.{◌||◌, ap, ◌∙◌}
 use Rattle.std.proofs.lemmas.Result.{on_ok_weaker}
-use Rattle.rt_liveness.specs.Conditions.{is_among, port_of, returns_real, when_true}
+use Rattle.rt_liveness.specs.Inside.Conditions.{is_among, port_of, returns_real, when_true}
 use Rattle.rt_liveness.specs.Reads.{reads_of}
 use Rattle.rt_liveness.proofs.Rules.{pushed_rule}
 use Rattle.rt_liveness.proofs.takes.add_read.Goals as goal

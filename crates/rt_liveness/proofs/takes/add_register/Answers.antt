@@ -1,7 +1,7 @@
 use Rattle.std.proofs.Common.{◌≡◌, ◌⊎◌, true}
 use Rattle.std.proofs.lemmas.Result.{on_ok_weaker}
-use Rattle.rt_liveness.specs.Conditions.{begins_with_entry}
-use Rattle.rt_liveness.specs.TakesRules.{IsReadRule, AreTakenRules, AreRegisterRules}
+use Rattle.rt_liveness.specs.Inside.Conditions.{begins_with_entry}
+use Rattle.rt_liveness.specs.Inside.TakesRules.{IsReadRule, AreTakenRules, AreRegisterRules}
 use Rattle.rt_liveness.proofs.Adding.{alike, both}
 use Rattle.rt_liveness.proofs.takes.add_register.Goals as goal
 

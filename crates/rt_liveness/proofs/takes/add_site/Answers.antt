@@ -2,9 +2,9 @@ use Rattle.std.proofs.Common.{List, ◌+◌, ◌∙◌, subst, arith}
 use Rattle.rt_flow.specs.declared.def.Def.{Def}
 use Rattle.rt_proc.specs.declared.site.Callee.{Callee}
 use Rattle.rt_body.specs.Told.{reading_of}
-use Rattle.rt_liveness.specs.Additions.{Adds}
+use Rattle.rt_liveness.specs.Inside.Additions.{Adds}
 use Rattle.rt_liveness.specs.Programs.{callees_of}
-use Rattle.rt_liveness.specs.TakesRules.{AreRegisterRules}
+use Rattle.rt_liveness.specs.Inside.TakesRules.{AreRegisterRules}
 use Rattle.rt_liveness.proofs.Adding.{one_more, up_to}
 use Rattle.rt_liveness.proofs.takes.add_site.Goals as goal
 

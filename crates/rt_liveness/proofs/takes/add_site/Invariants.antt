@@ -1,8 +1,8 @@
 use Rattle.std.proofs.Common.{ℕ, ◌+◌, ◌<◌}
 use Rattle.rt_body.specs.Told.{reading_of}
-use Rattle.rt_liveness.specs.Additions.{Adds}
+use Rattle.rt_liveness.specs.Inside.Additions.{Adds}
 use Rattle.rt_liveness.specs.Programs.{callees_of}
-use Rattle.rt_liveness.specs.TakesRules.{AreRegisterRules}
+use Rattle.rt_liveness.specs.Inside.TakesRules.{AreRegisterRules}
 use Rattle.rt_liveness.proofs.takes.add_site.Given as goal
 
 abbrev pub invariant-loop-n : goal.invariant-loop-n

@@ -1,6 +1,6 @@
 use Rattle.std.proofs.Common.{◌≡◌}
 use Rattle.std.proofs.lemmas.Option.{slice_get-get_or}
-use Rattle.rt_liveness.specs.Conditions.{port_of, when_taken}
+use Rattle.rt_liveness.specs.Inside.Conditions.{port_of, when_taken}
 use Rattle.rt_liveness.specs.declared.rule.Rule.{Rule}
 use Rattle.rt_liveness.proofs.Adding.{next_item, all_items}
 use Rattle.rt_liveness.proofs.Rules.{pushed_rule}

@@ -1,6 +1,6 @@
 use Rattle.std.proofs.Common.{◌≡◌}
-use Rattle.rt_liveness.specs.Additions.{Adds}
-use Rattle.rt_liveness.specs.Conditions.{port_of, when_taken}
+use Rattle.rt_liveness.specs.Inside.Additions.{Adds}
+use Rattle.rt_liveness.specs.Inside.Conditions.{port_of, when_taken}
 use Rattle.rt_liveness.proofs.Adding.{ForFirst}
 use Rattle.rt_liveness.proofs.takes.add_taken.Given as goal
 

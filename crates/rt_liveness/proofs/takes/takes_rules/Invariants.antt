@@ -2,9 +2,9 @@ use Rattle.std.proofs.Common.{ℕ, ◌<◌}
 use Rattle.rt_proc.specs.declared.proc.Proc.{Proc}
 use Rattle.rt_body.specs.declared.body.Body.{Body}
 use Rattle.rt_body.specs.Told.{reading_of}
-use Rattle.rt_liveness.specs.Additions.{Adds}
-use Rattle.rt_liveness.specs.GivesRules.{IsProcedure}
-use Rattle.rt_liveness.specs.TakesRules.{AreTakesRules}
+use Rattle.rt_liveness.specs.Inside.Additions.{Adds}
+use Rattle.rt_liveness.specs.Inside.GivesRules.{IsProcedure}
+use Rattle.rt_liveness.specs.Inside.TakesRules.{AreTakesRules}
 use Rattle.rt_liveness.proofs.takes.takes_rules.Given as goal
 
 abbrev pub invariant-loop-number : goal.invariant-loop-number

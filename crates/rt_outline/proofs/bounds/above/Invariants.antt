@@ -1,6 +1,6 @@
 use Rattle.std.proofs.Common.{take}
 use Rattle.rt_lines.specs.Orders.{IsAtOrBelow}
-use Rattle.rt_outline.specs.Bounds.{AreBoundsAt}
+use Rattle.rt_outline.specs.Inside.Bounds.{AreBoundsAt}
 use Rattle.rt_outline.proofs.bounds.above.Given as goal
 
 abbrev pub invariant-loop-bound : goal.invariant-loop-bound

@@ -1,5 +1,5 @@
 use Rattle.std.proofs.Common.{take}
-use Rattle.rt_outline.specs.Bounds.{AreBoundsAt, IsAtOrAbove}
+use Rattle.rt_outline.specs.Inside.Bounds.{AreBoundsAt, IsAtOrAbove}
 use Rattle.rt_outline.proofs.bounds.below.Given as goal
 
 abbrev pub invariant-loop-bound : goal.invariant-loop-bound

@@ -1,5 +1,5 @@
 use Rattle.std.proofs.Common.{◌≡◌, true, sym, ◌∙◌}
-use Rattle.rt_outline.specs.Bounds.{IsAtOrAbove}
+use Rattle.rt_outline.specs.Inside.Bounds.{IsAtOrAbove}
 use Rattle.rt_outline.proofs.Bounded.{at_more, at_other}
 use Rattle.rt_outline.proofs.bounds.enter_below.Goals as goal
 

@@ -1,5 +1,5 @@
 use Rattle.rt_lines.specs.declared.line.Line.TheVariants.{Low}
-use Rattle.rt_outline.specs.Bounds.{AreBounds}
+use Rattle.rt_outline.specs.Inside.Bounds.{AreBounds}
 use Rattle.rt_outline.proofs.bounds.lows.Given as goal
 
 abbrev pub invariant-loop-i : goal.invariant-loop-i

@@ -1,7 +1,7 @@
 use Rattle.std.proofs.Common.{◌≡◌, Some, sym, ap, ◌∙◌}
 use Rattle.std.specs.Prelude.{slice_get}
 use Rattle.std.proofs.lemmas.Option.{slice_get-get_or}
-use Rattle.rt_outline.specs.Bounds.{upper_bound}
+use Rattle.rt_outline.specs.Inside.Bounds.{upper_bound}
 use Rattle.rt_outline.proofs.Bounded.{bounds_more}
 use Rattle.rt_outline.proofs.bounds.ups.Goals as goal
 

@@ -1,4 +1,4 @@
-use Rattle.rt_outline.specs.Bounds.{AreBounds, upper_bound}
+use Rattle.rt_outline.specs.Inside.Bounds.{AreBounds, upper_bound}
 use Rattle.rt_outline.proofs.bounds.ups.Given as goal
 
 abbrev pub invariant-loop-i : goal.invariant-loop-i

@@ -1,6 +1,6 @@
 use Rattle.std.proofs.Common.{◌≡◌, ℕ, ◌<◌, false}
 use Rattle.rt_outline.specs.Frames.{IsFrame, IsPushedMore}
-use Rattle.rt_outline.specs.Sweeps.{IsDoneAt}
+use Rattle.rt_outline.specs.Inside.Sweeps.{IsDoneAt}
 use Rattle.rt_outline.proofs.closing.pass.Given as goal
 
 abbrev pub invariant-loop-node : goal.invariant-loop-node

@@ -1,5 +1,5 @@
 use Rattle.std.proofs.Common.{◌+◌, ◌*◌}
-use Rattle.rt_outline.specs.Resting.{AreKnown, AreMoreRested, AreRested}
+use Rattle.rt_outline.specs.Inside.Resting.{AreKnown, AreMoreRested, AreRested}
 use Rattle.rt_outline.proofs.resting.+resting.Given as goal
 
 abbrev pub decreases-is_pushed : goal.decreases-is_pushed

@@ -1,4 +1,4 @@
-use Rattle.rt_outline.specs.Resting.{AreKnown}
+use Rattle.rt_outline.specs.Inside.Resting.{AreKnown}
 use Rattle.rt_outline.proofs.resting.are_below.Given as goal
 
 abbrev pub invariant-loop-source : goal.invariant-loop-source

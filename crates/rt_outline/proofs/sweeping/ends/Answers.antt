@@ -2,7 +2,7 @@ use Rattle.std.proofs.Common.{true, List, [], Contains, subst}
 use Rattle.rt_outline.specs.declared.arc.Arc.{Arc}
 use Rattle.rt_components.specs.Groups.{Reaches}
 use Rattle.rt_outline.specs.Arcs.{Leads}
-use Rattle.rt_outline.specs.Sweeps.{IsEnd, IsSwept, end_of}
+use Rattle.rt_outline.specs.Inside.Sweeps.{IsEnd, IsSwept, end_of}
 use Rattle.rt_outline.proofs.Pushing.{end_pushed, swept_done}
 use Rattle.rt_outline.proofs.sweeping.ends.Goals as goal
 

@@ -2,7 +2,7 @@ use Rattle.std.proofs.Common.{◌≡◌, ℕ, true, None, Some, sym, subst}
 use Rattle.std.proofs.lemmas.Option.{get_or_from_slice_get, slice_get_within}
 use Rattle.rt_named.specs.Numbers.{IsLeft}
 use Rattle.rt_outline.specs.Arcs.{Leads}
-use Rattle.rt_outline.specs.Sweeps.{end_of}
+use Rattle.rt_outline.specs.Inside.Sweeps.{end_of}
 use Rattle.rt_outline.proofs.Swept.{sweeping_first, sweeping_next, sweeping_whole}
 use Rattle.rt_outline.proofs.sweeping.sweep.Goals as goal
 use Rattle.rt_base.proofs.Lists.{past_end}

@@ -1,6 +1,6 @@
 use Rattle.std.proofs.Common.{◌≡◌, ℕ, true, Some, None, refl, sym, ap, ◌∙◌}
 use Rattle.rt_outline.specs.Arcs.{Leads}
-use Rattle.rt_outline.specs.Sweeps.{end_of}
+use Rattle.rt_outline.specs.Inside.Sweeps.{end_of}
 use Rattle.rt_named.proofs.Noting.{left_as, left_none}
 use Rattle.rt_outline.proofs.sweeping.visit.Goals as goal
 

@@ -1,5 +1,5 @@
 use Rattle.std.proofs.Common.{◌≡◌, take}
-use Rattle.rt_polar.specs.Digests.{with_word}
+use Rattle.rt_polar.specs.Inside.Digests.{with_word}
 use Rattle.rt_polar.proofs.digest.with_word.Given as goal
 
 abbrev pub invariant-loop-letter : goal.invariant-loop-letter

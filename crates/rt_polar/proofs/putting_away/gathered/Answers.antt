@@ -1,5 +1,5 @@
 use Rattle.std.proofs.Common.{[], ◌∷◌, ◌++◌, sym, ap, ◌∙◌}
-use Rattle.rt_polar.specs.Places.{lines_of}
+use Rattle.rt_polar.specs.Inside.Places.{lines_of}
 use Rattle.rt_polar.proofs.Placing.{lines_of-append}
 use Rattle.rt_polar.proofs.putting_away.gathered.Goals as goal
 

@@ -5,9 +5,9 @@ use Rattle.indexmap.proofs.MapLemmas.{OnOk-map}
 use Rattle.rt_lines.specs.declared.variable.Dtv.{Dtv}
 use Rattle.rt_rules.specs.Put.{put_lines}
 use Rattle.rt_polar.specs.Index.{has}
-use Rattle.rt_polar.specs.Places.{Agrees, ArePending, ArePlaces, Settles, lines_of}
+use Rattle.rt_polar.specs.Inside.Places.{Agrees, ArePending, ArePlaces, Settles, lines_of}
 use Rattle.rt_polar.specs.Tidied.{tidied}
-use Rattle.rt_polar.specs.Turns.{GivesAway, IsNextTurn}
+use Rattle.rt_polar.specs.Inside.Turns.{GivesAway, IsNextTurn}
 use Rattle.rt_polar.proofs.Giving.{gives_in_none, gives_in_some, next_side, on_ok_both, pending_after, pending_settled, turn_within}
 use Rattle.rt_polar.proofs.putting_away.give_away.Goals as goal
 

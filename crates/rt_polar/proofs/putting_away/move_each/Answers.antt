@@ -3,7 +3,7 @@ use Rattle.std.proofs.Math.ListN.{set}
 use Rattle.std.specs.BTreeSet.{contains}
 use Rattle.std.specs.Ordering.{nat_cmp}
 use Rattle.rt_polar.specs.Index.{has}
-use Rattle.rt_polar.specs.Places.{Settles, moved}
+use Rattle.rt_polar.specs.Inside.Places.{Settles, moved}
 use Rattle.rt_polar.proofs.Moving.{moved_end, moved_step}
 use Rattle.rt_polar.proofs.putting_away.move_each.Goals as goal
 

@@ -2,7 +2,7 @@ use Rattle.std.proofs.Common.{◌-◌, length}
 use Rattle.std.specs.BTreeSet.{contains}
 use Rattle.std.specs.Ordering.{nat_cmp}
 use Rattle.rt_polar.specs.Index.{has}
-use Rattle.rt_polar.specs.Places.{ArePlaces}
+use Rattle.rt_polar.specs.Inside.Places.{ArePlaces}
 use Rattle.rt_polar.proofs.Moving.{AreMoved}
 use Rattle.rt_polar.proofs.putting_away.move_each.Given as goal
 

@@ -3,7 +3,7 @@ use Rattle.std.specs.BTreeSet.{contains}
 use Rattle.std.specs.Ordering.{nat_cmp}
 use Rattle.rt_lines.specs.declared.line.Line.{Line}
 use Rattle.rt_polar.specs.Index.{Names}
-use Rattle.rt_polar.specs.Places.{Holds}
+use Rattle.rt_polar.specs.Inside.Places.{Holds}
 use Rattle.rt_polar.proofs.putting_away.named.Given as goal
 
 abbrev pub invariant-loop-slot : goal.invariant-loop-slot

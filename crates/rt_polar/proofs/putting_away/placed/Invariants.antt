@@ -1,5 +1,5 @@
 use Rattle.std.proofs.Common.{◌≡◌}
-use Rattle.rt_polar.specs.Places.{ArePlaces, lines_of}
+use Rattle.rt_polar.specs.Inside.Places.{ArePlaces, lines_of}
 use Rattle.rt_polar.specs.Tidied.{tidied}
 use Rattle.rt_polar.proofs.putting_away.placed.Given as goal
 

@@ -3,7 +3,7 @@ use Rattle.std.specs.BTreeSet.{contains}
 use Rattle.std.specs.Ordering.{nat_cmp}
 use Rattle.rt_lines.specs.declared.line.Line.{Line}
 use Rattle.rt_rules.specs.Put.{use_of}
-use Rattle.rt_polar.specs.Places.{Holds, lines_of}
+use Rattle.rt_polar.specs.Inside.Places.{Holds, lines_of}
 use Rattle.rt_polar.specs.Puts.{Puts}
 use Rattle.rt_polar.specs.Tidied.{tidied}
 use Rattle.rt_polar.specs.Index.{has}

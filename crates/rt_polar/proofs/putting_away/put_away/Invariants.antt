@@ -2,7 +2,7 @@ use Rattle.std.proofs.Common.{List}
 use Rattle.std.specs.BTreeSet.{contains}
 use Rattle.std.specs.Ordering.{nat_cmp}
 use Rattle.rt_lines.specs.declared.line.Line.{Line}
-use Rattle.rt_polar.specs.Places.{ArePending, ArePlaces, lines_of}
+use Rattle.rt_polar.specs.Inside.Places.{ArePending, ArePlaces, lines_of}
 use Rattle.rt_polar.specs.Puts.{Puts}
 use Rattle.rt_polar.specs.Tidied.{tidied}
 use Rattle.rt_polar.proofs.Falling.{sub_count}

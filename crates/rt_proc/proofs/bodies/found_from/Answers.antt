@@ -3,7 +3,7 @@ use Rattle.std.proofs.lemmas.Option.{slice_get_read}
 use Rattle.rt_control.specs.Tables.{with_places}
 use Rattle.rt_link.specs.declared.place.Place.{Place}
 use Rattle.rt_proc.specs.Bodies.{StepsTo}
-use Rattle.rt_proc.specs.Looks.{stepped_by}
+use Rattle.rt_proc.specs.Inside.Looks.{stepped_by}
 use Rattle.rt_proc.proofs.EntrySets.{reached-body}
 use Rattle.rt_proc.proofs.Inserted.{inserted-all}
 use Rattle.rt_proc.proofs.Staying.{stepped, one-place}

@@ -1,7 +1,7 @@
 use Rattle.std.proofs.Common.{◌≡◌, ◌-◌}
 use Rattle.rt_link.specs.declared.place.Place.{Place}
 use Rattle.rt_proc.specs.Bodies.{StepsTo}
-use Rattle.rt_proc.specs.Founds.{HasFound}
+use Rattle.rt_proc.specs.Inside.Founds.{HasFound}
 use Rattle.rt_proc.proofs.Walking.{IsWalking}
 use Rattle.rt_proc.proofs.bodies.found_from.Given as goal
 

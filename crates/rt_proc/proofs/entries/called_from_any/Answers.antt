@@ -1,6 +1,6 @@
 use Rattle.std.proofs.Common.{List, ◌++◌, ap, ◌∙◌, arith}
 use Rattle.rt_link.specs.declared.place.Place.{Place}
-use Rattle.rt_proc.specs.Looks.{called_by}
+use Rattle.rt_proc.specs.Inside.Looks.{called_by}
 use Rattle.rt_proc.proofs.Called.{calls_of-more, calls_of-all}
 use Rattle.rt_proc.proofs.Forms.{calls}
 use Rattle.rt_proc.proofs.entries.called_from_any.Goals as goal

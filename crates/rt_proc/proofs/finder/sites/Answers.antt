@@ -18,7 +18,7 @@ look-requires-clause-reached c =
 pub returns-in-Err-clause-bad : goal.returns-in-Err-clause-bad
 returns-in-Err-clause-bad c =
     let place = get_or c.args.body.now c.loop-place.place-index nowhere in
-    first-fault c.args.code.now.source.object.now c.args.code.now.source.ends.now c.args.own c.args.body.now c.requires.rising c.requires.body c.loop-place.place-index nowhere c.in-Err.fault c.number.result c.number.ensures
+    first-fault c.args.code.now.source.object.now c.args.code.now.source.ends.now c.args.own c.args.body.now c.requires.ascending c.requires.body c.loop-place.place-index nowhere c.in-Err.fault c.number.result c.number.ensures
     c.loop-place-test.true c.loop-place.invariant.sound (subst (λ (look : Look). IsLookAt c.args.code.now.source.object.now c.args.code.now.source.ends.now place look) c.in-Err.is c.look.ensures)
 
 pub loop-place-preserved : goal.loop-place-preserved
@@ -28,4 +28,4 @@ loop-place-preserved c =
     c.loop-place-test.true c.in_ok-push-in-Ok.ensures.ok c.in_ok-site_of-in-Ok.ensures (subst (λ (look : Look). IsLookAt c.args.code.now.source.object.now c.args.code.now.source.ends.now place look) c.in-Ok.is c.look.ensures) c.loop-place.invariant
 
 pub returns-clause-sound : goal.returns-clause-sound
-returns-clause-sound c = no-fault c.args.code.now.source.object.now c.args.code.now.source.ends.now c.args.own c.args.body.now c.requires.rising c.requires.body c.loop-place.place-index c.loop-place-test.false c.loop-place.invariant.sound
+returns-clause-sound c = no-fault c.args.code.now.source.object.now c.args.code.now.source.ends.now c.args.own c.args.body.now c.requires.ascending c.requires.body c.loop-place.place-index c.loop-place-test.false c.loop-place.invariant.sound

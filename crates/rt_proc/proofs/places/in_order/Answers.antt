@@ -1,13 +1,13 @@
 use Rattle.std.proofs.Common.{◌↔◌, Contains, List, sym, subst}
 use Rattle.std.proofs.lemmas.Result.{IfOk-weaker}
 use Rattle.rt_link.specs.declared.place.Place.{Place}
-use Rattle.rt_proc.specs.Order.{AreRising}
-use Rattle.rt_proc.proofs.PlaceLaws.{AreRising-keys, Contains-keys}
+use Rattle.rt_proc.specs.Order.{AreAscending}
+use Rattle.rt_proc.proofs.PlaceLaws.{AreAscending-keys, Contains-keys}
 use Rattle.rt_proc.proofs.places.in_order.Goals as goal
 
-pub returns-clause-rising : goal.returns-clause-rising
-returns-clause-rising c =
-    IfOk-weaker c.listed.result _ _ (λ sorted e. subst AreRising (sym e) (AreRising-keys c.in_ok-set_of.field-0 c.in_ok-set_of.ensures.1)) c.listed.ensures
+pub returns-clause-ascending : goal.returns-clause-ascending
+returns-clause-ascending c =
+    IfOk-weaker c.listed.result _ _ (λ sorted e. subst AreAscending (sym e) (AreAscending-keys c.in_ok-set_of.field-0 c.in_ok-set_of.ensures.1)) c.listed.ensures
 
 pub returns-clause-same : goal.returns-clause-same
 returns-clause-same c =

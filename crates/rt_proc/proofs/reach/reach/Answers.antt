@@ -3,7 +3,7 @@ use Rattle.std.proofs.lemmas.Option.{slice_get_read}
 use Rattle.rt_control.specs.Tables.{with_places}
 use Rattle.rt_control.specs.Laws.{IsGood}
 use Rattle.rt_proc.specs.Entries.{IsFunction, LeadsTo}
-use Rattle.rt_proc.specs.Looks.{led_by}
+use Rattle.rt_proc.specs.Inside.Looks.{led_by}
 use Rattle.rt_proc.proofs.Forms.{leads, good-led}
 use Rattle.rt_proc.proofs.Inserted.{inserted-all}
 use Rattle.rt_proc.proofs.Looking.{no-looks, looks-more, all-looks}

@@ -1,7 +1,7 @@
 use Rattle.std.proofs.Common.{◌-◌, take}
 use Rattle.rt_control.specs.Laws.{IsGood}
 use Rattle.rt_proc.specs.Entries.{IsFunction, LeadsTo}
-use Rattle.rt_proc.specs.Founds.{HasFound}
+use Rattle.rt_proc.specs.Inside.Founds.{HasFound}
 use Rattle.rt_proc.proofs.Looking.{AreLooksAt}
 use Rattle.rt_proc.proofs.Walking.{IsWalking}
 use Rattle.rt_proc.proofs.reach.reach.Given as goal

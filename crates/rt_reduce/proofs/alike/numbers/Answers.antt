@@ -1,7 +1,7 @@
 use Rattle.std.proofs.Common.{List, subst, sym}
 use Rattle.std.proofs.lemmas.List.{take_all}
 use Rattle.rt_lines.specs.declared.variable.Dtv.{Dtv}
-use Rattle.rt_reduce.specs.Alike.{AreNumbered}
+use Rattle.rt_reduce.specs.Inside.Alike.{AreNumbered}
 use Rattle.rt_reduce.proofs.Numbering.{numbered_next, numbered_none}
 use Rattle.rt_reduce.proofs.alike.numbers.Goals as goal
 

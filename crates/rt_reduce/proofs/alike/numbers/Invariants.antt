@@ -1,5 +1,5 @@
 use Rattle.std.proofs.Common.{take}
-use Rattle.rt_reduce.specs.Alike.{AreNumbered}
+use Rattle.rt_reduce.specs.Inside.Alike.{AreNumbered}
 use Rattle.rt_reduce.proofs.alike.numbers.Given as goal
 
 abbrev pub invariant-loop-side : goal.invariant-loop-side

@@ -1,7 +1,7 @@
 use Rattle.std.proofs.Common.{arith, get_or, refl, ap}
 use Rattle.std.proofs.lemmas.List.{get_or_default}
 use Rattle.rt_lines.specs.declared.variable.Dtv.{Dtv}
-use Rattle.rt_reduce.specs.Alike.{no_side}
+use Rattle.rt_reduce.specs.Inside.Alike.{no_side}
 use Rattle.rt_reduce.proofs.Noting.{noted_next}
 use Rattle.rt_reduce.proofs.bases.noted.Goals as goal
 

@@ -2,7 +2,7 @@ use Rattle.std.proofs.Common.{◌≡◌, true, [], ◌∷◌, ◌++◌, sym, ap,
 use Rattle.rt_lines.specs.declared.variable.Dtv.{Dtv}
 use Rattle.rt_lines.specs.declared.line.Line.{Line}
 use Rattle.rt_lines.specs.Orders.{IsAtOrBelow}
-use Rattle.rt_reduce.specs.Deciding.{AreAbove}
+use Rattle.rt_reduce.specs.Inside.Deciding.{AreAbove}
 use Rattle.rt_reduce.proofs.Bounding.{above_more, above_other}
 use Rattle.rt_reduce.proofs.bounds.enter_low.Goals as goal
 

@@ -1,6 +1,6 @@
 use Rattle.std.proofs.Common.{List, take, sym, subst}
 use Rattle.rt_lines.specs.declared.line.Line.{Line}
-use Rattle.rt_reduce.specs.Deciding.{AreAbove}
+use Rattle.rt_reduce.specs.Inside.Deciding.{AreAbove}
 use Rattle.rt_reduce.proofs.bounds.lows.Goals as goal
 use Rattle.rt_base.proofs.Lists.{take-next}
 

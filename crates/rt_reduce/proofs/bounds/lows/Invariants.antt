@@ -1,5 +1,5 @@
 use Rattle.std.proofs.Common.{take}
-use Rattle.rt_reduce.specs.Deciding.{AreAbove}
+use Rattle.rt_reduce.specs.Inside.Deciding.{AreAbove}
 use Rattle.rt_reduce.proofs.bounds.lows.Given as goal
 
 abbrev pub invariant-loop-line : goal.invariant-loop-line

@@ -1,6 +1,6 @@
 use Rattle.std.proofs.Common.{List, sym, subst}
 use Rattle.rt_lines.specs.declared.line.Line.{Line}
-use Rattle.rt_reduce.specs.Deciding.{Tells}
+use Rattle.rt_reduce.specs.Inside.Deciding.{Tells}
 use Rattle.rt_reduce.proofs.Telling.{tells_open}
 use Rattle.rt_reduce.proofs.deciding.told.Goals as goal
 

@@ -1,7 +1,7 @@
 use Rattle.std.proofs.Common.{rules, All, List, subst, sym}
 use Rattle.rt_lines.specs.declared.line.Line.{Line}
 use Rattle.rt_lines.specs.Lines.{HasConstantsBelow}
-use Rattle.rt_reduce.specs.Deciding.{IsOuterFor, Tells}
+use Rattle.rt_reduce.specs.Inside.Deciding.{IsOuterFor, Tells}
 use Rattle.rt_reduce.proofs.Anew.{all_stand}
 use Rattle.rt_reduce.proofs.deciding.told_alone.Goals as goal
 

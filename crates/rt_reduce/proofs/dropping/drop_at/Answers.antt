@@ -6,7 +6,7 @@ use Rattle.rt_lines.specs.declared.line.Line.{Line}
 use Rattle.rt_lines.specs.Lines.{HasConstantsBelow}
 use Rattle.rt_rules.specs.Rules.{Derivable}
 use Rattle.rt_outline.specs.Lines.{standing}
-use Rattle.rt_reduce.specs.Deciding.{IsInnerFor, IsOuterFor, IsWaysFor, Tells}
+use Rattle.rt_reduce.specs.Inside.Deciding.{IsInnerFor, IsOuterFor, IsWaysFor, Tells}
 use Rattle.rt_witness.specs.Witnesses.{IsLeft}
 use Rattle.rt_reduce.proofs.Flags.{left_gone, outer_for, standing_gone}
 use Rattle.rt_reduce.proofs.Made.{inner_out, ways_out}

@@ -5,7 +5,7 @@ use Rattle.std.proofs.lemmas.Option.{slice_get_read}
 use Rattle.rt_lines.specs.declared.line.Line.{Line}
 use Rattle.rt_rules.specs.Rules.{Derivable}
 use Rattle.rt_sure.specs.declared.fate.Fate.TheVariants.{Goes, Stays}
-use Rattle.rt_reduce.specs.Dropping.{Decides, IsToldAt}
+use Rattle.rt_reduce.specs.Inside.Dropping.{Decides, IsToldAt}
 use Rattle.rt_reduce.proofs.Flags.{left_gone, set_again}
 use Rattle.rt_reduce.proofs.Holes.{above_hole, before_hole, hole_wider, no_hole}
 use Rattle.rt_reduce.proofs.Told.{told_gone}

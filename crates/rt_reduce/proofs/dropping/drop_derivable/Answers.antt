@@ -1,7 +1,7 @@
 use Rattle.std.proofs.Common.{[], List, Bool, length, take, refl, sym, ap, subst, arith}
 use Rattle.rt_lines.specs.Lines.{HasConstantsBelow}
 use Rattle.rt_reduction.specs.Drops.{Drops}
-use Rattle.rt_reduce.specs.Dropping.{AreLeft, AreTold}
+use Rattle.rt_reduce.specs.Inside.Dropping.{AreLeft, AreTold}
 use Rattle.rt_reduce.proofs.Leaving.{AreLeft-all, AreLeft-long, stood_below}
 use Rattle.rt_reduce.proofs.Told.{told_rest}
 use Rattle.rt_reduce.proofs.dropping.drop_derivable.Goals as goal

@@ -6,8 +6,8 @@ use Rattle.std.proofs.lemmas.Option.{IfSome_then}
 use Rattle.rt_lines.specs.declared.line.Line.{Line}
 use Rattle.rt_lines.specs.Lines.{HasConstantsBelow}
 use Rattle.rt_named.specs.Naming.{named as named_by}
-use Rattle.rt_reduce.specs.Deciding.{AreStanding, AreWitnessed, IsInnerFor, IsWaysFor}
-use Rattle.rt_reduce.specs.Dropping.{AreFated, AreLeft, Decides, IsKeptOrGone, IsMoved, IsToldAt}
+use Rattle.rt_reduce.specs.Inside.Deciding.{AreStanding, AreWitnessed, IsInnerFor, IsWaysFor}
+use Rattle.rt_reduce.specs.Inside.Dropping.{AreFated, AreLeft, Decides, IsKeptOrGone, IsMoved, IsToldAt}
 use Rattle.rt_reduce.proofs.Fated.{fated_here, fated_next}
 use Rattle.rt_reduce.proofs.Flags.{first_standing, first_witnessed, moved_long, moved_standing}
 use Rattle.rt_reduce.proofs.Holes.{no_hole}

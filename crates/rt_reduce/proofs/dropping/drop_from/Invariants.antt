@@ -3,8 +3,8 @@ use Rattle.std.specs.List.{remove_range}
 use Rattle.std.specs.Option.{IfSome}
 use Rattle.rt_lines.specs.declared.line.Line.{Line}
 use Rattle.rt_lines.specs.Lines.{HasConstantsBelow}
-use Rattle.rt_reduce.specs.Deciding.{AreStanding, AreWitnessed, IsInnerFor, IsWaysFor}
-use Rattle.rt_reduce.specs.Dropping.{AreFated, AreLeft}
+use Rattle.rt_reduce.specs.Inside.Deciding.{AreStanding, AreWitnessed, IsInnerFor, IsWaysFor}
+use Rattle.rt_reduce.specs.Inside.Dropping.{AreFated, AreLeft}
 use Rattle.rt_reduce.proofs.dropping.drop_from.Given as goal
 
 abbrev pub invariant-loop-alloc : goal.invariant-loop-alloc

@@ -1,6 +1,6 @@
 use Rattle.std.proofs.Common.{◌<◌, List, Contains, length, sym, ap, subst, arith}
 use Rattle.rt_lines.specs.declared.line.Line.{Line}
-use Rattle.rt_reduce.specs.Dropping.{AreLeft}
+use Rattle.rt_reduce.specs.Inside.Dropping.{AreLeft}
 use Rattle.rt_reduce.proofs.Leaving.{AreLeft-none}
 use Rattle.rt_reduce.proofs.dropping.drop_rest.Goals as goal
 

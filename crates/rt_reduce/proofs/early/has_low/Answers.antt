@@ -2,7 +2,7 @@ use Rattle.std.proofs.Common.{List, sym, subst, refl}
 use Rattle.rt_base.proofs.Lists.{Contains-here, Contains-there}
 use Rattle.rt_lines.specs.declared.variable.Dtv.{Dtv}
 use Rattle.rt_lines.specs.declared.line.Line.TheVariants.{Low}
-use Rattle.rt_reduce.specs.Deciding.{AreAbove}
+use Rattle.rt_reduce.specs.Inside.Deciding.{AreAbove}
 use Rattle.rt_reduce.proofs.Opening.{low_seen}
 use Rattle.rt_reduce.proofs.Telling.{above_named}
 use Rattle.rt_reduce.proofs.Unbounded.{low_below, one_named}

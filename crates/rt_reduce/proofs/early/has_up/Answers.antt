@@ -2,7 +2,7 @@ use Rattle.std.proofs.Common.{List, sym, subst, refl}
 use Rattle.rt_base.proofs.Lists.{Contains-here, Contains-there}
 use Rattle.rt_lines.specs.declared.variable.Dtv.{Dtv}
 use Rattle.rt_lines.specs.declared.line.Line.TheVariants.{Up}
-use Rattle.rt_reduce.specs.Deciding.{AreBelow}
+use Rattle.rt_reduce.specs.Inside.Deciding.{AreBelow}
 use Rattle.rt_reduce.proofs.Opening.{up_seen}
 use Rattle.rt_reduce.proofs.Telling.{below_named}
 use Rattle.rt_reduce.proofs.Unbounded.{up_below, one_named}

@@ -3,7 +3,7 @@ use Rattle.rt_base.proofs.Lists.{Contains-here, Contains-there}
 use Rattle.rt_lines.specs.declared.variable.Dtv.{Dtv}
 use Rattle.rt_lines.specs.declared.line.Line.TheVariants.{Low}
 use Rattle.rt_rules.specs.Rules.{Derivable}
-use Rattle.rt_reduce.specs.Deciding.{AreAbove}
+use Rattle.rt_reduce.specs.Inside.Deciding.{AreAbove}
 use Rattle.rt_reduce.proofs.Exact.{low_led, low_not_led, low_there}
 use Rattle.rt_reduce.proofs.Opening.{no_of}
 use Rattle.rt_reduce.proofs.Telling.{above_named}

@@ -3,7 +3,7 @@ use Rattle.rt_base.proofs.Lists.{Contains-here, Contains-there}
 use Rattle.rt_lines.specs.declared.variable.Dtv.{Dtv}
 use Rattle.rt_lines.specs.declared.line.Line.TheVariants.{Up}
 use Rattle.rt_rules.specs.Rules.{Derivable}
-use Rattle.rt_reduce.specs.Deciding.{AreBelow}
+use Rattle.rt_reduce.specs.Inside.Deciding.{AreBelow}
 use Rattle.rt_reduce.proofs.Exact.{up_led, up_not_led, up_there}
 use Rattle.rt_reduce.proofs.Opening.{no_of}
 use Rattle.rt_reduce.proofs.Telling.{below_named}

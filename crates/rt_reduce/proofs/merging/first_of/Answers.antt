@@ -1,7 +1,7 @@
 use Rattle.std.proofs.Common.{List, take, sym, subst}
 use Rattle.std.proofs.lemmas.List.{take_all}
 use Rattle.rt_lines.specs.declared.variable.Dtv.{Dtv}
-use Rattle.rt_reduce.specs.Merging.{IsFirstAmong}
+use Rattle.rt_reduce.specs.Inside.Merging.{IsFirstAmong}
 use Rattle.rt_reduce.proofs.Numbering.{equal_iff}
 use Rattle.rt_reduce.proofs.merging.first_of.Goals as goal
 use Rattle.rt_base.proofs.Lists.{take-next}

@@ -1,8 +1,8 @@
 use Rattle.std.proofs.Common.{List, take}
 use Rattle.rt_lines.specs.declared.line.Line.{Line}
 use Rattle.rt_lines.specs.Orders.{Below}
-use Rattle.rt_reduce.specs.Alike.{AreAlikeAt}
-use Rattle.rt_reduce.specs.Merging.{IsFirstAmong}
+use Rattle.rt_reduce.specs.Inside.Alike.{AreAlikeAt}
+use Rattle.rt_reduce.specs.Inside.Merging.{IsFirstAmong}
 use Rattle.rt_reduce.proofs.merging.first_of.Given as goal
 
 abbrev pub invariant-loop-i : goal.invariant-loop-i

@@ -8,9 +8,9 @@ use Rattle.rt_equals.specs.Comparing.{AreEquals, Lined}
 use Rattle.rt_reduction.specs.Emits.{AreOfScheme}
 use Rattle.rt_reduction.specs.Merges.{HasEqual, Merges}
 use Rattle.rt_reduction.specs.Merges.Merges.{none_left}
-use Rattle.rt_reduce.specs.Alike.{AreNumbered}
-use Rattle.rt_reduce.specs.Bases.{AreNoted, IsAloneAt}
-use Rattle.rt_reduce.specs.Compared.{IsCompared}
+use Rattle.rt_reduce.specs.Inside.Alike.{AreNumbered}
+use Rattle.rt_reduce.specs.Inside.Bases.{AreNoted, IsAloneAt}
+use Rattle.rt_reduce.specs.Inside.Compared.{IsCompared}
 use Rattle.rt_reduce.proofs.Compared.{compared_first}
 use Rattle.rt_reduce.proofs.Firsts.{equal_side}
 use Rattle.rt_reduce.proofs.Numbering.{alone_none, side_in}

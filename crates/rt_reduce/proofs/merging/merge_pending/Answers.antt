@@ -7,7 +7,7 @@ use Rattle.rt_rules.specs.Put.{put, put_lines}
 use Rattle.rt_polar.specs.Tidied.{tidied}
 use Rattle.rt_polar.proofs.Turning.{none_in}
 use Rattle.rt_reduction.specs.Merges.Merges.{none_left}
-use Rattle.rt_reduce.specs.Compared.{IsCompared}
+use Rattle.rt_reduce.specs.Inside.Compared.{IsCompared}
 use Rattle.rt_reduce.proofs.Compared.{found_first, found_none}
 use Rattle.rt_reduce.proofs.Going.{goes_on, goes_past}
 use Rattle.rt_reduce.proofs.merging.merge_pending.Goals as goal

@@ -3,7 +3,7 @@ use Rattle.std.specs.BTreeSet.{contains}
 use Rattle.std.specs.Ordering.{nat_cmp}
 use Rattle.rt_lines.specs.declared.variable.Base.TheVariants.{Exist}
 use Rattle.rt_lines.specs.declared.variable.Dtv.{Dtv}
-use Rattle.rt_reduce.specs.Bases.{IsAloneAt}
+use Rattle.rt_reduce.specs.Inside.Bases.{IsAloneAt}
 use Rattle.rt_reduce.proofs.merging.pending.Given as goal
 
 abbrev pub invariant-loop-side : goal.invariant-loop-side

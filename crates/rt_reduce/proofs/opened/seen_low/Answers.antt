@@ -5,7 +5,7 @@ use Rattle.rt_lines.specs.declared.line.Line.TheVariants.{Low}
 use Rattle.rt_rules.specs.Rules.{Derivable}
 use Rattle.rt_sat.proofs.Frames.{side_named}
 use Rattle.rt_outline.specs.Lines.{HasBelow}
-use Rattle.rt_reduce.specs.Deciding.{AreAbove}
+use Rattle.rt_reduce.specs.Inside.Deciding.{AreAbove}
 use Rattle.rt_reduce.proofs.Opening.{given_named, low_seen, no_low, no_of, one_there, yes_of}
 use Rattle.rt_reduce.proofs.Telling.{above_named}
 use Rattle.rt_reduce.proofs.opened.seen_low.Goals as goal

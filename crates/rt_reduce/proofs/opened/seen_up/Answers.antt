@@ -5,7 +5,7 @@ use Rattle.rt_lines.specs.declared.line.Line.TheVariants.{Up}
 use Rattle.rt_rules.specs.Rules.{Derivable}
 use Rattle.rt_sat.proofs.Frames.{side_named}
 use Rattle.rt_outline.specs.Lines.{HasBelow}
-use Rattle.rt_reduce.specs.Deciding.{AreBelow}
+use Rattle.rt_reduce.specs.Inside.Deciding.{AreBelow}
 use Rattle.rt_reduce.proofs.Opening.{given_named, up_seen, no_up, no_of, one_there, yes_of}
 use Rattle.rt_reduce.proofs.Telling.{below_named}
 use Rattle.rt_reduce.proofs.opened.seen_up.Goals as goal

@@ -4,7 +4,7 @@ use Rattle.std.specs.Ordering.{nat_cmp}
 use Rattle.std.proofs.lemmas.List.{take_all}
 use Rattle.rt_base.proofs.Lists.{Contains-none}
 use Rattle.rt_lines.specs.declared.line.Line.{Line}
-use Rattle.rt_reduce.specs.Settling.{HaveMissing}
+use Rattle.rt_reduce.specs.Inside.Settling.{HaveMissing}
 use Rattle.rt_reduce.proofs.Leftover.{none_more}
 use Rattle.rt_reduce.proofs.settling.have_missing.Goals as goal
 

@@ -3,9 +3,9 @@ use Rattle.std.specs.BTreeSet.{contains}
 use Rattle.std.specs.Ordering.{nat_cmp}
 use Rattle.std.proofs.lemmas.List.{take_all}
 use Rattle.rt_lines.specs.declared.line.Line.{Line}
-use Rattle.rt_twins.specs.Leading.{AreOfLines}
+use Rattle.rt_twins.specs.Inside.Leading.{AreOfLines}
 use Rattle.rt_twins.proofs.Gathering.{of_lines_more}
-use Rattle.rt_reduce.specs.Settling.{IsUsedBy}
+use Rattle.rt_reduce.specs.Inside.Settling.{IsUsedBy}
 use Rattle.rt_reduce.proofs.settling.used_existentials.Goals as goal
 
 pub loop-line-preserved : goal.loop-line-preserved

@@ -1,7 +1,7 @@
 use Rattle.std.proofs.Common.{inr, refl, arith}
 use Rattle.rt_scheme.specs.NameTexts.{name_text}
 use Rattle.rt_scheme.specs.NameReadings.{AreBytes}
-use Rattle.rt_reports.specs.Rows.{IsBegun, begun_text}
+use Rattle.rt_reports.specs.Inside.Rows.{IsBegun, begun_text}
 use Rattle.rt_reports.proofs.RowParts.{no_section, no_offset, large_section, no_begun_name}
 use Rattle.rt_reports.proofs.parts.read_begun.Goals as goal
 use Rattle.rt_texts.proofs.LineTexts.{fault_along}

@@ -1,7 +1,7 @@
 use Rattle.rt_scheme.specs.NameTexts.{name_text}
 use Rattle.rt_scheme.specs.NameReadings.{AreBytes}
 use Rattle.rt_reports.specs.GoodReports.{IsGlobal}
-use Rattle.rt_reports.specs.Rows.{listed_text}
+use Rattle.rt_reports.specs.Inside.Rows.{listed_text}
 use Rattle.rt_reports.proofs.RowParts.{no_listed_name}
 use Rattle.rt_reports.proofs.parts.read_listed.Goals as goal
 use Rattle.rt_texts.proofs.LineTexts.{fault_along}

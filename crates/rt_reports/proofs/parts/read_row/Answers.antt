@@ -1,6 +1,6 @@
 use Rattle.std.proofs.Common.{length}
 use Rattle.rt_reports.specs.GoodReports.{IsGlobal}
-use Rattle.rt_reports.specs.Rows.{IsRow, IsBegun, listed_text, begun_text, row_text}
+use Rattle.rt_reports.specs.Inside.Rows.{IsRow, IsBegun, listed_text, begun_text, row_text}
 use Rattle.rt_reports.proofs.RowParts.{no_listed_row, no_begun_row}
 use Rattle.rt_reports.proofs.parts.read_row.Goals as goal
 use Rattle.rt_texts.proofs.LineTexts.{fault_along}

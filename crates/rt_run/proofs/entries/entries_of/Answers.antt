@@ -1,5 +1,5 @@
 use Rattle.std.proofs.Common.{◌≡◌, ◌<◌, ◌+◌, ◌∙◌, ap, arith, get_or, length, subst, sym}
-use Rattle.rt_run.specs.Analyses.{procs_in}
+use Rattle.rt_run.specs.Inside.Analyses.{procs_in}
 use Rattle.rt_run.specs.Reports.{IsEntryOf}
 use Rattle.rt_run.proofs.Reporting.{AreBegun, begun_next, begun_none, begun_whole}
 use Rattle.rt_run.proofs.entries.entries_of.Goals as goal

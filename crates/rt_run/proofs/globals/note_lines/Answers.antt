@@ -1,6 +1,6 @@
 use Rattle.std.proofs.lemmas.List.Elements.{All-more}
 use Rattle.rt_reports.specs.Globals.{line_globals}
-use Rattle.rt_run.specs.Goods.{HasGoodSides}
+use Rattle.rt_run.specs.Inside.Goods.{HasGoodSides}
 use Rattle.rt_run.proofs.Naming.{fold_more}
 use Rattle.std.proofs.Common.{subst}
 use Rattle.rt_run.proofs.globals.note_lines.Goals as goal

@@ -2,7 +2,7 @@ use Rattle.std.proofs.Common.{◌≡◌, All, fold, take}
 use Rattle.std.specs.BTreeSet.{insert_key}
 use Rattle.std.specs.Ordering.{nat_cmp}
 use Rattle.rt_reports.specs.Globals.{lines_globals}
-use Rattle.rt_run.specs.Goods.{HasGoodSides}
+use Rattle.rt_run.specs.Inside.Goods.{HasGoodSides}
 use Rattle.rt_run.proofs.globals.note_lines.Given as goal
 
 abbrev pub invariant-loop-line : goal.invariant-loop-line

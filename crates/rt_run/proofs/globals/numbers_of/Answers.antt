@@ -2,7 +2,7 @@ use Rattle.std.proofs.Common.{[], subst}
 use Rattle.std.proofs.lemmas.List.Elements.{All-more}
 use Rattle.rt_scheme.specs.declared.report.Entry.{Entry}
 use Rattle.rt_reports.specs.Globals.{lines_globals}
-use Rattle.rt_run.specs.Goods.{HasGoodParts}
+use Rattle.rt_run.specs.Inside.Goods.{HasGoodParts}
 use Rattle.rt_run.proofs.Naming.{fold_more}
 use Rattle.rt_run.proofs.globals.numbers_of.Goals as goal
 

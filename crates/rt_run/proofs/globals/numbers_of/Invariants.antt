@@ -2,7 +2,7 @@ use Rattle.std.proofs.Common.{◌≡◌, [], All, fold, take}
 use Rattle.std.specs.BTreeSet.{insert_key}
 use Rattle.std.specs.Ordering.{nat_cmp}
 use Rattle.rt_reports.specs.Globals.{entries_globals}
-use Rattle.rt_run.specs.Goods.{HasGoodParts}
+use Rattle.rt_run.specs.Inside.Goods.{HasGoodParts}
 use Rattle.rt_run.proofs.globals.numbers_of.Given as goal
 
 abbrev pub invariant-loop-entry : goal.invariant-loop-entry

@@ -2,8 +2,8 @@ use Rattle.std.proofs.Common.{All, subst, sym}
 use Rattle.rt_scheme.specs.declared.report.Entry.{Entry}
 use Rattle.rt_table.specs.Lists.{HasGlobalsOf}
 use Rattle.rt_run.specs.Globals.{AreGlobals}
-use Rattle.rt_run.specs.Goods.{HasGoodParts}
-use Rattle.rt_run.specs.Analyses.{object_in}
+use Rattle.rt_run.specs.Inside.Goods.{HasGoodParts}
+use Rattle.rt_run.specs.Inside.Analyses.{object_in}
 use Rattle.rt_run.proofs.Reporting.{right_text}
 use Rattle.rt_run.proofs.reports.report_text.Goals as goal
 

@@ -1,5 +1,5 @@
 use Rattle.std.proofs.Common.{◌≡◌, ◌<◌, ◌∙◌, ap, arith, get_or, length, subst}
-use Rattle.rt_run.specs.Analyses.{procs_in}
+use Rattle.rt_run.specs.Inside.Analyses.{procs_in}
 use Rattle.rt_run.specs.Sketches.{AddsSketch}
 use Rattle.rt_run.proofs.Sketching.{drawn_next, drawn_whole}
 use Rattle.rt_run.proofs.sketches.sketches_text.Goals as goal

@@ -1,6 +1,6 @@
 use Rattle.std.proofs.Common.{[], ◌∷◌, option_copied, refl, subst}
 use Rattle.rt_run.specs.Words.{Command, Entail}
-use Rattle.rt_run.specs.NoTexts.{IsNoText}
+use Rattle.rt_run.specs.Inside.NoTexts.{IsNoText}
 use Rattle.rt_run.specs.Entails.{IsEntailRefused}
 use Rattle.rt_run.specs.Status.{AreInputs, IsInputRefused}
 use Rattle.rt_run.proofs.Refusing.{stops_with, text_too_large}

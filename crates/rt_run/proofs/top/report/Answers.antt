@@ -1,6 +1,6 @@
 use Rattle.std.proofs.Common.{[], ◌∷◌, ◌∙◌, arith, option_copied, refl}
 use Rattle.rt_run.specs.Words.{Command, Report}
-use Rattle.rt_run.specs.Meant.{options_of}
+use Rattle.rt_run.specs.Inside.Meant.{options_of}
 use Rattle.rt_run.specs.Status.{AreInputs, IsInputRefused}
 use Rattle.rt_run.proofs.Refusing.{object_too_large, stops_with}
 use Rattle.rt_run.proofs.Stopping.{are_inputs, stops_at_input, stops_at_lattice, stops_at_signatures, stops_for}

@@ -2,7 +2,7 @@ use Rattle.std.proofs.Common.{◌≡◌, Some, map, subst}
 use Rattle.std.specs.String.{string_bytes}
 use Rattle.rt_io.specs.Puts.{PutsLine}
 use Rattle.rt_run.specs.Words.{command_of}
-use Rattle.rt_run.specs.Meant.{meaning}
+use Rattle.rt_run.specs.Inside.Meant.{meaning}
 use Rattle.rt_run.proofs.Stopping.{refused_told, unread_told}
 use Rattle.rt_run.proofs.top.run.Goals as goal
 

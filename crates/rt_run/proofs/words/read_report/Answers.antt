@@ -1,7 +1,7 @@
 use Rattle.std.proofs.Common.{◌∙◌, ap, drop, map}
 use Rattle.std.specs.String.{string_bytes}
 use Rattle.rt_run.specs.Words.{report_of}
-use Rattle.rt_run.specs.Meant.{options_of}
+use Rattle.rt_run.specs.Inside.Meant.{options_of}
 use Rattle.rt_run.proofs.Wording.{left_all, two_first}
 use Rattle.rt_run.proofs.words.read_report.Goals as goal
 

@@ -1,7 +1,7 @@
 use Rattle.std.proofs.Common.{◌≡◌, map, length}
 use Rattle.std.specs.String.{string_bytes}
 use Rattle.rt_run.specs.Words.{no_options, report_of}
-use Rattle.rt_run.specs.Meant.{options_of}
+use Rattle.rt_run.specs.Inside.Meant.{options_of}
 use Rattle.rt_run.proofs.words.read_report.Given as goal
 
 abbrev pub invariant-loop-rest : goal.invariant-loop-rest

@@ -1,6 +1,6 @@
 use Rattle.std.proofs.Common.{◌≡◌, List, length}
 use Rattle.rt_sat.specs.declared.state.Edge.{Edge}
-use Rattle.rt_sat.specs.Checks.{AreComplete, AreWalked}
+use Rattle.rt_sat.specs.Inside.Checks.{AreComplete, AreWalked}
 use Rattle.rt_sat.specs.Pushes.{AreDone}
 use Rattle.rt_sat.proofs.checking.flags.Given as goal
 

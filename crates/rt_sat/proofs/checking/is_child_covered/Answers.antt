@@ -1,8 +1,8 @@
 use Rattle.std.proofs.Common.{◌≡◌, ◌<◌, Bool, List, false, length, get_or, ap, sym, subst, ◌∙◌}
 use Rattle.std.proofs.lemmas.List.{get_or_read}
 use Rattle.rt_grid.specs.Tables.{Table, row_of}
-use Rattle.rt_sat.specs.Checks.{row_at}
-use Rattle.rt_sat.specs.Flags.{IsCoveredRow}
+use Rattle.rt_sat.specs.Inside.Checks.{row_at}
+use Rattle.rt_sat.specs.Inside.Flags.{IsCoveredRow}
 use Rattle.rt_sat.specs.Hints.{grid_of, members_of, no_table}
 use Rattle.rt_sat.specs.Pushes.{asked_of, flip_at, matter_at, IsClosedFrom}
 use Rattle.rt_sat.proofs.Flagging.{child_only, closed_row}

@@ -1,5 +1,5 @@
 use Rattle.std.proofs.Common.{sym, ◌∙◌}
-use Rattle.rt_sat.specs.Flags.{IsCovered}
+use Rattle.rt_sat.specs.Inside.Flags.{IsCovered}
 use Rattle.rt_sat.specs.Pushes.{asked_of}
 use Rattle.rt_sat.proofs.Flagging.{child_only}
 use Rattle.rt_sat.proofs.checking.is_covered_at.Goals as goal

@@ -1,5 +1,5 @@
 use Rattle.std.proofs.Common.{ℕ, [], List, get_or, ap, ◌∙◌, arith, below_more}
-use Rattle.rt_sat.specs.Flags.{IsCovered, IsCoveredAt}
+use Rattle.rt_sat.specs.Inside.Flags.{IsCovered, IsCoveredAt}
 use Rattle.rt_sat.specs.Pushes.{asked_of}
 use Rattle.rt_sat.proofs.Flagging.{listed_children}
 use Rattle.rt_sat.proofs.checking.is_covered_to.Goals as goal

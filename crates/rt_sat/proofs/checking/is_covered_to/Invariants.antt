@@ -1,7 +1,7 @@
 use Rattle.std.proofs.Common.{ℕ, ◌<◌, List, get_or}
 use Rattle.rt_sat.specs.declared.state.Edge.{Edge}
-use Rattle.rt_sat.specs.Checks.{AreWalked}
-use Rattle.rt_sat.specs.Flags.{IsCoveredAt}
+use Rattle.rt_sat.specs.Inside.Checks.{AreWalked}
+use Rattle.rt_sat.specs.Inside.Flags.{IsCoveredAt}
 use Rattle.rt_sat.specs.Pushes.{asked_of}
 use Rattle.rt_sat.proofs.checking.is_covered_to.Given as goal
 

@@ -1,7 +1,7 @@
 use Rattle.std.proofs.Common.{◌≡◌, ◌<◌, ◌≤◌, length, get_or, sym, ap, subst, ◌∙◌, arith}
 use Rattle.std.proofs.lemmas.List.{get_or_default, get_or_read}
 use Rattle.rt_grid.specs.Tables.{Table, count_at, row_of, size_of}
-use Rattle.rt_sat.specs.Checks.{row_at}
+use Rattle.rt_sat.specs.Inside.Checks.{row_at}
 use Rattle.rt_sat.specs.Hints.{grid_of, no_table}
 use Rattle.rt_sat.specs.Searches.{Walk}
 use Rattle.rt_sat.specs.Searches.Walk.{stays}

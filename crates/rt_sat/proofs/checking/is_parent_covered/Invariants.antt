@@ -2,7 +2,7 @@ use Rattle.std.proofs.Common.{◌≡◌, ℕ, ◌<◌, List, get_or}
 use Rattle.rt_lines.specs.declared.label.Label.{Label}
 use Rattle.rt_sat.specs.declared.state.State.{State}
 use Rattle.rt_sat.specs.declared.state.Edge.{Edge}
-use Rattle.rt_sat.specs.Checks.{AreComplete, AreWalked}
+use Rattle.rt_sat.specs.Inside.Checks.{AreComplete, AreWalked}
 use Rattle.rt_sat.specs.Pushes.{IsChildOf, IsClosedFrom}
 use Rattle.rt_sat.proofs.checking.is_parent_covered.Given as goal
 

@@ -1,7 +1,7 @@
 use Rattle.std.proofs.Common.{◌≡◌, ◌<◌, length, get_or, subst, arith, below_more}
 use Rattle.std.proofs.lemmas.List.{get_or_default}
 use Rattle.rt_grid.specs.Tables.{count_at}
-use Rattle.rt_sat.specs.Flags.{IsCoveredTo}
+use Rattle.rt_sat.specs.Inside.Flags.{IsCoveredTo}
 use Rattle.rt_sat.specs.Hints.{state_at}
 use Rattle.rt_sat.specs.Pushes.{asked_of}
 use Rattle.rt_sat.proofs.Flagging.{counted_inside}

@@ -1,8 +1,8 @@
 use Rattle.std.proofs.Common.{ℕ, ◌<◌, List}
 use Rattle.rt_grid.specs.Tables.{count_at}
 use Rattle.rt_sat.specs.declared.state.Edge.{Edge}
-use Rattle.rt_sat.specs.Checks.{AreWalked}
-use Rattle.rt_sat.specs.Flags.{IsCoveredTo}
+use Rattle.rt_sat.specs.Inside.Checks.{AreWalked}
+use Rattle.rt_sat.specs.Inside.Flags.{IsCoveredTo}
 use Rattle.rt_sat.specs.Hints.{state_at}
 use Rattle.rt_sat.specs.Pushes.{asked_of}
 use Rattle.rt_sat.proofs.checking.is_row_covered.Given as goal

@@ -1,5 +1,5 @@
 use Rattle.std.proofs.Common.{ℕ, ◌<◌, length}
-use Rattle.rt_sat.specs.Checks.{HasTurns}
+use Rattle.rt_sat.specs.Inside.Checks.{HasTurns}
 use Rattle.rt_sat.specs.Hints.{grid_of, members_of}
 use Rattle.rt_sat.proofs.complete.are_turning.Given as goal
 

@@ -1,6 +1,6 @@
 use Rattle.std.proofs.Common.{ℕ, ◌<◌, ◌≡◌, Some, slice_get}
 use Rattle.rt_sat.specs.declared.state.Edge.{Edge}
-use Rattle.rt_sat.specs.Checks.{HasEdge}
+use Rattle.rt_sat.specs.Inside.Checks.{HasEdge}
 use Rattle.rt_sat.proofs.complete.has_edges.Given as goal
 
 abbrev pub invariant-loop-edge : goal.invariant-loop-edge

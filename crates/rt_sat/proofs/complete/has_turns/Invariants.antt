@@ -1,4 +1,4 @@
-use Rattle.rt_sat.specs.Checks.{HasTurns}
+use Rattle.rt_sat.specs.Inside.Checks.{HasTurns}
 use Rattle.rt_sat.proofs.complete.has_turns.Given as goal
 
 abbrev pub invariant-loop-index : goal.invariant-loop-index

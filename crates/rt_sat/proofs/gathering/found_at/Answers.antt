@@ -11,24 +11,23 @@ row-row-requires c =
     let grids = c.args.family.now.grids.items in
     let less : c.args.class < length grids = subst (λ n. c.args.class < n) (sym family.each) c.requires.class in
     let same : c.index.result.now ≡ grid_of c.args.family.now c.args.class = get_or_read grids c.args.class c.index.result.now less c.index.ensures no_table in
-    subst (λ n. c.args.source.now.place < n) (sym (ap size_of same ∙ family.sizes c.args.class c.requires.class)) (c.requires.ends.2 c.args.source.now c.requires.source).inside
+    subst (λ n. c.args.source.now.place < n) (sym (ap size_of same ∙ family.sizes c.args.class c.requires.class)) c.requires.ends.2.0.inside
 
 pub index-requires-2 : goal.index-requires-2
-index-requires-2 c = omega (arith, c.requires.into.1.each, (c.requires.ends.2 c.args.source.now c.requires.source).home.class)
+index-requires-2 c = omega (arith, c.requires.into.1.each, c.requires.ends.2.0.home.class)
 
 pub returns-clause-inside : goal.returns-clause-inside
 returns-clause-inside c =
     let grids = c.args.into.now.grids.items in
     let class = c.args.source.now.home.class in
-    let less : class < length grids = subst (λ n. class < n) (sym c.requires.into.1.each) (c.requires.ends.2 c.args.source.now c.requires.source).home.class in
+    let less : class < length grids = subst (λ n. class < n) (sym c.requires.into.1.each) c.requires.ends.2.0.home.class in
     let same : c.index-2.result.now ≡ grid_of c.args.into.now class = get_or_read grids class c.index-2.result.now less c.index-2.ensures no_table in
     λ s h. subst (λ n. s.to < n) (c.row-known.ensures.long ∙ ap size_of same) (c.in_ok-found.ensures.inside s h)
 
 pub returns-clause-told : goal.returns-clause-told
-returns-clause-told c = λ known flips lines are before.
+returns-clause-told c = λ known flips lines are tied before.
     let members = members_of c.args.family.now c.args.class in
     let source = c.args.source.now in
-    let end = are source c.requires.source in
-    c.in_ok-found.ensures.told known flips lines members c.args.into.now are end
-    (subst (λ s. IsToldRow known flips lines s members c.row-row.result.now) (sym end.parent)
+    c.in_ok-found.ensures.told known flips lines members c.args.into.now are tied
+    (subst (λ s. IsToldRow known flips lines s members c.row-row.result.now) (sym are.0.parent)
     (told_read known flips lines c.args.family.now c.args.class source.place c.row-row.result.now c.index.result.now c.requires.class c.requires.family.1.each c.index.ensures c.row-row.ensures.row before))

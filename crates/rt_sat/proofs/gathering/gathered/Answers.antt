@@ -8,7 +8,7 @@ use Rattle.rt_sat.proofs.gathering.gathered.Goals.{in-Some+in_ok-push, in_defaul
 
 pub pushed_step-requires : goal.pushed_step-requires
 pushed_step-requires c =
-    c.requires (get_or c.args.ends.now c.loop-target.target-index no_end) (Contains-get_or c.args.ends.now c.loop-target.target-index no_end c.loop-target-test.true)
+    c.requires (get_or c.args.targets.now c.loop-target.target-index no_end) (Contains-get_or c.args.targets.now c.loop-target.target-index no_end c.loop-target-test.true)
 
 pub loop-target-preserved : goal.loop-target-preserved
 loop-target-preserved c =
@@ -19,14 +19,15 @@ loop-target-preserved c =
           | inl old ↦ c.loop-target.invariant.inside s old
           | inr same ↦ subst (λ (t : Step). t.to < length c.args.known.now) same w.in-Some.ensures.inside
         ];
-        told = λ known flips lines members into are from row.
-            subst (λ found. AreToldSteps known flips lines source.child into source.home.class found.items) (sym w.found-is)
-            (steps_more known flips lines source.child into source.home.class c.loop-target.found.items w.push.new.self.items w.in-Some.step (c.loop-target.invariant.told known flips lines members into are from row)
-            (w.in-Some.ensures.told known flips lines members into from (are (get_or c.args.ends.now c.loop-target.target-index no_end) (Contains-get_or c.args.ends.now c.loop-target.target-index no_end c.loop-target-test.true)) row) w.in_ok-push.ensures.items);
+        told = λ known flips lines members into are tied row.
+            subst (λ found. AreToldSteps known flips lines source.stand into source.home.class found.items) (sym w.found-is)
+            (steps_more known flips lines source.stand into source.home.class c.loop-target.found.items w.push.new.self.items w.in-Some.step (c.loop-target.invariant.told known flips lines members into are tied row)
+            (w.in-Some.ensures.told known flips lines members into are.0 (are.1 (get_or c.args.targets.now c.loop-target.target-index no_end) (Contains-get_or c.args.targets.now c.loop-target.target-index no_end c.loop-target-test.true))
+            tied.0 (tied.1 (get_or c.args.targets.now c.loop-target.target-index no_end) (Contains-get_or c.args.targets.now c.loop-target.target-index no_end c.loop-target-test.true)) row) w.in_ok-push.ensures.items);
       }
       | in_default w ↦ record {
         inside = λ s h. c.loop-target.invariant.inside s (subst (λ found. Contains found.items s) w.found-is h);
-        told = λ known flips lines members into are from row.
-            subst (λ found. AreToldSteps known flips lines source.child into source.home.class found.items) (sym w.found-is) (c.loop-target.invariant.told known flips lines members into are from row);
+        told = λ known flips lines members into are tied row.
+            subst (λ found. AreToldSteps known flips lines source.stand into source.home.class found.items) (sym w.found-is) (c.loop-target.invariant.told known flips lines members into are tied row);
       }
     ]

@@ -1,12 +1,13 @@
 use Rattle.std.proofs.Common.{◌≡◌, List, length}
 use Rattle.rt_sat.specs.declared.state.Edge.{Edge}
-use Rattle.rt_sat.specs.Hints.{members_of, AreEnds, AreSameMembers, IsFamily, IsToldFamily}
+use Rattle.rt_sat.specs.Inside.Links.{AreLinked}
+use Rattle.rt_sat.specs.Hints.{AreSameMembers, IsFamily, IsToldFamily}
 use Rattle.rt_sat.proofs.gathering.push_group.Given as goal
 
 abbrev pub invariant-loop-source : goal.invariant-loop-source
 invariant-loop-source l = record {
   same : AreSameMembers l.fn.family l.family;
   family : IsFamily (length l.frame.named) l.family;
-  told : (lines : List Edge) → IsToldFamily l.frame.named l.frame.flips.items lines l.fn.family → IsToldFamily l.frame.named l.frame.flips.items lines l.family;
+  told : (lines : List Edge) → AreLinked l.frame.named l.frame.flips.items lines l.links → IsToldFamily l.frame.named l.frame.flips.items lines l.fn.family → IsToldFamily l.frame.named l.frame.flips.items lines l.family;
   next : length l.next.items ≡ length l.fn.next.items;
 }

@@ -1,7 +1,7 @@
 use Rattle.std.proofs.Common.{ℕ, Bool, List, Contains}
 use Rattle.rt_lines.specs.declared.variable.Dtv.{Dtv}
 use Rattle.rt_sat.specs.declared.state.Edge.{Edge}
-use Rattle.rt_sat.specs.Checks.{AreWalked}
+use Rattle.rt_sat.specs.Inside.Checks.{AreWalked}
 use Rattle.rt_sat.specs.Hints.{AreSameMembers, IsFamily, IsToldFamily}
 use Rattle.rt_sat.proofs.hints.enter_lines.Given as goal
 

@@ -7,7 +7,7 @@ use Rattle.rt_sat.proofs.hints.pushed_ways.Goals as goal
 
 pub loop-group-init : goal.loop-group-init
 loop-group-init c =
-    let long : length c.deref.result.now ≡ length c.args.frame.now.named = ap length c.deref.ensures.value ∙ c.requires.nodes in
+    let long : length c.deref.result.now ≡ length c.args.frame.now.named = ap length c.deref.ensures.value ∙ c.in_ok-nodes.ensures ∙ c.len.ensures.count in
     record {
       family = subst (λ n. IsFamily n c.in_ok-pushed.pushed) long c.in_ok-pushed.ensures.family;
       told = λ lines t. c.in_ok-pushed.ensures.told c.args.frame.now.named c.args.frame.now.flips.items lines (sym long);

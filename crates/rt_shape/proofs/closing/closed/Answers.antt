@@ -1,7 +1,7 @@
 use Rattle.std.proofs.Common.{◌≡◌, ℕ, ◌<◌, ◌++◌, List, length, map, take, drop, get_or, sym, ap, subst, ◌∙◌, arith}
 use Rattle.std.proofs.lemmas.List.{length-map, take_at}
 use Rattle.rt_shape.specs.Graphs.{Graph}
-use Rattle.rt_shape.specs.Classes.{AreClasses, IsViolated, renamed_class}
+use Rattle.rt_shape.specs.Inside.Classes.{AreClasses, IsViolated, renamed_class}
 use Rattle.rt_shape.proofs.Classed.{total, renamed_classes, total-renamed}
 use Rattle.rt_shape.proofs.closing.closed.Goals as goal
 

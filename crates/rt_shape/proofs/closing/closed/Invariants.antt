@@ -1,4 +1,4 @@
-use Rattle.rt_shape.specs.Classes.{AreClasses}
+use Rattle.rt_shape.specs.Inside.Classes.{AreClasses}
 use Rattle.rt_shape.proofs.Classed.{total}
 use Rattle.rt_shape.proofs.closing.closed.Given as goal
 

@@ -2,7 +2,7 @@ use Rattle.std.proofs.Common.{◌≡◌, ℕ, ◌+◌, ◌<◌, min, max, List, 
 use Rattle.std.proofs.lemmas.List.{get_or_default}
 use Rattle.std.proofs.lemmas.List.Edits.{map_over_more}
 use Rattle.std.proofs.lemmas.Bool.Decides.{nat_tests}
-use Rattle.rt_shape.specs.Classes.{renamed_class}
+use Rattle.rt_shape.specs.Inside.Classes.{renamed_class}
 use Rattle.rt_shape.proofs.closing.rename.Goals as goal
 use Rattle.rt_shape.proofs.closing.rename.Goals.{then-c-greater, else-c-greater}
 

@@ -1,5 +1,5 @@
 use Rattle.std.proofs.Common.{◌≡◌, ◌++◌, map, take, drop, slice_index}
-use Rattle.rt_shape.specs.Classes.{renamed_class}
+use Rattle.rt_shape.specs.Inside.Classes.{renamed_class}
 use Rattle.rt_shape.proofs.closing.rename.Given as goal
 
 abbrev pub invariant-loop-c : goal.invariant-loop-c

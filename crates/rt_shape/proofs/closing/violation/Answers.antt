@@ -2,7 +2,7 @@ use Rattle.std.proofs.Common.{◌≡◌, ℕ, ◌<◌, Option, None, Some, Match
 use Rattle.std.specs.Prelude.{slice_index}
 use Rattle.std.proofs.lemmas.Result.{IfOk-weaker}
 use Rattle.rt_shape.specs.Graphs.{Graph}
-use Rattle.rt_shape.specs.Classes.{AreClasses, AreStepsOne, AreApart, IsClosed, IsViolated}
+use Rattle.rt_shape.specs.Inside.Classes.{AreClasses, AreStepsOne, AreApart, IsClosed, IsViolated}
 use Rattle.rt_shape.proofs.Classed.{violated_by_pair, violated_by_steps}
 use Rattle.rt_shape.proofs.closing.violation.Goals as goal
 

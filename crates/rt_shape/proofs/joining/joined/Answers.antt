@@ -1,7 +1,7 @@
 use Rattle.std.proofs.Common.{ℕ, ◌<◌, List, Contains, sym, subst}
 use Rattle.rt_shape.specs.Graphs.{Graph}
-use Rattle.rt_shape.specs.Classes.{AreClasses}
-use Rattle.rt_shape.specs.Joins.{IsSound}
+use Rattle.rt_shape.specs.Inside.Classes.{AreClasses}
+use Rattle.rt_shape.specs.Inside.Joins.{IsSound}
 use Rattle.rt_shape.specs.declared.joining.Joining.{Joining}
 use Rattle.rt_shape.proofs.joining.joined.Goals as goal
 

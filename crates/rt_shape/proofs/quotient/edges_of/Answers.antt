@@ -1,7 +1,7 @@
 use Rattle.std.proofs.Common.{◌≡◌, ℕ, Some, List, slice_index, ap, subst, arith}
 use Rattle.rt_lines.specs.declared.label.Label.{Label}
 use Rattle.rt_shape.specs.Graphs.{Graph, letter_eq, step_of}
-use Rattle.rt_shape.specs.Classes.{pointed, AreStepsOne}
+use Rattle.rt_shape.specs.Inside.Classes.{pointed, AreStepsOne}
 use Rattle.rt_shape.proofs.Letters.{letter_equal, letter_self}
 use Rattle.rt_shape.proofs.Mapped.{IsCarried-more, IsCarried-all}
 use Rattle.rt_shape.proofs.quotient.edges_of.Goals as goal

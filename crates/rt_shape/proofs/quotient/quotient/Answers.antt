@@ -1,7 +1,7 @@
 use Rattle.std.proofs.Common.{◌≡◌, ℕ, ◌<◌, List, length, slice_index, sym, subst, arith}
 use Rattle.std.proofs.lemmas.List.Elements.{All-from_get_or}
 use Rattle.rt_shape.specs.Graphs.{Graph}
-use Rattle.rt_shape.specs.Classes.{AreBasesOf, AreEdgesOf, AreStepsOne, IsNumbering, IsQuotient}
+use Rattle.rt_shape.specs.Inside.Classes.{AreBasesOf, AreEdgesOf, AreStepsOne, IsNumbering, IsQuotient}
 use Rattle.rt_shape.proofs.Quotients.{number_steps, quotient_shape}
 use Rattle.rt_shape.proofs.quotient.quotient.Goals as goal
 

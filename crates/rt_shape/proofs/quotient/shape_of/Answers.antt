@@ -3,7 +3,7 @@ use Rattle.std.proofs.lemmas.Result.{IfOk-weaker}
 use Rattle.rt_lines.specs.declared.line.Line.{Line}
 use Rattle.rt_shape.specs.Graphs.{Graph, IsTree}
 use Rattle.rt_shape.specs.Shapes.{IsNaming, ArePairs, IsShapeOf}
-use Rattle.rt_shape.specs.Classes.{AreClasses, IsClosed, IsNumbering, IsQuotient}
+use Rattle.rt_shape.specs.Inside.Classes.{AreClasses, IsClosed, IsNumbering, IsQuotient}
 use Rattle.rt_shape.proofs.ShapeOf.{shape_of_lines}
 use Rattle.rt_shape.proofs.quotient.shape_of.Goals as goal
 

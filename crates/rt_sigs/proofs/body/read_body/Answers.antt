@@ -1,5 +1,5 @@
 use Rattle.std.proofs.Common.{◌+◌, subst, sym, ◌∙◌}
-use Rattle.rt_sigs.specs.Readings.{IsReadTo}
+use Rattle.rt_sigs.specs.Inside.Readings.{IsReadTo}
 use Rattle.rt_sigs.proofs.Parts.{read-more, body_fault, no_end}
 use Rattle.rt_sigs.proofs.body.read_body.Goals as goal
 

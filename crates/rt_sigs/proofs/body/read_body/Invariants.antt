@@ -1,5 +1,5 @@
 use Rattle.std.proofs.Common.{◌≡◌, length}
-use Rattle.rt_sigs.specs.Readings.{IsReadTo}
+use Rattle.rt_sigs.specs.Inside.Readings.{IsReadTo}
 use Rattle.rt_sigs.proofs.body.read_body.Given as goal
 
 abbrev pub invariant-loop-line : goal.invariant-loop-line

@@ -4,7 +4,7 @@ use Rattle.rt_polar.specs.Tidied.{tidied}
 use Rattle.rt_lines.specs.FlowCounts.{flow_count}
 use Rattle.rt_trim.specs.Trimming.{HasNoneIdle, IsTrimmed}
 use Rattle.rt_reduction.specs.Rounds.{Prepares, prepared, trims}
-use Rattle.rt_simplify.specs.Preparing.{IsOnce}
+use Rattle.rt_simplify.specs.Inside.Preparing.{IsOnce}
 use Rattle.rt_simplify.proofs.Counting.{once-count, tidied-count}
 use Rattle.rt_simplify.proofs.Trimmed.{none_idle, some_idle, some_fewer}
 use Rattle.rt_simplify.proofs.preparing.prepare.Goals as goal

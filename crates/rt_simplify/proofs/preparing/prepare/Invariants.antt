@@ -2,7 +2,7 @@ use Rattle.std.proofs.Common.{List}
 use Rattle.rt_lines.specs.declared.line.Line.{Line}
 use Rattle.rt_lines.specs.FlowCounts.{flow_count}
 use Rattle.rt_reduction.specs.Rounds.{Prepares}
-use Rattle.rt_simplify.specs.Preparing.{IsOnce}
+use Rattle.rt_simplify.specs.Inside.Preparing.{IsOnce}
 use Rattle.rt_simplify.proofs.preparing.prepare.Given as goal
 
 abbrev pub invariant-loop-left : goal.invariant-loop-left

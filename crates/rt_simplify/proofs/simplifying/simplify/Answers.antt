@@ -3,7 +3,7 @@ use Rattle.rt_lines.specs.declared.line.Line.{Line}
 use Rattle.rt_lines.specs.declared.label.Variance.TheVariants.{Co, Contra}
 use Rattle.rt_polar.specs.Tidied.{tidied}
 use Rattle.rt_reduction.specs.Simplifies.{HasNoTwins, simple}
-use Rattle.rt_simplify.specs.Twins.{BecomeOne}
+use Rattle.rt_simplify.specs.Inside.Twins.{BecomeOne}
 use Rattle.rt_simplify.proofs.Joining.{turn_more, merged_some, merged_none}
 use Rattle.rt_simplify.proofs.Shrinking.{turn_shrinks}
 use Rattle.rt_simplify.proofs.simplifying.simplify.Goals as goal

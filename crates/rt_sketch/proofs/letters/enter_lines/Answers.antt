@@ -1,7 +1,7 @@
 use Rattle.std.proofs.Common.{List, subst}
 use Rattle.std.proofs.lemmas.List.{take_all}
 use Rattle.rt_lines.specs.declared.line.Line.{Line}
-use Rattle.rt_sketch.specs.Letters.{AddsLetters, words_of}
+use Rattle.rt_sketch.specs.Inside.Letters.{AddsLetters, words_of}
 use Rattle.rt_sketch.proofs.Occurring.{adds_line, adds_start}
 use Rattle.rt_sketch.proofs.letters.enter_lines.Goals as goal
 

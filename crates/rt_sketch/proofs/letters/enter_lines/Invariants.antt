@@ -1,5 +1,5 @@
 use Rattle.std.proofs.Common.{take}
-use Rattle.rt_sketch.specs.Letters.{AddsLetters, words_of}
+use Rattle.rt_sketch.specs.Inside.Letters.{AddsLetters, words_of}
 use Rattle.rt_sketch.proofs.letters.enter_lines.Given as goal
 
 abbrev pub invariant-loop-line : goal.invariant-loop-line

@@ -1,5 +1,5 @@
 use Rattle.std.proofs.Common.{rules}
-use Rattle.rt_sketch.specs.Letters.{words_of}
+use Rattle.rt_sketch.specs.Inside.Letters.{words_of}
 use Rattle.rt_sketch.proofs.Occurring.{all_good, has_next}
 use Rattle.rt_sketch.proofs.letters.letters_of.Goals as goal
 

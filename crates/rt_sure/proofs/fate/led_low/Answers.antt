@@ -1,5 +1,5 @@
 use Rattle.std.proofs.Common.{[], ◌∷◌, refl}
-use Rattle.rt_sure.specs.Bounds.{AreLowsBut}
+use Rattle.rt_sure.specs.Inside.Bounds.{AreLowsBut}
 use Rattle.rt_sure.proofs.Bounded.{lows_moved, lows_within}
 use Rattle.rt_sure.proofs.Leading.{low_no, low_yes, one_within}
 use Rattle.rt_sure.proofs.fate.led_low.Goals as goal

@@ -1,5 +1,5 @@
 use Rattle.std.proofs.Common.{[], ◌∷◌, refl}
-use Rattle.rt_sure.specs.Bounds.{AreUpsBut}
+use Rattle.rt_sure.specs.Inside.Bounds.{AreUpsBut}
 use Rattle.rt_sure.proofs.Bounded.{ups_moved, ups_within}
 use Rattle.rt_sure.proofs.Leading.{up_no, up_yes}
 use Rattle.rt_sure.proofs.fate.led_up.Goals as goal

@@ -1,6 +1,6 @@
 use Rattle.std.proofs.Common.{All, sym, subst}
 use Rattle.std.proofs.lemmas.List.Elements.{All-append}
-use Rattle.rt_table.specs.Parts.{IsPassed}
+use Rattle.rt_table.specs.Inside.Parts.{IsPassed}
 use Rattle.rt_table.specs.Table.{stack_arguments}
 use Rattle.rt_table.proofs.Labelling.{registers-passed, words-passed}
 use Rattle.rt_table.proofs.labels.port_arguments.Goals as goal

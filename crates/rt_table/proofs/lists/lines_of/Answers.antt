@@ -7,8 +7,8 @@ use Rattle.rt_scheme.specs.Splitting.{AreInterfaceLines}
 use Rattle.rt_body.specs.Told.{reading_of}
 use Rattle.rt_rows.specs.Terms.{IsGroupRow}
 use Rattle.rt_table.specs.Lists.{AreLinesOf, AreRowsOf, HasGlobalsOf}
-use Rattle.rt_table.specs.Naming.{AreRowsGiven}
-use Rattle.rt_table.specs.Told.{known_in, program_in}
+use Rattle.rt_table.specs.Inside.Naming.{AreRowsGiven}
+use Rattle.rt_table.specs.Inside.Told.{known_in, program_in}
 use Rattle.rt_table.proofs.Collected.{AreLists, all-more, lists-constants, lists-globals, lists-length, lists-lines, lists-more}
 use Rattle.rt_table.proofs.lists.lines_of.Goals as goal
 

@@ -3,8 +3,8 @@ use Rattle.std.specs.Prelude.{All}
 use Rattle.rt_lattice.specs.Lattices.{size_of}
 use Rattle.rt_rows.specs.Terms.{IsGroupRow}
 use Rattle.rt_table.specs.Lists.{AreGiven, AreRowsOf}
-use Rattle.rt_table.specs.Naming.{AreRowsGiven}
-use Rattle.rt_table.specs.Told.{known_in, program_in}
+use Rattle.rt_table.specs.Inside.Naming.{AreRowsGiven}
+use Rattle.rt_table.specs.Inside.Told.{known_in, program_in}
 use Rattle.rt_table.proofs.Collected.{AreLists}
 use Rattle.rt_table.proofs.lists.lines_of.Given as goal
 

@@ -2,7 +2,7 @@ use Rattle.std.proofs.Common.{◌≡◌, All, refl}
 use Rattle.std.proofs.lemmas.Result.{IfOk-weaker}
 use Rattle.rt_lattice.specs.Lattices.{size_of}
 use Rattle.rt_table.specs.Table.{AreProcedureRows}
-use Rattle.rt_table.specs.Told.{context_of, known_in, program_in}
+use Rattle.rt_table.specs.Inside.Told.{context_of, known_in, program_in}
 use Rattle.rt_table.proofs.Known.{rows-given, rows-group}
 use Rattle.rt_table.proofs.lists.rows_of.Goals as goal
 

@@ -1,7 +1,7 @@
 use Rattle.std.proofs.Common.{◌≡◌, ◌∙◌, ◌+◌, All, ap, get_or, length, sym, subst, arith}
 use Rattle.std.proofs.lemmas.List.{length_push}
 use Rattle.rt_liveness.specs.Calls.{HasCallRegister}
-use Rattle.rt_table.specs.Framing.{IsFramed}
+use Rattle.rt_table.specs.Inside.Framing.{IsFramed}
 use Rattle.rt_table.proofs.Framings.{framed-more}
 use Rattle.rt_table.proofs.preparation.frames_of.Goals as goal
 

@@ -1,7 +1,7 @@
 use Rattle.std.proofs.Common.{◌≡◌, ◌<◌, ℕ, [], length, get_or}
 use Rattle.rt_body.specs.declared.body.Body.{Body}
 use Rattle.rt_table.specs.declared.facts.Framed.{Framed}
-use Rattle.rt_table.specs.Framing.{IsFramed}
+use Rattle.rt_table.specs.Inside.Framing.{IsFramed}
 use Rattle.rt_table.proofs.preparation.frames_of.Given as goal
 
 abbrev pub invariant-loop-place : goal.invariant-loop-place

@@ -7,8 +7,8 @@ use Rattle.rt_liveness.specs.Programs.{IsProgram}
 use Rattle.rt_liveness.specs.Told.{program_of}
 use Rattle.rt_frame.specs.Told.{frame_sites}
 use Rattle.rt_table.specs.declared.facts.Framed.{Framed}
-use Rattle.rt_table.specs.Framing.{AreFramed}
-use Rattle.rt_table.specs.Registers.{HaveRegisters}
+use Rattle.rt_table.specs.Inside.Framing.{AreFramed}
+use Rattle.rt_table.specs.Inside.Registers.{HaveRegisters}
 use Rattle.rt_table.proofs.Framings.{are-known, maps-same, readings-program}
 use Rattle.rt_table.proofs.preparation.prepare.Goals as goal
 

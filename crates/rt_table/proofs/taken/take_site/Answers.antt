@@ -3,7 +3,7 @@ use Rattle.std.proofs.lemmas.List.{get_or_default}
 use Rattle.rt_body.specs.Readings.{action_at}
 use Rattle.rt_body.specs.Told.{reading_of}
 use Rattle.rt_frame.specs.Told.{frame_of}
-use Rattle.rt_table.specs.Taken.{taken_by}
+use Rattle.rt_table.specs.Inside.Taken.{taken_by}
 use Rattle.rt_table.proofs.Taking.{gains-none, gains-one}
 use Rattle.rt_table.proofs.taken.take_site.Goals as goal
 

@@ -5,7 +5,7 @@ use Rattle.std.proofs.lemmas.Map.Keys.{IsStrictlyIncreasing-from_sorted}
 use Rattle.rt_body.specs.Told.{reading_of}
 use Rattle.rt_frame.specs.Told.{frame_of}
 use Rattle.rt_table.specs.Facts.{TakesWord}
-use Rattle.rt_table.specs.Words.{AreStackWords}
+use Rattle.rt_table.specs.Inside.Words.{AreStackWords}
 use Rattle.rt_table.proofs.Taking.{AreTaken, taken-all, taken-more, taken-none, taken-words}
 use Rattle.rt_table.proofs.taken.words_taken.Goals as goal
 
@@ -18,8 +18,8 @@ pub loop-site-preserved : goal.loop-site-preserved
 loop-site-preserved c =
     taken-more (reading_of c.args.body.now) (frame_of c.args.frame.now) c.loop-site.site c.loop-site.taken.keys c.take_site.new.taken.keys c.in_ok-take_site.ensures c.loop-site.invariant
 
-pub returns-clause-rising : goal.returns-clause-rising
-returns-clause-rising c =
+pub returns-clause-ascending : goal.returns-clause-ascending
+returns-clause-ascending c =
     let same : c.from_vec.result ≡ c.loop-site.taken.keys = search rules in
     subst IsStrictlyIncreasing (sym same) (IsStrictlyIncreasing-from_sorted c.loop-site.taken.keys c.iter.ensures.ordered)
 

@@ -3,7 +3,7 @@ use Rattle.std.specs.Prelude.{slice_get, slice_index_or}
 use Rattle.std.proofs.lemmas.Option.{slice_get-get_or}
 use Rattle.rt_track.specs.declared.nodes.Input.TheVariants.{Nothing}
 use Rattle.rt_track.specs.declared.nodes.Node.TheVariants.{Join}
-use Rattle.rt_track.specs.Inputs.{node_of, use_in}
+use Rattle.rt_track.specs.Inside.Inputs.{node_of, use_in}
 use Rattle.rt_track.specs.Operations.{entries_of}
 use Rattle.rt_track.proofs.Graphing.{made_none, made_more, made_all}
 use Rattle.rt_track.proofs.graph.nodes.Goals as goal

@@ -2,7 +2,7 @@ use Rattle.std.proofs.Common.{◌≡◌, ℕ, Some, length}
 use Rattle.std.specs.Prelude.{slice_get}
 use Rattle.rt_track.specs.declared.op.Op.{Op}
 use Rattle.rt_track.specs.declared.nodes.Node.TheVariants.{Join}
-use Rattle.rt_track.specs.Inputs.{node_of, use_in}
+use Rattle.rt_track.specs.Inside.Inputs.{node_of, use_in}
 use Rattle.rt_track.specs.Operations.{entries_of}
 use Rattle.rt_track.proofs.Graphing.{IsMade}
 use Rattle.rt_track.proofs.graph.nodes.Given as goal

@@ -1,5 +1,5 @@
 use Rattle.std.proofs.Common.{◌<◌, length, rules, subst, sym, set}
-use Rattle.rt_track.specs.Nodes.{Notes}
+use Rattle.rt_track.specs.Inside.Nodes.{Notes}
 use Rattle.rt_track.proofs.Noting.{noted_at}
 use Rattle.rt_track.proofs.solve.note.Goals as goal
 

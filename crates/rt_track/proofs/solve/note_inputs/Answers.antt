@@ -1,6 +1,6 @@
 use Rattle.std.proofs.Common.{subst, sym}
 use Rattle.std.specs.Prelude.{OnOk}
-use Rattle.rt_track.specs.Nodes.{NotesNode}
+use Rattle.rt_track.specs.Inside.Nodes.{NotesNode}
 use Rattle.rt_track.specs.declared.nodes.Node.TheVariants as node
 use Rattle.rt_track.proofs.Noting.{both_of}
 use Rattle.rt_track.proofs.solve.note_inputs.Goals as goal

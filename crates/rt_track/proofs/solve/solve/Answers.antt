@@ -1,6 +1,6 @@
 use Rattle.std.proofs.Common.{rules, ◌≡◌, ◌<◌, List, ℕ, length, subst}
 use Rattle.std.proofs.lemmas.List.{nil_from_length}
-use Rattle.rt_track.specs.Nodes.{Visits}
+use Rattle.rt_track.specs.Inside.Nodes.{Visits}
 use Rattle.rt_track.proofs.Visiting.{begins, within_here, visits, less_to_do, ends}
 use Rattle.rt_track.proofs.solve.solve.Goals as goal
 

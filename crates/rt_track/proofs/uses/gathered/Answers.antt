@@ -3,8 +3,8 @@ use Rattle.std.specs.Prelude.{slice_index_or}
 use Rattle.std.proofs.lemmas.List.{take_more}
 use Rattle.rt_flow.specs.declared.def.Def.TheVariants.{Entry}
 use Rattle.rt_track.specs.declared.nodes.Input.TheVariants.{Node}
-use Rattle.rt_track.specs.Inputs.{Gathers}
-use Rattle.rt_track.specs.Inputs.Gathers.{none}
+use Rattle.rt_track.specs.Inside.Inputs.{Gathers}
+use Rattle.rt_track.specs.Inside.Inputs.Gathers.{none}
 use Rattle.rt_track.proofs.Using.{keeps_itself, keeps_on, keeps_more, gathers_more}
 use Rattle.rt_track.proofs.uses.gathered.Goals as goal
 

@@ -1,5 +1,5 @@
 use Rattle.std.proofs.Common.{take}
-use Rattle.rt_track.specs.Inputs.{Gathers, Keeps}
+use Rattle.rt_track.specs.Inside.Inputs.{Gathers, Keeps}
 use Rattle.rt_track.proofs.uses.gathered.Given as goal
 
 abbrev pub invariant-loop-def : goal.invariant-loop-def

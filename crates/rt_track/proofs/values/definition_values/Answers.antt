@@ -3,7 +3,7 @@ use Rattle.std.specs.HashMap.{get}
 use Rattle.std.specs.Map.{lookup}
 use Rattle.rt_track.specs.declared.value.Value.{Value}
 use Rattle.rt_track.specs.declared.nodes.Input.TheVariants.{Node}
-use Rattle.rt_track.specs.Nodes.{value_in}
+use Rattle.rt_track.specs.Inside.Nodes.{value_in}
 use Rattle.rt_track.specs.Operations.{number_in}
 use Rattle.rt_track.specs.Placed.{place_eq}
 use Rattle.rt_track.proofs.Entering.{defined_none, defined_more, defined_all}

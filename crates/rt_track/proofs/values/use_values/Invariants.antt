@@ -1,5 +1,5 @@
 use Rattle.std.proofs.Common.{◌≡◌, map, take}
-use Rattle.rt_track.specs.Nodes.{value_in}
+use Rattle.rt_track.specs.Inside.Nodes.{value_in}
 use Rattle.rt_track.proofs.values.use_values.Given as goal
 
 abbrev pub invariant-loop-changes : goal.invariant-loop-changes

@@ -1,5 +1,5 @@
 use Rattle.std.proofs.Common.{◌≡◌, take}
-use Rattle.rt_tree.specs.Splits.{led_to}
+use Rattle.rt_tree.specs.Inside.Splits.{led_to}
 use Rattle.rt_tree.proofs.blocks.gathered.Given as goal
 
 abbrev pub invariant-loop-item : goal.invariant-loop-item

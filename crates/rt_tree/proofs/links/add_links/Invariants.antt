@@ -1,5 +1,5 @@
 use Rattle.std.proofs.Common.{◌≡◌, ◌++◌, map, take}
-use Rattle.rt_tree.specs.Splits.{link_of}
+use Rattle.rt_tree.specs.Inside.Splits.{link_of}
 use Rattle.rt_tree.proofs.links.add_links.Given as goal
 
 abbrev pub invariant-loop-label : goal.invariant-loop-label

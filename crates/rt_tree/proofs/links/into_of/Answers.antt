@@ -5,7 +5,7 @@ use Rattle.std.proofs.lemmas.Option.{slice_get-get_or}
 use Rattle.rt_lines.specs.declared.label.Loc.TheVariants.{Arg}
 use Rattle.rt_lines.specs.declared.label.Label.TheVariants.{In}
 use Rattle.rt_tree.specs.declared.links.Link.{Link}
-use Rattle.rt_tree.specs.Splits.{AreIntoTo}
+use Rattle.rt_tree.specs.Inside.Splits.{AreIntoTo}
 use Rattle.rt_tree.proofs.Items.{into_more}
 use Rattle.rt_tree.proofs.links.into_of.Goals as goal
 

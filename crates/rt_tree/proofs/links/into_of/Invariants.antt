@@ -1,4 +1,4 @@
-use Rattle.rt_tree.specs.Splits.{AreIntoTo}
+use Rattle.rt_tree.specs.Inside.Splits.{AreIntoTo}
 use Rattle.rt_tree.proofs.links.into_of.Given as goal
 
 abbrev pub invariant-loop-j : goal.invariant-loop-j

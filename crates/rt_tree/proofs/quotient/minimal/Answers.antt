@@ -1,7 +1,7 @@
 use Rattle.std.proofs.Common.{◌≡◌, List, ℕ, sym, subst}
 use Rattle.rt_tree.specs.Trees.{Nodes, AreSame, IsMinimal, IsBreadthFirst, IsTree}
 use Rattle.rt_tree.specs.Partitions.{AreClassesOf}
-use Rattle.rt_tree.specs.Quotients.{IsQuotient}
+use Rattle.rt_tree.specs.Inside.Quotients.{IsQuotient}
 use Rattle.rt_tree.proofs.Quotients.{IsLeastOf, quotient_least}
 use Rattle.rt_tree.proofs.quotient.minimal.Goals as goal
 

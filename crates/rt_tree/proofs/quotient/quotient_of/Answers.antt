@@ -6,7 +6,7 @@ use Rattle.rt_lines.specs.declared.label.Label.{Label}
 use Rattle.rt_tree.specs.Trees.{Node, Nodes, leaf, node_at, marks_of, IsEdge, Stand}
 use Rattle.rt_tree.specs.Pairs.{ArePaired}
 use Rattle.rt_tree.specs.Partitions.{AreClassesOf}
-use Rattle.rt_tree.specs.Quotients.{IsEndOf, IsQuotientOf}
+use Rattle.rt_tree.specs.Inside.Quotients.{IsEndOf, IsQuotientOf}
 use Rattle.rt_tree.proofs.Alike.{edges_of}
 use Rattle.rt_tree.proofs.Quotients.{class_within, order_within, quotient_more}
 use Rattle.rt_tree.proofs.quotient.quotient_of.Goals as goal

@@ -1,5 +1,5 @@
 use Rattle.std.proofs.Common.{◌≡◌, ◌-◌, length}
-use Rattle.rt_tree.specs.Quotients.{AreNumbers, IsQuotientOf}
+use Rattle.rt_tree.specs.Inside.Quotients.{AreNumbers, IsQuotientOf}
 use Rattle.rt_tree.proofs.quotient.quotient_of.Given as goal
 
 abbrev pub invariant-loop-alloc : goal.invariant-loop-alloc

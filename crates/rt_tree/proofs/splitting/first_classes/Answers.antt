@@ -3,7 +3,7 @@ use Rattle.std.specs.Prelude.{slice_index}
 use Rattle.rt_lines.specs.Words.{IsLabel}
 use Rattle.rt_tree.specs.declared.links.Link.{Link}
 use Rattle.rt_tree.specs.Partitions.{AreCoarseClasses, AreFinerClasses}
-use Rattle.rt_tree.specs.Splits.{AreFirstLabels, AreTold, links_of}
+use Rattle.rt_tree.specs.Inside.Splits.{AreFirstLabels, AreTold, links_of}
 use Rattle.rt_tree.specs.Trees.{Nodes}
 use Rattle.rt_tree.proofs.Words.{AreNodes}
 use Rattle.rt_tree.proofs.Coarse.{finer_coarse}

@@ -1,6 +1,6 @@
 use Rattle.std.proofs.Common.{All, length}
 use Rattle.rt_tree.specs.Trees.{Nodes, IsNode}
-use Rattle.rt_tree.specs.Splits.{AreBlocks, AreInto, AreTold, links_of}
+use Rattle.rt_tree.specs.Inside.Splits.{AreBlocks, AreInto, AreTold, links_of}
 use Rattle.rt_tree.proofs.splitting.split.Given as goal
 
 abbrev pub invariant-loop : goal.invariant-loop

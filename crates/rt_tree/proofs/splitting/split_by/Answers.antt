@@ -1,5 +1,5 @@
 use Rattle.std.proofs.Common.{ℕ, ◌<◌, List, length, get_or, sym, subst}
-use Rattle.rt_tree.specs.Splits.{AreLed, AreTold}
+use Rattle.rt_tree.specs.Inside.Splits.{AreLed, AreTold}
 use Rattle.rt_tree.proofs.Items.{split_told}
 use Rattle.rt_tree.proofs.Moving.{led_within}
 use Rattle.rt_tree.proofs.splitting.split_by.Goals as goal

@@ -1,6 +1,6 @@
 use Rattle.std.proofs.Common.{◌≡◌, ◌<◌, ◌+◌, List, length, get_or, sym, subst, ap, ◌∙◌}
 use Rattle.rt_tree.specs.declared.links.Link.{Link}
-use Rattle.rt_tree.specs.Splits.{AreInto, IsIn, links_of}
+use Rattle.rt_tree.specs.Inside.Splits.{AreInto, IsIn, links_of}
 use Rattle.rt_tree.proofs.Items.{into_within, links_ends}
 use Rattle.rt_tree.proofs.splitting.told.Goals as goal
 

@@ -4,7 +4,7 @@ use Rattle.std.proofs.lemmas.List.{take_all}
 use Rattle.rt_lines.specs.declared.variable.Base.TheVariants.{Exist}
 use Rattle.rt_lines.specs.declared.line.Line.{Line}
 use Rattle.rt_polar.specs.Index.{has}
-use Rattle.rt_twins.specs.Leading.{AreArrows, IsBare}
+use Rattle.rt_twins.specs.Inside.Leading.{AreArrows, IsBare}
 use Rattle.rt_twins.proofs.Following.{none_there}
 use Rattle.rt_twins.proofs.Gathering.{of_lines_more, of_lines_none}
 use Rattle.rt_twins.proofs.arrows.arrows.Goals as goal

@@ -1,6 +1,6 @@
 use Rattle.std.proofs.Common.{take}
 use Rattle.rt_polar.specs.Index.{has}
-use Rattle.rt_twins.specs.Leading.{AreArrows}
+use Rattle.rt_twins.specs.Inside.Leading.{AreArrows}
 use Rattle.rt_twins.proofs.arrows.arrows.Given as goal
 
 abbrev pub invariant-loop-line : goal.invariant-loop-line

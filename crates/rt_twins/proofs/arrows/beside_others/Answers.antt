@@ -3,7 +3,7 @@ use Rattle.std.specs.BTreeSet.{contains}
 use Rattle.std.specs.Ordering.{nat_cmp}
 use Rattle.std.proofs.lemmas.List.{take_all}
 use Rattle.rt_lines.specs.declared.line.Line.{Line}
-use Rattle.rt_twins.specs.Leading.{AreOfLines, IsBareBut}
+use Rattle.rt_twins.specs.Inside.Leading.{AreOfLines, IsBareBut}
 use Rattle.rt_twins.proofs.Gathering.{of_lines_more}
 use Rattle.rt_twins.proofs.arrows.beside_others.Goals as goal
 

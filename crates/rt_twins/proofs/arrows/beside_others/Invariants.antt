@@ -1,7 +1,7 @@
 use Rattle.std.proofs.Common.{take}
 use Rattle.std.specs.BTreeSet.{contains}
 use Rattle.std.specs.Ordering.{nat_cmp}
-use Rattle.rt_twins.specs.Leading.{AreOfLines, IsBareBut}
+use Rattle.rt_twins.specs.Inside.Leading.{AreOfLines, IsBareBut}
 use Rattle.rt_twins.proofs.arrows.beside_others.Given as goal
 
 abbrev pub invariant-loop-line : goal.invariant-loop-line

@@ -2,7 +2,7 @@ use Rattle.rt_lines.specs.declared.variable.Base.TheVariants.{Exist}
 use Rattle.rt_polar.specs.Index.{has}
 use Rattle.rt_polar.proofs.Pairs.{bare_noted}
 use Rattle.rt_refine.proofs.Noting.{noted_none}
-use Rattle.rt_twins.specs.Leading.{IsBare}
+use Rattle.rt_twins.specs.Inside.Leading.{IsBare}
 use Rattle.rt_twins.proofs.Gathering.{arrow_noted}
 use Rattle.rt_twins.proofs.arrows.note_arrow.Goals as goal
 

@@ -1,7 +1,7 @@
 use Rattle.std.specs.BTreeSet.{contains}
 use Rattle.std.specs.Ordering.{nat_cmp}
 use Rattle.rt_refine.proofs.Noting.{noted_none}
-use Rattle.rt_twins.specs.Leading.{IsBareBut}
+use Rattle.rt_twins.specs.Inside.Leading.{IsBareBut}
 use Rattle.rt_twins.proofs.arrows.note_other.Goals as goal
 
 pub returns-in_default : goal.returns-in_default

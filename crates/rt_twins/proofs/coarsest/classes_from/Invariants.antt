@@ -3,7 +3,7 @@ use Rattle.std.specs.BTreeMap.{get}
 use Rattle.std.specs.Ordering.{nat_cmp}
 use Rattle.rt_refine.specs.Groups.{class_of}
 use Rattle.rt_refine.specs.Splits.{above}
-use Rattle.rt_twins.specs.Splits.{AreExactClasses}
+use Rattle.rt_twins.specs.Inside.Splits.{AreExactClasses}
 use Rattle.rt_twins.specs.Twinnings.{AreMatched}
 use Rattle.rt_twins.proofs.coarsest.classes_from.Given as goal
 

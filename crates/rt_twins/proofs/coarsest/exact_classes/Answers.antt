@@ -7,7 +7,7 @@ use Rattle.rt_refine.specs.declared.uses.Side.TheVariants.{Left, Right}
 use Rattle.rt_refine.specs.Groups.{class_of}
 use Rattle.rt_refine.specs.Splits.{IsSplit}
 use Rattle.rt_twins.specs.declared.parts.Part.TheVariants.{Both}
-use Rattle.rt_twins.specs.Parts.{part_of}
+use Rattle.rt_twins.specs.Inside.Parts.{part_of}
 use Rattle.rt_twins.proofs.Turning.{exact_first}
 use Rattle.rt_twins.proofs.coarsest.exact_classes.Goals as goal
 

@@ -5,7 +5,7 @@ use Rattle.rt_lines.specs.declared.line.Line.{Line}
 use Rattle.rt_refine.specs.declared.uses.Side.TheVariants.{Left, Right}
 use Rattle.rt_refine.specs.Groups.{class_of}
 use Rattle.rt_refine.specs.Splits.{IsSplit}
-use Rattle.rt_twins.specs.Splits.{IsSplitTwice}
+use Rattle.rt_twins.specs.Inside.Splits.{IsSplitTwice}
 use Rattle.rt_twins.proofs.Turning.{twice}
 use Rattle.rt_twins.proofs.coarsest.split_twice.Goals as goal
 

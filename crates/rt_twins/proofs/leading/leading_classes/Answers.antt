@@ -9,7 +9,7 @@ use Rattle.rt_refine.specs.Groups.{class_of, IsNamed}
 use Rattle.rt_refine.specs.Numbers.{HasNumber, IsNumbered}
 use Rattle.rt_refine.proofs.Keys.{no_number}
 use Rattle.rt_refine.proofs.Leading.{led_first, led_more, led_last}
-use Rattle.rt_twins.specs.Leading.{lead_key}
+use Rattle.rt_twins.specs.Inside.Leading.{lead_key}
 use Rattle.rt_twins.proofs.Starting.{leading_classes}
 use Rattle.rt_twins.proofs.leading.leading_classes.Goals as goal
 

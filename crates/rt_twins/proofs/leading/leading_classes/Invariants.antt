@@ -4,7 +4,7 @@ use Rattle.std.specs.Ordering.{nat_cmp}
 use Rattle.rt_refine.specs.Groups.{IsNamed}
 use Rattle.rt_refine.specs.Numbers.{HasNumber}
 use Rattle.rt_refine.proofs.Leading.{AreLed}
-use Rattle.rt_twins.specs.Leading.{lead_key}
+use Rattle.rt_twins.specs.Inside.Leading.{lead_key}
 use Rattle.rt_twins.proofs.leading.leading_classes.Given as goal
 
 abbrev pub invariant-loop-existential : goal.invariant-loop-existential

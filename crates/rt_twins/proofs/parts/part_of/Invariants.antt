@@ -1,5 +1,5 @@
 use Rattle.std.proofs.Common.{◌≡◌, map, take}
-use Rattle.rt_twins.specs.Parts.{kept_of}
+use Rattle.rt_twins.specs.Inside.Parts.{kept_of}
 use Rattle.rt_twins.proofs.parts.part_of.Given as goal
 
 abbrev pub invariant-loop-line : goal.invariant-loop-line

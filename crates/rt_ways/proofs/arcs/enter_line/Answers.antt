@@ -1,6 +1,6 @@
 use Rattle.std.proofs.Common.{sym, subst, ◌∷◌, []}
 use Rattle.rt_ways.specs.Arcs.{AreMore}
-use Rattle.rt_ways.specs.Frames.{IsOfLine}
+use Rattle.rt_ways.specs.Inside.Frames.{IsOfLine}
 use Rattle.rt_ways.proofs.Hubs.{line_arc, line_none}
 use Rattle.rt_ways.proofs.arcs.enter_line.Goals as goal
 

@@ -1,4 +1,4 @@
-use Rattle.rt_ways.specs.Frames.{AreBehind}
+use Rattle.rt_ways.specs.Inside.Frames.{AreBehind}
 use Rattle.rt_ways.proofs.nodes.behind_of.Given as goal
 
 abbrev pub invariant-loop-number : goal.invariant-loop-number

@@ -2,7 +2,7 @@ use Rattle.std.proofs.Common.{◌++◌, ◌∙◌, List, ap}
 use Rattle.std.specs.Prelude.{flat_map}
 use Rattle.std.proofs.lemmas.List.{take_all}
 use Rattle.rt_lines.specs.declared.line.Line.{Line}
-use Rattle.rt_ways.specs.Frames.{flattened_line}
+use Rattle.rt_ways.specs.Inside.Frames.{flattened_line}
 use Rattle.rt_ways.proofs.Noding.{flat_more}
 use Rattle.rt_ways.proofs.nodes.flattened.Goals as goal
 

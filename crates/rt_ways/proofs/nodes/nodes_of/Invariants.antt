@@ -1,4 +1,4 @@
-use Rattle.rt_ways.specs.Frames.{AreNodes}
+use Rattle.rt_ways.specs.Inside.Frames.{AreNodes}
 use Rattle.rt_ways.proofs.nodes.nodes_of.Given as goal
 
 abbrev pub invariant-loop-number : goal.invariant-loop-number

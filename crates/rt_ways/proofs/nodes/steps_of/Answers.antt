@@ -1,5 +1,5 @@
 use Rattle.std.proofs.Common.{◌∙◌, ℕ, ◌<◌, List, ap, length, subst, sym}
-use Rattle.rt_ways.specs.Frames.{AreBehind}
+use Rattle.rt_ways.specs.Inside.Frames.{AreBehind}
 use Rattle.rt_ways.proofs.Noding.{steps_by}
 use Rattle.rt_ways.proofs.nodes.steps_of.Goals as goal
 

@@ -1,5 +1,5 @@
 use Rattle.std.proofs.Common.{subst}
-use Rattle.rt_cdecl.specs.Endings.{AreLeft}
+use Rattle.rt_cdecl.specs.Inside.Endings.{AreLeft}
 use Rattle.rt_cdecl.proofs.Left.{can_tells, few_tells, structs_few}
 use Rattle.rt_cdecl.proofs.draft.Draft.can_end.Goals as goal
 

@@ -1,6 +1,6 @@
 use Rattle.rt_lines.specs.declared.label.Loc.{Loc}
 use Rattle.rt_cdecl.specs.declared.declarations.CType.{CType}
-use Rattle.rt_cdecl.specs.Drafts.{IsListed}
+use Rattle.rt_cdecl.specs.Inside.Drafts.{IsListed}
 use Rattle.rt_cdecl.proofs.KindSets.{all_args, all_not, all_end, all_more}
 use Rattle.rt_cdecl.proofs.draft.Draft.lists_args.Goals as goal
 

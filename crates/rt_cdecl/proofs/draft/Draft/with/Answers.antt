@@ -1,6 +1,6 @@
 use Rattle.std.proofs.Common.{subst}
 use Rattle.rt_cdecl.specs.Rows.{Row}
-use Rattle.rt_cdecl.specs.Drafts.{Fits}
+use Rattle.rt_cdecl.specs.Inside.Drafts.{Fits}
 use Rattle.rt_cdecl.proofs.Left.{none_used}
 use Rattle.rt_cdecl.proofs.draft.Draft.with.Goals as goal
 

@@ -1,5 +1,5 @@
 use Rattle.std.proofs.Common.{refl, subst}
-use Rattle.rt_cdecl.specs.Endings.{AreLeft}
+use Rattle.rt_cdecl.specs.Inside.Endings.{AreLeft}
 use Rattle.rt_cdecl.specs.Rows.{Member}
 use Rattle.rt_cdecl.proofs.Left.{left_row}
 use Rattle.rt_cdecl.proofs.Moved.{field_is}

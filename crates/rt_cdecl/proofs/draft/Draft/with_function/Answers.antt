@@ -1,8 +1,8 @@
 use Rattle.std.proofs.Common.{refl, subst, List}
 use Rattle.rt_lines.specs.declared.label.Loc.{Loc}
 use Rattle.rt_cdecl.specs.declared.declarations.CType.{CType}
-use Rattle.rt_cdecl.specs.Drafts.{line_types}
-use Rattle.rt_cdecl.specs.Endings.{AreLeft, Drops}
+use Rattle.rt_cdecl.specs.Inside.Drafts.{line_types}
+use Rattle.rt_cdecl.specs.Inside.Endings.{AreLeft, Drops}
 use Rattle.rt_cdecl.specs.Rows.{Stated}
 use Rattle.rt_cdecl.proofs.Left.{left_row}
 use Rattle.rt_cdecl.proofs.Moved.{function_is}

@@ -1,5 +1,5 @@
 use Rattle.std.proofs.Common.{refl, subst}
-use Rattle.rt_cdecl.specs.Endings.{AreLeft}
+use Rattle.rt_cdecl.specs.Inside.Endings.{AreLeft}
 use Rattle.rt_cdecl.specs.Rows.{Pair}
 use Rattle.rt_cdecl.proofs.Left.{left_row, no_drops}
 use Rattle.rt_cdecl.proofs.Moved.{pair_is}

@@ -1,6 +1,6 @@
 use Rattle.std.proofs.Common.{ap, subst, ◌∙◌, ◌++◌, ◌∷◌, []}
-use Rattle.rt_cdecl.specs.Drafts.{Parts}
-use Rattle.rt_cdecl.specs.Endings.{AreLeft, all_used}
+use Rattle.rt_cdecl.specs.Inside.Drafts.{Parts}
+use Rattle.rt_cdecl.specs.Inside.Endings.{AreLeft, all_used}
 use Rattle.rt_cdecl.proofs.Sound.{made}
 use Rattle.rt_cdecl.proofs.Left.{left_typedef}
 use Rattle.rt_cdecl.proofs.Moved.{typedef_is}

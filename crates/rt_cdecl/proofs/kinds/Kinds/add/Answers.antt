@@ -1,6 +1,6 @@
 use Rattle.std.proofs.lemmas.Result.{on_ok_weaker}
 use Rattle.rt_cdecl.specs.declared.declarations.CType.TheVariants.{Scalar}
-use Rattle.rt_cdecl.specs.Drafts.{IsAdded}
+use Rattle.rt_cdecl.specs.Inside.Drafts.{IsAdded}
 use Rattle.rt_cdecl.proofs.KindSets.{adds_scalar, adds_unused}
 use Rattle.rt_cdecl.proofs.kinds.Kinds.add.Goals as goal
 

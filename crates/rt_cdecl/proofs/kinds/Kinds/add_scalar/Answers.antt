@@ -1,6 +1,6 @@
 use Rattle.std.proofs.Common.{rules}
 use Rattle.std.proofs.lemmas.Result.{on_ok_weaker}
-use Rattle.rt_cdecl.specs.Drafts.{IsAdded}
+use Rattle.rt_cdecl.specs.Inside.Drafts.{IsAdded}
 use Rattle.rt_cdecl.proofs.KindSets.{added_char, added_short, added_int, wide_left}
 use Rattle.rt_cdecl.proofs.kinds.Kinds.add_scalar.Goals as goal
 

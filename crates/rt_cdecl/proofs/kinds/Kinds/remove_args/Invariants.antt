@@ -1,7 +1,7 @@
 use Rattle.std.proofs.Common.{take}
 use Rattle.std.specs.List.{flat_map}
 use Rattle.rt_cdecl.specs.GoodDecls.{named_types, arg_types}
-use Rattle.rt_cdecl.specs.Endings.{Drops}
+use Rattle.rt_cdecl.specs.Inside.Endings.{Drops}
 use Rattle.rt_cdecl.proofs.kinds.Kinds.remove_args.Given as goal
 
 abbrev pub invariant-loop-kind : goal.invariant-loop-kind

@@ -1,7 +1,7 @@
 use Rattle.std.proofs.Common.{◌↔◌, IsTrue, List, subst}
 use Rattle.rt_cdecl.specs.declared.declarations.CType.{CType}
 use Rattle.rt_cdecl.specs.declared.declarations.CType.TheVariants.{Scalar}
-use Rattle.rt_cdecl.specs.Endings.{HasInt}
+use Rattle.rt_cdecl.specs.Inside.Endings.{HasInt}
 use Rattle.rt_cdecl.proofs.listed.Typedefs.has_ints.Goals as goal
 
 pub returns : goal.returns

@@ -5,7 +5,7 @@ use Rattle.std.specs.BTreeSet.{insert_key}
 use Rattle.std.specs.Ordering.{nat_cmp}
 use Rattle.rt_components.specs.declared.order.Queue.{Queue}
 use Rattle.rt_components.specs.Groups.{group_at}
-use Rattle.rt_components.specs.Orders.{least_of, HasCome, IsToCome, MaySettle}
+use Rattle.rt_components.specs.Inside.Orders.{least_of, HasCome, IsToCome, MaySettle}
 use Rattle.rt_components.proofs.Settling.{waits, readies}
 use Rattle.rt_components.proofs.Keys.{inserted_cases, inserted_old, inserted_new}
 use Rattle.rt_components.proofs.order.Queue.settle.Goals as goal

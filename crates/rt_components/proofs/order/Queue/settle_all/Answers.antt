@@ -1,6 +1,6 @@
 use Rattle.std.proofs.Common.{◌+◌, get_or, drop, subst, ◌∙◌}
 use Rattle.std.proofs.lemmas.List.{drop_more}
-use Rattle.rt_components.specs.Orders.{IsQueue}
+use Rattle.rt_components.specs.Inside.Orders.{IsQueue}
 use Rattle.rt_components.proofs.Numbers.{cons_here}
 use Rattle.rt_components.proofs.order.Queue.settle_all.Goals as goal
 

@@ -1,5 +1,5 @@
 use Rattle.std.proofs.Common.{◌≡◌, drop}
-use Rattle.rt_components.specs.Orders.{IsQueue}
+use Rattle.rt_components.specs.Inside.Orders.{IsQueue}
 use Rattle.rt_components.proofs.order.Queue.settle_all.Given as goal
 
 abbrev pub invariant-loop-class : goal.invariant-loop-class

@@ -2,7 +2,7 @@ use Rattle.std.proofs.Common.{◌≡◌, ◌<◌, true, [], length, set, sym, su
 use Rattle.std.proofs.lemmas.List.{get_or_read}
 use Rattle.std.proofs.lemmas.Result.{IfOk-weaker}
 use Rattle.rt_components.specs.Groups.{group_at}
-use Rattle.rt_components.specs.Orders.{IsQueueOf, left_to_come}
+use Rattle.rt_components.specs.Inside.Orders.{IsQueueOf, left_to_come}
 use Rattle.rt_components.proofs.Numbers.{cons_here}
 use Rattle.rt_components.proofs.Taking.{taken, within_come, is_to_come, left_falls}
 use Rattle.rt_components.proofs.order.Queue.take.Goals as goal

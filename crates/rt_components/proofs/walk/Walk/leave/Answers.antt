@@ -2,7 +2,7 @@ use Rattle.std.proofs.Common.{◌≡◌, ℕ, ◌-◌, ◌<◌, List, [], ◌∷
 use Rattle.std.proofs.lemmas.Bool.{true≢false}
 use Rattle.std.proofs.lemmas.List.{get_or_read, with_items_is}
 use Rattle.std.proofs.lemmas.List.Elements.{Contains-push}
-use Rattle.rt_components.specs.Walks.{state_of, AreOnPath, IsClosedFrom, IsPath, AreWhole, MayLeave}
+use Rattle.rt_components.specs.Inside.Walks.{state_of, AreOnPath, IsClosedFrom, IsPath, AreWhole, MayLeave}
 use Rattle.rt_components.specs.declared.walk.Walk.{Walk}
 use Rattle.rt_components.proofs.Numbers.{split_last}
 use Rattle.rt_components.proofs.Leaving.{on_path_of, left_path, back_unseen, closed_path, closed_whole}

@@ -3,7 +3,7 @@ use Rattle.std.proofs.lemmas.List.{get_or_read}
 use Rattle.rt_components.specs.declared.walk.State.TheVariants.{Unseen, OnPath}
 use Rattle.rt_components.specs.Graphs.{HasEdge}
 use Rattle.rt_components.specs.Groups.{Reaches}
-use Rattle.rt_components.specs.Walks.{state_of}
+use Rattle.rt_components.specs.Inside.Walks.{state_of}
 use Rattle.rt_components.proofs.Merging.{merged}
 use Rattle.rt_components.proofs.walk.Walk.reach.Goals as goal
 

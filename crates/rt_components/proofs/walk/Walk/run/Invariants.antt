@@ -1,4 +1,4 @@
-use Rattle.rt_components.specs.Walks.{IsWalk, KeepsSeen, work}
+use Rattle.rt_components.specs.Inside.Walks.{IsWalk, KeepsSeen, work}
 use Rattle.rt_components.proofs.walk.Walk.run.Given as goal
 
 abbrev pub ghost-step : goal.ghost-step

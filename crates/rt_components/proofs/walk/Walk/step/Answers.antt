@@ -2,7 +2,7 @@ use Rattle.std.proofs.Common.{◌≡◌, ℕ, ◌+◌, ◌*◌, ◌<◌, ◌≤�
 use Rattle.std.proofs.lemmas.List.{get_or_read}
 use Rattle.rt_components.specs.Graphs.{successors}
 use Rattle.rt_components.specs.declared.walk.Walk.{Walk}
-use Rattle.rt_components.specs.Walks.{state_of, left, AreWhole, IsPath, MayStep}
+use Rattle.rt_components.specs.Inside.Walks.{state_of, left, AreWhole, IsPath, MayStep}
 use Rattle.rt_components.proofs.Advancing.{advanced, left-set}
 use Rattle.rt_components.proofs.Stepping.{on_path, is_node, is_seen, may_reach, edge_read}
 use Rattle.rt_components.proofs.walk.Walk.step.Goals as goal

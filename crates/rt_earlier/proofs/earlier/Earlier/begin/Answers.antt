@@ -3,7 +3,7 @@ use Rattle.std.specs.Prelude.{slice_get}
 use Rattle.std.proofs.lemmas.Grind.{common_steps}
 use Rattle.std.proofs.lemmas.Option.{slice_get-get_or}
 use Rattle.std.proofs.lemmas.Result.{on_ok_weaker}
-use Rattle.rt_earlier.specs.Earlier.{AreOne}
+use Rattle.rt_earlier.specs.Inside.Earlier.{AreOne}
 use Rattle.rt_named.specs.Origins.{no_variable}
 use Rattle.rt_earlier.proofs.Reaching.{reach_self}
 use Rattle.rt_earlier.proofs.Keeping.{sound-next, sound-fewer, sound-put}

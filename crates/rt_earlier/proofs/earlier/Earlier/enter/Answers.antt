@@ -1,5 +1,5 @@
 use Rattle.std.proofs.Common.{sym, subst}
-use Rattle.rt_earlier.specs.Earlier.{AreKept}
+use Rattle.rt_earlier.specs.Inside.Earlier.{AreKept}
 use Rattle.rt_earlier.proofs.Entering.{entered-keeps, entered-there}
 use Rattle.rt_earlier.proofs.Keeping.{sound-named}
 use Rattle.rt_earlier.proofs.earlier.Earlier.enter.Goals as goal

@@ -3,7 +3,7 @@ use Rattle.std.specs.Prelude.{slice_get}
 use Rattle.rt_lines.specs.declared.line.Line.TheVariants.{Var as Exists}
 use Rattle.rt_rules.specs.Rules.{Derivable}
 use Rattle.rt_named.specs.Naming.{with_prefixes}
-use Rattle.rt_earlier.specs.Earlier.{StaysSound}
+use Rattle.rt_earlier.specs.Inside.Earlier.{StaysSound}
 use Rattle.rt_earlier.proofs.earlier.Earlier.enter.Given as goal
 
 abbrev pub invariant-loop : goal.invariant-loop

@@ -1,5 +1,5 @@
 use Rattle.std.proofs.Common.{sym, subst, ◌∙◌}
-use Rattle.rt_earlier.specs.Earlier.{AreOne}
+use Rattle.rt_earlier.specs.Inside.Earlier.{AreOne}
 use Rattle.rt_earlier.proofs.earlier.Earlier.move_labels.Goals as goal
 
 pub loop-label-preserved : goal.loop-label-preserved

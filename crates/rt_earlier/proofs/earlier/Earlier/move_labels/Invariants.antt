@@ -1,5 +1,5 @@
 use Rattle.std.proofs.Common.{◌≡◌}
-use Rattle.rt_earlier.specs.Earlier.{AreOne, StaysSound}
+use Rattle.rt_earlier.specs.Inside.Earlier.{AreOne, StaysSound}
 use Rattle.rt_earlier.proofs.earlier.Earlier.move_labels.Given as goal
 
 abbrev pub invariant-loop-label : goal.invariant-loop-label

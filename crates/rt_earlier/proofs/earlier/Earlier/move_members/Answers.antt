@@ -1,6 +1,6 @@
 use Rattle.std.proofs.Common.{get_or, Contains, sym, subst, arith}
 use Rattle.std.proofs.lemmas.List.Elements.{Contains-get_or}
-use Rattle.rt_earlier.specs.Earlier.{AreOne}
+use Rattle.rt_earlier.specs.Inside.Earlier.{AreOne}
 use Rattle.rt_earlier.proofs.Reaching.{one_chain}
 use Rattle.rt_earlier.proofs.Keeping.{sound-set, sound-put}
 use Rattle.rt_earlier.proofs.earlier.Earlier.move_members.Goals as goal

@@ -1,6 +1,6 @@
 use Rattle.std.proofs.Common.{◌≡◌, ℕ, [], Contains}
 use Rattle.std.specs.Prelude.{slice_index_or}
-use Rattle.rt_earlier.specs.Earlier.{AreOne, StaysSound}
+use Rattle.rt_earlier.specs.Inside.Earlier.{AreOne, StaysSound}
 use Rattle.rt_earlier.proofs.earlier.Earlier.move_members.Given as goal
 
 abbrev pub invariant-loop-number : goal.invariant-loop-number

@@ -6,7 +6,7 @@ use Rattle.rt_lines.specs.declared.label.Loc.TheVariants.{Arg}
 use Rattle.rt_lines.specs.declared.variable.Dtv.{Dtv}
 use Rattle.rt_rules.specs.Rules.{longer}
 use Rattle.rt_named.proofs.Prefixes.{prefix_of, prefix_more}
-use Rattle.rt_earlier.specs.Earlier.{Reaches}
+use Rattle.rt_earlier.specs.Inside.Earlier.{Reaches}
 use Rattle.rt_earlier.proofs.Reaching.{reach_self, reach_step}
 use Rattle.rt_earlier.proofs.earlier.Earlier.walk.Goals as goal
 

@@ -2,7 +2,7 @@ use Rattle.std.proofs.Common.{◌≡◌, List}
 use Rattle.rt_lines.specs.declared.line.Line.{Line as Given}
 use Rattle.rt_lines.specs.Orders.{Below}
 use Rattle.rt_named.proofs.Prefixes.{prefix_of}
-use Rattle.rt_earlier.specs.Earlier.{IsSound, Reaches}
+use Rattle.rt_earlier.specs.Inside.Earlier.{IsSound, Reaches}
 use Rattle.rt_earlier.proofs.earlier.Earlier.walk.Given as goal
 
 abbrev pub invariant-loop-label : goal.invariant-loop-label

@@ -2,7 +2,7 @@ use Rattle.std.proofs.Common.{subst}
 use Rattle.std.proofs.lemmas.List.Elements.{All-contains}
 use Rattle.std.specs.Map.{keys_of, values_of}
 use Rattle.std.specs.BTreeMap.Range.{IsLtBy}
-use Rattle.rt_emit.specs.Queues.{AreKeyed, IsPopped}
+use Rattle.rt_emit.specs.Inside.Queues.{AreKeyed, IsPopped}
 use Rattle.rt_emit.proofs.Queueing.{key_cmp, popped, tail_keyed}
 use Rattle.rt_emit.proofs.queue.Queue.pop.Goals as goal
 

@@ -1,7 +1,7 @@
 use Rattle.std.proofs.Common.{◌≡◌, ◌↔◌, ◌⊎◌, Contains, subst, sym}
 use Rattle.std.specs.Map.{values_of}
 use Rattle.rt_lines.specs.declared.variable.Dtv.{Dtv}
-use Rattle.rt_emit.specs.Queues.{AreKeyed}
+use Rattle.rt_emit.specs.Inside.Queues.{AreKeyed}
 use Rattle.rt_emit.proofs.Queueing.{insert_keyed, holds_after}
 use Rattle.rt_emit.proofs.queue.Queue.push.Goals as goal
 

@@ -1,6 +1,6 @@
 use Rattle.std.proofs.Common.{sym, ap, subst, ◌∙◌}
 use Rattle.rt_erase.specs.Rows.{label_of, with_row}
-use Rattle.rt_erase.specs.Sorting.{rows_in, AreOthers}
+use Rattle.rt_erase.specs.Inside.Sorting.{rows_in, AreOthers}
 use Rattle.rt_erase.proofs.Ordered.{inserted}
 use Rattle.rt_erase.proofs.sorting.Sorted.insert.Goals as goal
 

@@ -9,8 +9,8 @@ invariant_of-result c =
     let graph = c.in_ok-graph.graph in
     let is = c.in_ok-reach.ensures in
     record {
-      taken_rising = c.in_ok-taken-2.ensures.rising;
-      saved_rising = c.in_ok-saved-2.ensures.rising;
+      taken_ascending = c.in_ok-taken-2.ensures.ascending;
+      saved_ascending = c.in_ok-saved-2.ensures.ascending;
       within = within_sites graph c.in_ok-reach.reach is (c.sites-sites.ensures.reaching graph is);
     }
 
@@ -31,5 +31,5 @@ returns-clause-of c =
     let layout : Layout = record { taken = c.in_ok-taken-2.taken; saved = c.in_ok-saved-2.saved } in
     let graph_is : graph ≡ frame_body reading layout = search rules in
     framed graph c.in_ok-reach.reach is (c.sites-sites.ensures.reaching graph is) reading c.args.calls.now layout c.in_ok-taken.field-0 c.in_ok-saved.field-0 graph_is refl
-    c.in_ok-taken-2.ensures.same c.in_ok-taken-2.ensures.rising c.in_ok-taken.ensures
-    c.in_ok-saved-2.ensures.same c.in_ok-saved-2.ensures.rising c.in_ok-saved.ensures
+    c.in_ok-taken-2.ensures.same c.in_ok-taken-2.ensures.ascending c.in_ok-taken.ensures
+    c.in_ok-saved-2.ensures.same c.in_ok-saved-2.ensures.ascending c.in_ok-saved.ensures

@@ -3,7 +3,7 @@ use Rattle.std.specs.Int.{w32}
 use Rattle.std.specs.Ordering.{int_cmp}
 use Rattle.std.specs.BTreeSet.{Updates}
 use Rattle.std.proofs.lemmas.Int.{to_z-of_z}
-use Rattle.rt_frame.specs.Gathering.{Gains}
+use Rattle.rt_frame.specs.Inside.Gathering.{Gains}
 use Rattle.rt_frame.proofs.Inserted.{inserted}
 use Rattle.rt_frame.proofs.offsets.Offsets.insert.Goals as goal
 

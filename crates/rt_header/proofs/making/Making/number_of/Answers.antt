@@ -1,7 +1,7 @@
 use Rattle.std.proofs.Common.{◌≡◌, ◌<◌, ◌++◌, ◌∷◌, [], Some, None, length, set, get_or, sym, subst, ◌∙◌, arith, rules}
 use Rattle.std.proofs.lemmas.List.{get_or_read}
-use Rattle.rt_header.specs.Built.{Structs, IsMaking, class_of}
-use Rattle.rt_header.specs.Made.{IsNumberOf}
+use Rattle.rt_header.specs.Inside.Built.{Structs, IsMaking, class_of}
+use Rattle.rt_header.specs.Inside.Made.{IsNumberOf}
 use Rattle.rt_header.proofs.Numbering.{known_number, more_making, next_number}
 use Rattle.rt_header.proofs.making.Making.number_of.Goals as goal
 

@@ -5,7 +5,7 @@ use Rattle.rt_tree.specs.Trees.{node_at}
 use Rattle.rt_erase.specs.Rows.{scalar_number}
 use Rattle.rt_cdecl.specs.declared.declarations.CType.{CType}
 use Rattle.rt_cdecl.specs.declared.declarations.CType.TheVariants.{Scalar}
-use Rattle.rt_header.specs.Built.{IsTypeOf, tree_of}
+use Rattle.rt_header.specs.Inside.Built.{IsTypeOf, tree_of}
 use Rattle.rt_header.proofs.making.Making.type_of.Goals as goal
 
 pub returns-in_ok-number_of-in-Some-clause-is : goal.returns-in_ok-number_of-in-Some-clause-is

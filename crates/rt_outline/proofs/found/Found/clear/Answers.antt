@@ -1,5 +1,5 @@
 use Rattle.std.proofs.Common.{sym, subst}
-use Rattle.rt_outline.specs.Found.{AreFlagged}
+use Rattle.rt_outline.specs.Inside.Found.{AreFlagged}
 use Rattle.rt_outline.proofs.found.Found.clear.Goals as goal
 
 pub invariant_of-self : goal.invariant_of-self

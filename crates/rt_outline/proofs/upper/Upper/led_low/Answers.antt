@@ -4,7 +4,7 @@ use Rattle.rt_lines.specs.declared.line.Line.TheVariants.{Low}
 use Rattle.rt_lines.specs.Lines.{HasConstantsBelow}
 use Rattle.rt_lines.specs.Orders.{IsAtOrBelow}
 use Rattle.rt_outline.specs.declared.bounds.Bound.{Bound}
-use Rattle.rt_outline.specs.Bounds.{AreBoundsAt}
+use Rattle.rt_outline.specs.Inside.Bounds.{AreBoundsAt}
 use Rattle.rt_outline.specs.Lines.{Lined, standing}
 use Rattle.rt_outline.proofs.Bounded.{bound_below, found_number, low_from, low_has, low_none, low_self, lower_variables, lower_variables_are}
 use Rattle.rt_outline.proofs.Entered.{numbers_one}

@@ -2,7 +2,7 @@ use Rattle.std.proofs.Common.{◌≡◌, ◌∷◌, [], All, Contains, List, tru
 use Rattle.std.proofs.lemmas.Grind.{common_steps}
 use Rattle.rt_lines.specs.Lines.{HasConstantsBelow}
 use Rattle.rt_outline.specs.declared.bounds.Bound.{Bound}
-use Rattle.rt_outline.specs.Bounds.{AreBoundsAt, IsAtOrAbove, upper_bound}
+use Rattle.rt_outline.specs.Inside.Bounds.{AreBoundsAt, IsAtOrAbove, upper_bound}
 use Rattle.rt_outline.specs.Lines.{Lined, standing}
 use Rattle.rt_outline.proofs.Bounded.{bound_below, found_number, up_from, up_has, up_none, up_self, upper_variables, upper_variables_are}
 use Rattle.rt_outline.proofs.Entered.{numbers_one}

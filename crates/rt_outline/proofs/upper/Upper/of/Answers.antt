@@ -1,6 +1,6 @@
 use Rattle.std.proofs.Common.{length, subst, sym}
 use Rattle.rt_lines.specs.declared.line.Line.TheVariants.{Low}
-use Rattle.rt_outline.specs.Bounds.{AreBounds, upper_bound}
+use Rattle.rt_outline.specs.Inside.Bounds.{AreBounds, upper_bound}
 use Rattle.rt_outline.specs.Enclosing.{IsOuter}
 use Rattle.rt_outline.specs.Lines.{AreLineArcs}
 use Rattle.rt_outline.proofs.Inner.{sides}

@@ -1,6 +1,6 @@
 use Rattle.std.proofs.Common.{sym, subst}
 use Rattle.rt_polar.specs.Index.{has}
-use Rattle.rt_polar.specs.Places.{AreHeld}
+use Rattle.rt_polar.specs.Inside.Places.{AreHeld}
 use Rattle.rt_polar.proofs.Placing.{held_pushed}
 use Rattle.rt_polar.proofs.places.Places.add_slot.Goals as goal
 

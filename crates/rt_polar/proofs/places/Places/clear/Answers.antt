@@ -1,7 +1,7 @@
 use Rattle.std.proofs.Common.{None, sym, subst, ◌∙◌}
 use Rattle.std.proofs.Math.ListN.{set}
 use Rattle.rt_polar.specs.Index.{has, IsBareForgotten, IsForgotten}
-use Rattle.rt_polar.specs.Places.{AreHeld, Holds}
+use Rattle.rt_polar.specs.Inside.Places.{AreHeld, Holds}
 use Rattle.rt_polar.proofs.Holding.{held_cleared}
 use Rattle.rt_polar.proofs.Pairs.{bare_forgotten}
 use Rattle.rt_polar.proofs.Slots.{held_by}

@@ -1,6 +1,6 @@
 use Rattle.std.proofs.Common.{◌≡◌, ◌≢◌, ℕ, ◌+◌, ◌<◌, ◌≤◌, ◌⊎◌, inl, inr, true, sym, subst, ◌∙◌, arith}
 use Rattle.rt_polar.specs.Index.{has}
-use Rattle.rt_polar.specs.Places.{Holds}
+use Rattle.rt_polar.specs.Inside.Places.{Holds}
 use Rattle.rt_polar.proofs.Holding.{same_or_apart}
 use Rattle.rt_polar.proofs.Slots.{held_by, read_held, within}
 use Rattle.rt_polar.proofs.places.Places.find.Goals as goal

@@ -1,5 +1,5 @@
 use Rattle.std.proofs.Common.{ℕ, ◌<◌, ◌-◌, length}
-use Rattle.rt_polar.specs.Places.{Holds}
+use Rattle.rt_polar.specs.Inside.Places.{Holds}
 use Rattle.rt_polar.proofs.places.Places.find.Given as goal
 
 -- no slot before one holds the line

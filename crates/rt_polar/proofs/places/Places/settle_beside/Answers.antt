@@ -2,8 +2,8 @@ use Rattle.std.proofs.Common.{◌≡◌, ◌≢◌, ℕ, ◌<◌, ◌≤◌, Lis
 use Rattle.std.proofs.Math.ListN.{set}
 use Rattle.indexmap.proofs.MapLemmas.{OnOk-map}
 use Rattle.rt_lines.specs.declared.line.Line.{Line}
-use Rattle.rt_polar.specs.Places.{Holds, IsFound, Settles}
-use Rattle.rt_polar.specs.Places.Settles.{stands_before, moves}
+use Rattle.rt_polar.specs.Inside.Places.{Holds, IsFound, Settles}
+use Rattle.rt_polar.specs.Inside.Places.Settles.{stands_before, moves}
 use Rattle.rt_polar.specs.Index.{has}
 use Rattle.rt_polar.proofs.Slots.{cleared_source}
 use Rattle.rt_polar.proofs.Soles.{one_slot}

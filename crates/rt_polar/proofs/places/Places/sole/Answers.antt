@@ -1,6 +1,6 @@
 use Rattle.std.proofs.Common.{◌<◌, length, sym, subst, ◌∙◌}
 use Rattle.rt_polar.specs.Index.{has}
-use Rattle.rt_polar.specs.Places.{Holds}
+use Rattle.rt_polar.specs.Inside.Places.{Holds}
 use Rattle.rt_polar.proofs.Slots.{held_by}
 use Rattle.rt_polar.proofs.Soles.{sole_absent, sole_here, sole_none, uses_within}
 use Rattle.rt_polar.proofs.places.Places.sole.Goals as goal

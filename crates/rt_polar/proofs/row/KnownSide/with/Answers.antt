@@ -1,5 +1,5 @@
 use Rattle.std.proofs.Common.{sym, ap, ◌∙◌}
-use Rattle.rt_polar.specs.Digests.{followed, summary}
+use Rattle.rt_polar.specs.Inside.Digests.{followed, summary}
 use Rattle.rt_polar.proofs.Summaries.{summary-followed}
 use Rattle.rt_polar.proofs.row.KnownSide.with.Goals as goal
 

@@ -1,6 +1,6 @@
 use Rattle.std.proofs.Common.{◌≡◌, drop}
 use Rattle.rt_control.specs.Tables.{with_places}
-use Rattle.rt_proc.specs.Founds.{HasFound}
+use Rattle.rt_proc.specs.Inside.Founds.{HasFound}
 use Rattle.rt_proc.proofs.found.Found.insert_all.Given as goal
 
 abbrev pub invariant-loop-place : goal.invariant-loop-place

@@ -1,5 +1,5 @@
 use Rattle.std.proofs.Common.{◌↔◌, IsTrue, subst}
-use Rattle.rt_reports.specs.Drafts.{AllNamed}
+use Rattle.rt_reports.specs.Inside.Drafts.{AllNamed}
 use Rattle.rt_reports.proofs.Listings.{named_all}
 use Rattle.rt_reports.proofs.draft.Draft.names_all.Goals as goal
 

@@ -1,5 +1,5 @@
 use Rattle.std.proofs.Common.{◌<◌, All, subst, sym}
-use Rattle.rt_run.specs.Analyses.{procs_in}
+use Rattle.rt_run.specs.Inside.Analyses.{procs_in}
 use Rattle.rt_run.proofs.Placing.{lists_more, members_within}
 use Rattle.rt_run.proofs.analysis.Analysis.add_constraints.Goals as goal
 

@@ -4,7 +4,7 @@ use Rattle.std.proofs.lemmas.List.{get_or_default}
 use Rattle.std.specs.Vec.{with_item}
 use Rattle.rt_grid.specs.Tables.{Table, size_of, Holds, Made, Says}
 use Rattle.rt_sat.specs.declared.family.Family.{Family}
-use Rattle.rt_sat.specs.Checks.{AreWalked}
+use Rattle.rt_sat.specs.Inside.Checks.{AreWalked}
 use Rattle.rt_sat.specs.Hints.{grid_of, members_of, no_table, IsFamily, IsToldFamily}
 use Rattle.rt_sat.proofs.Families.{family_changed, told_changed}
 use Rattle.rt_sat.proofs.Walking.{walked_closed, walked_pruned}

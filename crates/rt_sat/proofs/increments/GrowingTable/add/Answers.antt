@@ -14,4 +14,4 @@ returns-clause-added c = λ lines tells.
     subst (λ (edges : List Edge). AreLineEdges (line ∷ []) known edges) (sym c.deref.ensures.value)
     (subst (λ (lines : List Line). AreLineEdges lines known c.in_ok-edges.edges.items) c.from_ref.ensures.value c.in_ok-edges.ensures) in
     inr (tells_more lines line c.args.self.now c.enter.new.self c.deref.result.now tells (c.if-not-has_sides.ensures refl) are
-    c.in_ok-enter.ensures.frame c.in_ok-enter.ensures.family c.in_ok-enter.ensures.groups c.in_ok-enter.ensures.told)
+    c.in_ok-enter.ensures.frame c.in_ok-enter.ensures.family c.in_ok-enter.ensures.kin c.in_ok-enter.ensures.groups c.in_ok-enter.ensures.told)

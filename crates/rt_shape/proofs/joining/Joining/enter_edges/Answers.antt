@@ -1,5 +1,5 @@
 use Rattle.std.proofs.Common.{sym}
-use Rattle.rt_shape.specs.Classes.Joined.{joined_self}
+use Rattle.rt_shape.specs.Inside.Classes.Joined.{joined_self}
 use Rattle.rt_shape.proofs.joining.Joining.enter_edges.Goals as goal
 
 pub enter-requires : goal.enter-requires

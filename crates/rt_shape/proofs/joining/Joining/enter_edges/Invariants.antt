@@ -1,5 +1,5 @@
 use Rattle.std.proofs.Common.{ℕ, List}
-use Rattle.rt_shape.specs.Joins.{IsSound}
+use Rattle.rt_shape.specs.Inside.Joins.{IsSound}
 use Rattle.rt_shape.proofs.joining.Joining.enter_edges.Given as goal
 
 abbrev pub invariant-loop-i : goal.invariant-loop-i

@@ -2,8 +2,8 @@ use Rattle.std.proofs.Common.{◌≡◌, ℕ, ◌<◌, List, [], ◌∷◌, ◌+
 use Rattle.std.proofs.lemmas.List.Elements.{Contains-append_left, Contains-push}
 use Rattle.rt_lines.specs.declared.label.Label.{Label}
 use Rattle.rt_shape.specs.Graphs.{Graph}
-use Rattle.rt_shape.specs.Classes.{Joined}
-use Rattle.rt_shape.specs.Joins.{AreSound}
+use Rattle.rt_shape.specs.Inside.Classes.{Joined}
+use Rattle.rt_shape.specs.Inside.Joins.{AreSound}
 use Rattle.rt_shape.proofs.Sound.{sound-todo}
 use Rattle.rt_shape.proofs.joining.Joining.finish.Goals as goal
 

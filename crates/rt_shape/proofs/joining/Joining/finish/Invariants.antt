@@ -1,6 +1,6 @@
 use Rattle.std.proofs.Common.{ℕ, List}
 use Rattle.rt_shape.specs.Graphs.{Graph}
-use Rattle.rt_shape.specs.Joins.{IsSound, work}
+use Rattle.rt_shape.specs.Inside.Joins.{IsSound, work}
 use Rattle.rt_shape.proofs.joining.Joining.finish.Given as goal
 
 abbrev pub invariant-loop-i : goal.invariant-loop-i

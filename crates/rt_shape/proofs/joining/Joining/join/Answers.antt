@@ -1,6 +1,6 @@
 use Rattle.std.proofs.Common.{◌<◌, sym, subst, ◌∙◌}
 use Rattle.std.proofs.lemmas.Result.{on_ok_weaker}
-use Rattle.rt_shape.specs.Classes.Joined.{joined_back}
+use Rattle.rt_shape.specs.Inside.Classes.Joined.{joined_back}
 use Rattle.rt_shape.proofs.Sound.{classes_join}
 use Rattle.rt_shape.proofs.joining.Joining.join.Goals as goal
 

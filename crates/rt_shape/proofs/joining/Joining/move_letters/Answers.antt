@@ -4,7 +4,7 @@ use Rattle.std.proofs.lemmas.List.Sums.{sum_by-set}
 use Rattle.std.proofs.lemmas.List.Elements.{Contains-get_or}
 use Rattle.rt_lines.specs.declared.label.Label.TheVariants.{In}
 use Rattle.rt_lines.specs.declared.label.Loc.TheVariants.{Arg}
-use Rattle.rt_shape.specs.Joins.{IsSound, work}
+use Rattle.rt_shape.specs.Inside.Joins.{IsSound, work}
 use Rattle.rt_shape.proofs.Sound.{taken, none_in, leads_on, sound-letters, sound-remove}
 use Rattle.rt_shape.proofs.joining.Joining.move_letters.Goals as goal
 

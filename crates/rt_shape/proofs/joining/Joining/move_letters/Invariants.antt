@@ -1,7 +1,7 @@
 use Rattle.std.proofs.Common.{◌≡◌, ℕ, ◌+◌, ◌-◌, List, [], length, get_or}
 use Rattle.rt_shape.specs.Graphs.{Graph}
-use Rattle.rt_shape.specs.Classes.{Joined}
-use Rattle.rt_shape.specs.Joins.{IsSound, work}
+use Rattle.rt_shape.specs.Inside.Classes.{Joined}
+use Rattle.rt_shape.specs.Inside.Joins.{IsSound, work}
 use Rattle.rt_shape.proofs.joining.Joining.move_letters.Given as goal
 
 abbrev pub invariant-loop-letter : goal.invariant-loop-letter

@@ -1,8 +1,8 @@
 use Rattle.std.proofs.Common.{◌<◌, length, get_or, set, Contains, refl, sym, subst, ◌∙◌, arith}
 use Rattle.std.proofs.lemmas.List.Elements.{Contains-get_or}
-use Rattle.rt_shape.specs.Classes.{Joined}
-use Rattle.rt_shape.specs.Classes.Joined.{joined_chain}
-use Rattle.rt_shape.specs.Joins.{IsSound}
+use Rattle.rt_shape.specs.Inside.Classes.{Joined}
+use Rattle.rt_shape.specs.Inside.Classes.Joined.{joined_chain}
+use Rattle.rt_shape.specs.Inside.Joins.{IsSound}
 use Rattle.rt_shape.proofs.Sound.{taken, none_in, sound-class, sound-members, sound-member}
 use Rattle.rt_shape.proofs.joining.Joining.move_members.Goals as goal
 

@@ -1,7 +1,7 @@
 use Rattle.std.proofs.Common.{◌≡◌, ℕ, List, [], get_or}
 use Rattle.rt_shape.specs.Graphs.{Graph}
-use Rattle.rt_shape.specs.Classes.{Joined}
-use Rattle.rt_shape.specs.Joins.{IsSound, work}
+use Rattle.rt_shape.specs.Inside.Classes.{Joined}
+use Rattle.rt_shape.specs.Inside.Joins.{IsSound, work}
 use Rattle.rt_shape.proofs.joining.Joining.move_members.Given as goal
 
 abbrev pub invariant-loop-node : goal.invariant-loop-node

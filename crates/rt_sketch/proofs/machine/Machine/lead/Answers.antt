@@ -1,5 +1,5 @@
 use Rattle.std.proofs.Common.{◌∙◌, sym}
-use Rattle.rt_sketch.specs.Steps.{rows_of}
+use Rattle.rt_sketch.specs.Inside.Steps.{rows_of}
 use Rattle.rt_sketch.proofs.Numbered.{lead_note, lead_none}
 use Rattle.rt_sketch.proofs.machine.Machine.lead.Goals as goal
 

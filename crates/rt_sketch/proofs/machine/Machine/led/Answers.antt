@@ -1,5 +1,5 @@
 use Rattle.std.proofs.Common.{List, ℕ, Contains, subst}
-use Rattle.rt_sketch.specs.Steps.{AreAll, rows_of}
+use Rattle.rt_sketch.specs.Inside.Steps.{AreAll, rows_of}
 use Rattle.rt_sketch.proofs.Numbered.{led_first, led_next, led_whole}
 use Rattle.rt_sketch.proofs.machine.Machine.led.Goals as goal
 

@@ -1,6 +1,6 @@
 use Rattle.std.proofs.Common.{[], take}
 use Rattle.rt_named.specs.Numbers.{IsLeft}
-use Rattle.rt_sketch.specs.Steps.{IsLed, rows_of}
+use Rattle.rt_sketch.specs.Inside.Steps.{IsLed, rows_of}
 use Rattle.rt_sketch.proofs.machine.Machine.led.Given as goal
 
 abbrev pub invariant-loop-number : goal.invariant-loop-number

@@ -1,5 +1,5 @@
 use Rattle.std.proofs.Common.{Some, ap, refl, subst, List, ℕ, Contains}
-use Rattle.rt_sketch.specs.Steps.{AreAll}
+use Rattle.rt_sketch.specs.Inside.Steps.{AreAll}
 use Rattle.rt_sketch.proofs.machine.Machine.state_at.Goals as goal
 
 pub returns : goal.returns

@@ -1,5 +1,5 @@
 use Rattle.std.proofs.Common.{map}
-use Rattle.rt_sketch.specs.Rows.{AreEntered}
+use Rattle.rt_sketch.specs.Inside.Rows.{AreEntered}
 use Rattle.rt_sketch.proofs.rows.Rows.of.Given as goal
 
 abbrev pub invariant-loop-i : goal.invariant-loop-i

@@ -1,8 +1,8 @@
 use Rattle.std.proofs.Common.{◌≡◌, ◌-◌, ◌+◌, ◌<◌, length, sym, ap, subst, ◌∙◌}
 use Rattle.std.proofs.lemmas.Result.{IfOk-weaker}
-use Rattle.rt_table.specs.Parts.{result_of_calls}
+use Rattle.rt_table.specs.Inside.Parts.{result_of_calls}
 use Rattle.rt_table.specs.Table.{at_side, def_written}
-use Rattle.rt_table.specs.Told.{context_of}
+use Rattle.rt_table.specs.Inside.Told.{context_of}
 use Rattle.rt_table.proofs.Tracing.{trace-known, trace-through, outcome}
 use Rattle.rt_table.proofs.context.Context.at_side.Goals as goal
 

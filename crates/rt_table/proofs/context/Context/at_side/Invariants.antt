@@ -1,7 +1,7 @@
 use Rattle.std.proofs.Common.{◌≡◌, ◌-◌, length}
-use Rattle.rt_table.specs.Parts.{result_of_calls}
+use Rattle.rt_table.specs.Inside.Parts.{result_of_calls}
 use Rattle.rt_table.specs.Table.{at_side, def_written}
-use Rattle.rt_table.specs.Told.{context_of}
+use Rattle.rt_table.specs.Inside.Told.{context_of}
 use Rattle.rt_table.proofs.context.Context.at_side.Given as goal
 
 abbrev pub invariant-loop : goal.invariant-loop

@@ -1,5 +1,5 @@
 use Rattle.std.proofs.Common.{◌≡◌, ◌<◌, length, rules, arith}
-use Rattle.rt_table.specs.Told.{context_of, linked_call}
+use Rattle.rt_table.specs.Inside.Told.{context_of, linked_call}
 use Rattle.rt_table.proofs.Rows.{call-step}
 use Rattle.rt_table.proofs.context.Context.calls.Goals as goal
 

@@ -1,6 +1,6 @@
 use Rattle.std.proofs.Common.{◌≡◌, ◌++◌, map, take}
 use Rattle.rt_table.specs.Table.{calls_from}
-use Rattle.rt_table.specs.Told.{context_of, linked_call}
+use Rattle.rt_table.specs.Inside.Told.{context_of, linked_call}
 use Rattle.rt_table.proofs.context.Context.calls.Given as goal
 
 abbrev pub invariant-loop-index : goal.invariant-loop-index

@@ -1,6 +1,6 @@
 use Rattle.std.proofs.Common.{◌++◌, ◌∷◌, [], ◌∙◌, ap, sym}
 use Rattle.rt_table.specs.Table.{filled, instance_rows}
-use Rattle.rt_table.specs.Told.{context_of}
+use Rattle.rt_table.specs.Inside.Told.{context_of}
 use Rattle.rt_table.proofs.Looking.{filled-append}
 use Rattle.rt_table.proofs.context.Context.filled.Goals as goal
 

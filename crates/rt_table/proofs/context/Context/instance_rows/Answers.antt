@@ -5,7 +5,7 @@ use Rattle.std.proofs.lemmas.Option.{slice_get_past, slice_get-get_or}
 use Rattle.std.proofs.lemmas.Result.{on_ok_weaker}
 use Rattle.rt_table.specs.Lists.{linked_by}
 use Rattle.rt_table.specs.Table.{scheme_rows}
-use Rattle.rt_table.specs.Told.{context_of, known_in, program_in}
+use Rattle.rt_table.specs.Inside.Told.{context_of, known_in, program_in}
 use Rattle.rt_table.proofs.Looking.{target-here, target-none}
 use Rattle.rt_table.proofs.context.Context.instance_rows.Goals as goal
 

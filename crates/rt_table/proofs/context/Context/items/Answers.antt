@@ -2,9 +2,9 @@ use Rattle.std.proofs.Common.{◌≡◌, ◌++◌, All, length, get_or, sym, ap,
 use Rattle.std.proofs.lemmas.List.{take_all}
 use Rattle.rt_body.specs.declared.action.Action.TheVariants.{Constant}
 use Rattle.rt_body.specs.Registers.{HasRegisters}
-use Rattle.rt_table.specs.Named.{IsItemWithin}
+use Rattle.rt_table.specs.Inside.Named.{IsItemWithin}
 use Rattle.rt_table.specs.Table.{items_from, site_items}
-use Rattle.rt_table.specs.Told.{context_of}
+use Rattle.rt_table.specs.Inside.Told.{context_of}
 use Rattle.rt_table.proofs.Holding.{given-held}
 use Rattle.rt_table.proofs.Rows.{items_from-more}
 use Rattle.rt_table.proofs.Sound.{items-within}

@@ -1,6 +1,6 @@
 use Rattle.std.proofs.Common.{◌≡◌, ◌++◌, take}
-use Rattle.rt_table.specs.Parts.{passed}
-use Rattle.rt_table.specs.Told.{context_of}
+use Rattle.rt_table.specs.Inside.Parts.{passed}
+use Rattle.rt_table.specs.Inside.Told.{context_of}
 use Rattle.rt_table.proofs.context.Context.passed.Given as goal
 
 abbrev pub invariant-loop-label : goal.invariant-loop-label

@@ -4,7 +4,7 @@ use Rattle.std.proofs.lemmas.Iterator.Consumers.{YieldsList-end}
 use Rattle.std.proofs.lemmas.List.{map-id}
 use Rattle.rt_scheme.specs.Instances.{instance_lines, instance_ports}
 use Rattle.rt_table.specs.Table.{new_row}
-use Rattle.rt_table.specs.Told.{context_of}
+use Rattle.rt_table.specs.Inside.Told.{context_of}
 use Rattle.rt_table.proofs.context.Context.push_instance.Goals as goal
 
 pub returns : goal.returns

@@ -1,6 +1,6 @@
 use Rattle.std.proofs.Common.{◌≡◌, ◌++◌, map}
 use Rattle.rt_table.specs.Table.{new_row}
-use Rattle.rt_table.specs.Told.{context_of}
+use Rattle.rt_table.specs.Inside.Told.{context_of}
 use Rattle.rt_table.proofs.context.Context.push_instance.Given as goal
 
 abbrev pub invariant-loop-line : goal.invariant-loop-line

@@ -1,7 +1,7 @@
 use Rattle.std.proofs.Common.{◌≡◌, ◌++◌, Some, sym, ap, ◌∙◌}
 use Rattle.std.specs.Option.{option_to_list}
-use Rattle.rt_table.specs.Parts.{result_of_calls}
-use Rattle.rt_table.specs.Told.{context_of}
+use Rattle.rt_table.specs.Inside.Parts.{result_of_calls}
+use Rattle.rt_table.specs.Inside.Told.{context_of}
 use Rattle.rt_table.proofs.Tracing.{result_of_calls-more}
 use Rattle.rt_table.proofs.context.Context.result_of_calls.Goals as goal
 

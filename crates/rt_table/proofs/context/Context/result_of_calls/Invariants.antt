@@ -1,6 +1,6 @@
 use Rattle.std.proofs.Common.{◌≡◌, length}
-use Rattle.rt_table.specs.Parts.{result_of_calls}
-use Rattle.rt_table.specs.Told.{context_of}
+use Rattle.rt_table.specs.Inside.Parts.{result_of_calls}
+use Rattle.rt_table.specs.Inside.Told.{context_of}
 use Rattle.rt_table.proofs.context.Context.result_of_calls.Given as goal
 
 abbrev pub invariant-loop-site : goal.invariant-loop-site

@@ -3,7 +3,7 @@ use Rattle.std.proofs.lemmas.Result.{on_ok_weaker}
 use Rattle.rt_lines.specs.declared.label.Label.TheVariants.{Out}
 use Rattle.rt_frame.specs.Questions.{results}
 use Rattle.rt_table.specs.Table.{port, returned}
-use Rattle.rt_table.specs.Told.{context_of}
+use Rattle.rt_table.specs.Inside.Told.{context_of}
 use Rattle.rt_table.proofs.Telling.{calls-told}
 use Rattle.rt_table.proofs.context.Context.result_rows.Goals as goal
 

@@ -3,7 +3,7 @@ use Rattle.std.proofs.lemmas.Int.{to_z-of_z}
 use Rattle.std.proofs.lemmas.Result.{on_ok_weaker}
 use Rattle.rt_frame.specs.Frames.{spot_at}
 use Rattle.rt_table.specs.Table.{spot_flow}
-use Rattle.rt_table.specs.Told.{context_of}
+use Rattle.rt_table.specs.Inside.Told.{context_of}
 use Rattle.rt_table.proofs.Offsets.{stack-offset}
 use Rattle.rt_table.proofs.context.Context.stack_flow.Goals as goal
 

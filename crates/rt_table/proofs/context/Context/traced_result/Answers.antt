@@ -1,7 +1,7 @@
 use Rattle.std.proofs.Common.{◌≡◌, ◌∙◌, Bool, List, ap, false, sym}
 use Rattle.std.specs.Prelude.{slice_index_or}
-use Rattle.rt_table.specs.Parts.{names_result}
-use Rattle.rt_table.specs.Told.{linked_call}
+use Rattle.rt_table.specs.Inside.Parts.{names_result}
+use Rattle.rt_table.specs.Inside.Told.{linked_call}
 use Rattle.rt_table.proofs.Tracing.{named-of}
 use Rattle.rt_table.proofs.context.Context.traced_result.Goals as goal
 

@@ -1,7 +1,7 @@
 use Rattle.std.proofs.Common.{◌++◌, ap, ◌∙◌, of_z, to_z, flat_map, w32}
 use Rattle.std.proofs.lemmas.Int.{to_z-of_z}
 use Rattle.rt_table.specs.Table.{word_defs, word_flow}
-use Rattle.rt_table.specs.Told.{context_of}
+use Rattle.rt_table.specs.Inside.Told.{context_of}
 use Rattle.rt_table.proofs.Loading.{word_flows-end}
 use Rattle.rt_table.proofs.context.Context.word_flows.Goals as goal
 

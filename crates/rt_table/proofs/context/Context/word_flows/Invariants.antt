@@ -1,6 +1,6 @@
 use Rattle.std.proofs.Common.{◌≡◌, ◌++◌, flat_map, take}
 use Rattle.rt_table.specs.Table.{word_flow}
-use Rattle.rt_table.specs.Told.{context_of}
+use Rattle.rt_table.specs.Inside.Told.{context_of}
 use Rattle.rt_table.proofs.context.Context.word_flows.Given as goal
 
 abbrev pub invariant-loop-def : goal.invariant-loop-def

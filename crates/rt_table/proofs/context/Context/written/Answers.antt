@@ -4,7 +4,7 @@ use Rattle.rt_body.specs.Registers.{HasRegisters}
 use Rattle.rt_body.specs.Told.{sites_in}
 use Rattle.rt_rows.specs.declared.name.Name.{Name}
 use Rattle.rt_table.specs.Table.{told}
-use Rattle.rt_table.specs.Told.{context_of}
+use Rattle.rt_table.specs.Inside.Told.{context_of}
 use Rattle.rt_table.proofs.Holding.{given-held}
 use Rattle.rt_table.proofs.Sound.{merge-within}
 use Rattle.rt_table.proofs.Writing.{closed_in-within, item-within, leads-done, leads-end, leads-opened, leads-same, leads-start, steps-done, steps-opened}

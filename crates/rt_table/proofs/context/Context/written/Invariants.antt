@@ -1,6 +1,6 @@
 use Rattle.std.proofs.Common.{◌≡◌, ◌+◌, length}
 use Rattle.rt_body.specs.Told.{sites_in}
-use Rattle.rt_table.specs.Told.{context_of}
+use Rattle.rt_table.specs.Inside.Told.{context_of}
 use Rattle.rt_table.proofs.Writing.{Leads}
 use Rattle.rt_table.proofs.context.Context.written.Given as goal
 

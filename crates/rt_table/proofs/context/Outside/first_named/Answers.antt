@@ -1,6 +1,6 @@
 use Rattle.std.proofs.Common.{◌≡◌, ◌∷◌, ◌∙◌, [], Bool, ap, sym}
-use Rattle.rt_table.specs.Parts.{names_result}
-use Rattle.rt_table.specs.Told.{linked_call}
+use Rattle.rt_table.specs.Inside.Parts.{names_result}
+use Rattle.rt_table.specs.Inside.Told.{linked_call}
 use Rattle.rt_table.proofs.Tracing.{named-first}
 use Rattle.rt_table.proofs.context.Outside.first_named.Goals as goal
 

@@ -1,7 +1,7 @@
 use Rattle.std.proofs.Common.{◌≡◌, ◌∷◌, ◌++◌, ◌∙◌, [], List, Bool, ap, map, sym}
 use Rattle.rt_liveness.specs.declared.call.Call.{Call}
-use Rattle.rt_table.specs.Parts.{named_results}
-use Rattle.rt_table.specs.Told.{linked_call}
+use Rattle.rt_table.specs.Inside.Parts.{named_results}
+use Rattle.rt_table.specs.Inside.Told.{linked_call}
 use Rattle.rt_table.proofs.Tracing.{named-more}
 use Rattle.rt_table.proofs.context.Outside.named_results.Goals as goal
 

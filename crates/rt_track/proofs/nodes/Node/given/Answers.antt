@@ -1,5 +1,5 @@
 use Rattle.std.proofs.Common.{subst, sym}
-use Rattle.rt_track.specs.Nodes.{IsGiven, IsJoined, state_of}
+use Rattle.rt_track.specs.Inside.Nodes.{IsGiven, IsJoined, state_of}
 use Rattle.rt_track.proofs.Solving.{join_given}
 use Rattle.rt_track.proofs.nodes.Node.given.Goals as goal
 

@@ -1,6 +1,6 @@
 use Rattle.std.proofs.Common.{◌≡◌, ◌<◌, List, ℕ, [], length, get_or, sym, subst, ap, ◌∙◌}
 use Rattle.std.proofs.lemmas.List.{get_or_read}
-use Rattle.rt_tree.specs.Splits.{AreLed, led_to, living_in}
+use Rattle.rt_tree.specs.Inside.Splits.{AreLed, led_to, living_in}
 use Rattle.rt_tree.proofs.Moving.{living_all, living_blocks, living_led, row_all}
 use Rattle.rt_tree.proofs.blocks.Blocks.led.Goals as goal
 

@@ -1,5 +1,5 @@
 use Rattle.std.proofs.Common.{◌≡◌, take}
-use Rattle.rt_tree.specs.Splits.{living_in}
+use Rattle.rt_tree.specs.Inside.Splits.{living_in}
 use Rattle.rt_tree.proofs.blocks.Blocks.living.Given as goal
 
 abbrev pub invariant-loop-item : goal.invariant-loop-item

@@ -2,7 +2,7 @@ use Rattle.std.proofs.Common.{◌≡◌, ◌<◌, ◌≤◌, ◌++◌, ◌∷◌
 use Rattle.std.specs.Prelude.{slice_index}
 use Rattle.std.proofs.lemmas.List.{take_all, take_more}
 use Rattle.rt_base.proofs.Lists.{Contains-at}
-use Rattle.rt_tree.specs.Splits.{AreBlocks, IsSplit, IsSplitTo}
+use Rattle.rt_tree.specs.Inside.Splits.{AreBlocks, IsSplit, IsSplitTo}
 use Rattle.rt_tree.proofs.Moving.{class_within, split_none, split_step}
 use Rattle.rt_tree.proofs.blocks.Blocks.split.Goals as goal
 

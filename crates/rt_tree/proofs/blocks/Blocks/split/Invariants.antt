@@ -1,5 +1,5 @@
 use Rattle.std.proofs.Common.{◌≤◌, take, length}
-use Rattle.rt_tree.specs.Splits.{AreBlocks, IsSplitTo}
+use Rattle.rt_tree.specs.Inside.Splits.{AreBlocks, IsSplitTo}
 use Rattle.rt_tree.proofs.blocks.Blocks.split.Given as goal
 
 abbrev pub invariant-loop-item : goal.invariant-loop-item

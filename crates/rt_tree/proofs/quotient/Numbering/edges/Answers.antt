@@ -5,7 +5,7 @@ use Rattle.rt_lines.specs.declared.label.Label.{Label}
 use Rattle.rt_lines.specs.declared.label.Label.TheVariants.{In}
 use Rattle.rt_tree.specs.Trees.{IsEdge, Stand}
 use Rattle.rt_tree.specs.Pairs.{ArePaired}
-use Rattle.rt_tree.specs.Quotients.{IsEndOf}
+use Rattle.rt_tree.specs.Inside.Quotients.{IsEndOf}
 use Rattle.rt_tree.proofs.Edges.{each_at}
 use Rattle.rt_tree.proofs.Numbers.{extends_more, image_more, stand_more, number_stands}
 use Rattle.rt_tree.proofs.quotient.Numbering.edges.Goals as goal

@@ -1,7 +1,7 @@
 use Rattle.std.proofs.Common.{◌≡◌, length, map, take}
 use Rattle.rt_tree.specs.Trees.{Stand}
 use Rattle.rt_tree.specs.Pairs.{ArePaired}
-use Rattle.rt_tree.specs.Quotients.{AreNumbers, Extends, IsEndOf}
+use Rattle.rt_tree.specs.Inside.Quotients.{AreNumbers, Extends, IsEndOf}
 use Rattle.rt_tree.proofs.quotient.Numbering.edges.Given as goal
 
 abbrev pub invariant-loop-label : goal.invariant-loop-label

@@ -1,5 +1,5 @@
 use Rattle.std.proofs.Common.{sym, subst}
-use Rattle.rt_tree.specs.Quotients.{AreNumbers}
+use Rattle.rt_tree.specs.Inside.Quotients.{AreNumbers}
 use Rattle.rt_tree.proofs.Numbers.{no_numbers}
 use Rattle.rt_tree.proofs.quotient.Numbering.new.Goals as goal
 

@@ -1,6 +1,6 @@
 use Rattle.std.proofs.Common.{◌≡◌, ◌++◌, ◌∷◌, [], ℕ, List, Some, None, length, set, get_or, sym, subst, ◌∙◌, rules}
 use Rattle.std.proofs.lemmas.List.{get_or_read}
-use Rattle.rt_tree.specs.Quotients.{AreNumbers}
+use Rattle.rt_tree.specs.Inside.Quotients.{AreNumbers}
 use Rattle.rt_tree.proofs.Numbers.{known_number, more_numbers}
 use Rattle.rt_tree.proofs.quotient.Numbering.number_of.Goals as goal
 

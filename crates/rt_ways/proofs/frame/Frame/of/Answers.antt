@@ -1,5 +1,5 @@
 use Rattle.std.proofs.Common.{◌∙◌, ℕ, List, ap, length, subst, sym}
-use Rattle.rt_ways.specs.Frames.{AreBehind}
+use Rattle.rt_ways.specs.Inside.Frames.{AreBehind}
 use Rattle.rt_ways.specs.Pushes.{AreDistinct}
 use Rattle.rt_ways.proofs.Knowing.{distinct_named, nodes_there}
 use Rattle.rt_ways.proofs.frame.Frame.of.Goals as goal

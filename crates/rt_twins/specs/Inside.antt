@@ -1,0 +1,4 @@
+-- Parts of the way: what loops and functions inside the crate say, and no public contract.
+pub mod Parts
+pub mod Splits
+pub mod Leading
