@@ -1,6 +1,6 @@
 -- Lines dropped one after another, from the end.
 use Rattle.std.proofs.Common.{◌≡◌, ℕ, suc, ◌+◌, ◌<◌, ◌≤◌, ◌⊎◌, inl, inr, List, [], ◌∷◌, ◌++◌, take, drop, get_or, length, All, Contains}
-use Rattle.std.proofs.Common.{sym, ap, subst, ◌∙◌, append_assoc, drop-cons, length-append, arith}
+use Rattle.std.proofs.Common.{sym, ap, subst, ◌∙◌, append_assoc, drop-cons, arith}
 use Rattle.std.specs.List.{remove}
 use Rattle.std.proofs.lemmas.List.Elements.{All-contains}
 use Rattle.rt_base.proofs.Lists.{All-from_contains}
@@ -95,11 +95,7 @@ pub AreLeft-next : (order : Below) (lines left now : List Line) (place next : �
 AreLeft-next order lines left now place next e are decides =
     AreLeft-step order lines left now next (subst (λ k. AreLeft order lines k left) e are) decides
 
--- the lines before the place are left
-pub AreLeft-long : (order : Below) (lines left : List Line) (place : ℕ) → AreLeft order lines place left → place ≤ length left
-AreLeft-long order lines left place are =
-    omega (arith, are.within, ap length are.stand, length-append (take place lines) are.kept, length-take-le place lines are.within)
-
+-- the place stays among what is left
 pub left_long : (left now : List Line) (place : ℕ) → place < length left → IsKeptOrGone left place now → place ≤ length now
 left_long left now place h (inl e) = let f : length now ≡ length left = ap length e in omega (arith, f, h)
 left_long left now place h (inr e) =
@@ -110,11 +106,7 @@ pub left_below : (P : Line → Type 0) (left now : List Line) (place : ℕ) → 
 left_below P left now place h (inl e) = subst (All P) (sym e) h
 left_below P left now place h (inr e) = subst (All P) (sym e) (All-removed P left place h)
 
--- what is said of each line is said of those that are left
-pub stood_below : (P : Line → Type 0) (lines left : List Line) → ((l : Line) → Contains left l → Contains lines l) → All P lines →
-    All P left
-stood_below P lines left stood h = All-from_contains P left (λ l c. All-contains P lines l h (stood l c))
-
+-- what is left stood there before
 pub left_stood : (left now : List Line) (place : ℕ) → IsKeptOrGone left place now → (l : Line) → Contains now l → Contains left l
 left_stood left now place h l c =
     All-contains (Contains left) now l (left_below (Contains left) left now place (All-from_contains (Contains left) left (λ m d. d)) h) c

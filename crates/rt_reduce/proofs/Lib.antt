@@ -21,4 +21,6 @@ pub mod Unbounded
 pub mod Made
 pub mod Told
 pub mod Fated
+pub mod Cleared
 pub mod Exact
+pub mod Settled

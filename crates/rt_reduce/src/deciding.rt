@@ -11,9 +11,7 @@ ghost use Rattle.rt_witness.specs.Witnesses.{IsLeft, IsWitnesses};
 ghost use Rattle.rt_reduce.specs.Inside.Deciding.{IsAskable, IsInnerFor, IsUpperWith, IsWaysFor, Tells};
 
 use crate::derivable::derives_line;
-use crate::dropping::is_flow;
 use crate::early::{decided, is_told};
-use crate::effort::Effort;
 use crate::merging::push_sides;
 use crate::opened::seen;
 use rt_base::Memory;
@@ -25,8 +23,9 @@ use std::alloc::Global;
 use std::slice;
 
 // Whether the line is derivable from the lines left, where arcs from outside and which lines name which variables leave it
-// open: if it is a bound, by ways that were made before, else by arcs from inside that were made before, else by what is left.
-pub fn is_derivable_open(
+// open: if it is a bound, by ways or arcs from inside that were made before, else by what is left. Where there are ways, many
+// lines were left open, and arcs from outside of what is left seldom say more.
+pub(crate) fn is_derivable_open(
     alloc: Global,
     inner: Option<&Lower>,
     ways: Option<&Ways>,
@@ -35,7 +34,6 @@ pub fn is_derivable_open(
     left: &[Line],
     order: &Order,
     line: &Line,
-    effort: &mut Effort,
 ) -> Result<bool, Memory>
     requires inner { IfSome inner (λ t. IsInnerFor order.now (line.now ∷ left.now) t.now) }
     requires ways { IfSome ways (λ t. IsWaysFor order.now (line.now ∷ left.now) t.now) }
@@ -50,36 +48,18 @@ pub fn is_derivable_open(
     if is_told(alloc, inner, witnesses, stands, left, order, line)? {
         return Ok(true);
     }
-    derives_open(alloc, left, order, line, effort)
-}
-
-// Whether the line is derivable from the lines left, where arcs from outside of more lines leave it open.
-fn derives_open(
-    alloc: Global,
-    left: &[Line],
-    order: &Order,
-    line: &Line,
-    effort: &mut Effort,
-) -> Result<bool, Memory>
-    requires constants { All (HasConstantsBelow order.now.count) left.now }
-    requires constant { HasConstantsBelow order.now.count line.now }
-    ensures { IfOk result (λ yes. IsTrue yes ↔ Derivable order.now left.now line.now) }
-{
     if let Some(yes) = seen(alloc, left, order, line)? {
         return Ok(yes);
     }
-    derives_unseen(alloc, left, order, line, effort)
+    if ways.is_some() {
+        return derives_line(alloc, left, order, line);
+    }
+    derives_unseen(alloc, left, order, line)
 }
 
 // Whether the line is derivable from the lines left: by arcs from outside of these alone, where they say, else by a
 // saturation.
-fn derives_unseen(
-    alloc: Global,
-    left: &[Line],
-    order: &Order,
-    line: &Line,
-    effort: &mut Effort,
-) -> Result<bool, Memory>
+fn derives_unseen(alloc: Global, left: &[Line], order: &Order, line: &Line) -> Result<bool, Memory>
     requires constants { All (HasConstantsBelow order.now.count) left.now }
     requires constant { HasConstantsBelow order.now.count line.now }
     ensures { IfOk result (λ yes. IsTrue yes ↔ Derivable order.now left.now line.now) }
@@ -87,26 +67,8 @@ fn derives_unseen(
     match told_anew(alloc, left, order, line)? {
         Led::No => Ok(false),
         Led::Yes => Ok(true),
-        Led::Open => saturates(alloc, left, order, line, effort),
+        Led::Open => derives_line(alloc, left, order, line),
     }
-}
-
-// Whether the line is derivable from the lines left, by a saturation.
-fn saturates(
-    alloc: Global,
-    left: &[Line],
-    order: &Order,
-    line: &Line,
-    effort: &mut Effort,
-) -> Result<bool, Memory>
-    requires constants { All (HasConstantsBelow order.now.count) left.now }
-    requires constant { HasConstantsBelow order.now.count line.now }
-    ensures { IfOk result (λ yes. IsTrue yes ↔ Derivable order.now left.now line.now) }
-{
-    if is_flow(line) {
-        effort.add_saturation(left.len());
-    }
-    derives_line(alloc, left, order, line)
 }
 
 // What arcs from outside of the lines left alone say of a `<=` line or a bound.
@@ -147,7 +109,7 @@ fn upper_with(alloc: Global, lines: &[Line], line: &Line) -> Result<Upper, Memor
 
 // Whether the line is derivable from the lines that stand, as far as their sides and arcs from outside say. It needs no list of
 // these lines.
-pub fn told(
+pub(crate) fn told(
     alloc: Global,
     outer: Option<&Upper>,
     witnesses: &Witnesses,
@@ -202,7 +164,7 @@ pub(crate) fn told_named(witnesses: &Witnesses, stands: &[bool], x: &Dtv) -> Led
 }
 
 // Whether the line is derivable from the lines that stand, as far as arcs from outside say.
-fn told_by(
+pub(crate) fn told_by(
     alloc: Global,
     outer: &Upper,
     stands: &[bool],

@@ -1,6 +1,6 @@
 // Lines that others derive, dropped from the end.
-ghost use Rattle.std.specs.Prelude.{◌≡◌, ◌+◌, ◌-◌, ◌<◌, ◌≤◌, ◌↔◌, ◌++◌, [], List, All, Contains, IsTrue, true, false, OnOk, IfOk, IfSome};
-ghost use Rattle.std.specs.Prelude.{MatchBool, length, replicate, slice_index_or, take};
+ghost use Rattle.std.specs.Prelude.{◌≡◌, ◌+◌, ◌<◌, ◌≤◌, ◌↔◌, [], List, All, Contains, IsTrue, true, false, OnOk, IfOk, IfSome};
+ghost use Rattle.std.specs.Prelude.{MatchBool, length, replicate, slice_index_or};
 ghost use Rattle.std.specs.List.{remove_range};
 ghost use Rattle.rt_lines.specs.declared.line.Line.{Line as Given};
 ghost use Rattle.rt_lines.specs.Lines.{HasConstantsBelow};
@@ -8,14 +8,13 @@ ghost use Rattle.rt_reduction.specs.Drops.{Drops};
 ghost use Rattle.rt_reduction.specs.Emits.{is_flow as is_flow_line};
 ghost use Rattle.rt_witness.specs.Witnesses.{IsWitnesses};
 ghost use Rattle.rt_reduce.specs.Inside.Deciding.{AreStanding, AreWitnessed, IsInnerFor, IsLowerWith, IsOwnOuter, IsWaysFor};
-ghost use Rattle.rt_named.specs.Naming.{named as named_by};
 ghost use Rattle.rt_sure.specs.Fates.{fate_at};
 ghost use Rattle.rt_sure.specs.declared.fate.Fate.TheVariants.{Stays as Staying};
-ghost use Rattle.rt_reduce.specs.Inside.Dropping.{AreFated, AreLeft, AreTold, Decides, IsFatedAt, IsKeptOrGone, IsMoved, IsSpared, IsToldAt};
+ghost use Rattle.rt_reduce.specs.Inside.Dropping.{AreFated, AreTold, Decides, IsFatedAt, IsKeptOrGone, IsMoved, IsSpared, IsToldAt};
 
 use crate::copying::copies;
 use crate::deciding::{is_derivable_open, is_spare, told};
-use crate::effort::Effort;
+use crate::staying::{staying, staying_beside};
 use rt_base::{Memory, Sequence};
 use rt_lines::{Line, Lines, Order};
 use rt_outline::{Led, Lower, Upper};
@@ -23,193 +22,199 @@ use rt_sure::{Fate, Ways};
 use rt_witness::Witnesses;
 use std::alloc::Global;
 
+// From so many `<=` lines on of which nothing is known it pays to saturate all lines once.
+const MANY: usize = 12;
+
 /// What stays of the lines when, from the last to the first, each line goes that the lines before it and those that stayed
 /// behind it derive with the order of constants. One of which `rt_earlier` says that the lines before it derive it goes at
-/// once. Another one that arcs from outside don't give isn't derivable; else arcs from inside of all lines say, which are made
-/// once, or arcs from inside and from outside of what is left, or it is saturated. Once questions have cost much, be it about
-/// these lines or before them, the lines that are left take the place of all: arcs from outside are made of them, and ways,
-/// which decide each bound, and `rt_sure` says beforehand what becomes of lines. The error is out of memory.
-pub fn drop_derivable(
-    alloc: Global,
-    lines: &[Line],
-    order: &Order,
-    effort: &mut Effort,
-) -> Result<Lines, Memory>
+/// once. Arcs from outside of all lines say beforehand which of them stay, however many of the others go, and `rt_sure` which
+/// others go. Where many `<=` lines are left of which nothing is known, ways of all lines, which are saturated once, say which
+/// of them stay, and decide bounds. Of the rest arcs from outside and from inside say, or what is left is saturated. The error
+/// is out of memory.
+pub fn drop_derivable(alloc: Global, lines: &[Line], order: &Order) -> Result<Lines, Memory>
     requires { All (HasConstantsBelow order.now.count) lines.now }
     ensures drops { IfOk result (λ left. Drops order.now [] lines.now left) }
     ensures stood { IfOk result (λ left. (l : Given) → Contains left l → Contains lines.now l) }
 {
     let told = rt_earlier::told(alloc, lines)?;
-    let rest = drop_first(alloc, lines, &told, order, effort)?;
-    let left = drop_rest(alloc, rest, &told, order, effort)?;
+    let outer = outer_of(alloc, lines)?;
+    let fates = fates_of(alloc, outer.as_ref(), lines, order)?;
+    let ways = ways_beside(alloc, lines, &fates)?;
+    let left = drop_by(
+        alloc,
+        lines,
+        outer.as_ref(),
+        ways.as_ref(),
+        &told,
+        fates,
+        order,
+    )?;
     Ok(Sequence::from_vec(left))
 }
 
-// Lines of which some went, from the end.
-#[derive(Drop)]
-struct Rest {
-    // Those that are left.
-    left: Vec<Line>,
-    // How many of them weren't asked about yet: the first ones, from which none went.
-    place: usize,
-}
-
-// What is left when lines go from the end, up to the first question about a `<=` line or a bound that would come when questions
-// have cost much, which they may have before. Which lines follow from those before them is given.
-fn drop_first(
-    alloc: Global,
-    lines: &[Line],
-    told: &[bool],
-    order: &Order,
-    effort: &mut Effort,
-) -> Result<Rest, Memory>
-    requires each { length lines.now ≤ length told.now }
-    requires told { AreTold lines.now told.now }
-    requires constants { All (HasConstantsBelow order.now.count) lines.now }
-    ensures left { IfOk result (λ rest. (all : List Given) → AreLeft order.now all (length lines.now) lines.now →
-        AreLeft order.now all rest.place rest.left.items) }
-    ensures stood { IfOk result (λ rest. (l : Given) → Contains rest.left.items l → Contains lines.now l) }
-{
-    if !effort.is_large() {
-        return drop_by(alloc, lines, lines.len(), None, told, &[], order, effort);
-    }
-    let witnesses = Witnesses::of(alloc, lines)?;
-    drop_from(
-        alloc,
-        lines,
-        lines.len(),
-        None,
-        None,
-        None,
-        told,
-        &[],
-        &witnesses,
-        order,
-        effort,
-    )
-}
-
-// What stays when the lines that weren't asked about yet are asked about, too. Which of them follow from those before them is
-// given, and what becomes of them in any case is found out first.
-fn drop_rest(
-    alloc: Global,
-    rest: Rest,
-    told: &[bool],
-    order: &Order,
-    effort: &mut Effort,
-) -> Result<Vec<Line>, Memory>
-    requires within { rest.place ≤ length rest.left.items }
-    requires each { rest.place ≤ length told.now }
-    requires told { AreTold rest.left.items (take rest.place told.now) }
-    requires constants { All (HasConstantsBelow order.now.count) rest.left.items }
-    ensures drops { IfOk result (λ left. (all : List Given) → AreLeft order.now all rest.place rest.left.items →
-        Drops order.now [] all left.items) }
-    ensures stood { IfOk result (λ left. (l : Given) → Contains left.items l → Contains rest.left.items l) }
-{
-    let Rest { left, place } = rest;
-    if place == 0 {
-        return Ok(left);
-    }
-    let ways = ways_of(alloc, &left)?;
-    let fates = fates_before(alloc, &ways, place, order)?;
-    let rest = drop_by(
-        alloc,
-        &left,
-        place,
-        Some(&ways),
-        &told[..place],
-        &fates,
-        order,
-        effort,
-    )?;
-    Ok(rest.left)
-}
-
-// The ways between the variables that the lines name.
-fn ways_of(alloc: Global, lines: &[Line]) -> Result<Ways, Memory>
-    ensures { IfOk result (IsOwnOuter lines.now) }
-{
-    let copies = copies(alloc, lines)?;
-    let ways = Ways::of(alloc, copies, &[])?;
-    Ok(ways)
-}
-
-// What becomes of the lines of the ways before the place in any case, where all from it on are kept.
-fn fates_before(
-    alloc: Global,
-    ways: &Ways,
-    place: usize,
-    order: &Order,
-) -> Result<Vec<Fate>, Memory>
-    requires own { ways.now.named ≡ named_by ways.now.lines [] }
-    requires within { place ≤ length ways.now.lines }
-    requires constants { All (HasConstantsBelow order.now.count) ways.now.lines }
-    ensures each { IfOk result (λ fates. length fates.items ≡ place) }
-    ensures fated { IfOk result (λ fates.
-        AreFated order.now ways.now.lines (replicate (length ways.now.lines) true) place fates.items) }
-{
-    let kept = kept_from(alloc, place, ways.lines().len())?;
-    let fates = rt_sure::fates(alloc, ways, &kept, place, order)?;
-    Ok(fates)
-}
-
-// So many flags, those from the place on set.
-fn kept_from(alloc: Global, place: usize, count: usize) -> Result<Vec<bool>, Memory>
-    requires { place ≤ count }
-    ensures { IfOk result (λ kept. kept.items ≡ replicate place false ++ replicate (count - place) true) }
-{
-    let mut kept = vec![in alloc; false; place]?;
-    kept.resize(count, true)?;
-    Ok(kept)
-}
-
-// What is left when lines go from the first ones, so many as the number says, the last of these first. Which of them follow from
-// those before them is given, and what becomes of them, as far as it is known, and maybe ways of all lines. Where nothing is known
-// of what becomes of them, lines go only until questions have cost much.
+// What is left when lines go, where arcs from outside of all lines and ways of them may be given, and which of them follow from
+// those before them is, and what is known without the ways of what becomes of them.
 fn drop_by(
     alloc: Global,
     lines: &[Line],
-    from: usize,
+    outer: Option<&Upper>,
+    ways: Option<&Ways>,
+    told: &[bool],
+    fates: Vec<Fate>,
+    order: &Order,
+) -> Result<Vec<Line>, Memory>
+    requires outer { IfSome outer (λ t. IsOwnOuter lines.now t.now) }
+    requires ways { IfSome ways (λ t. IsOwnOuter lines.now t.now) }
+    requires each { length lines.now ≤ length told.now }
+    requires told { AreTold lines.now told.now }
+    requires long { length fates.items ≡ length lines.now }
+    requires fated { AreFated order.now lines.now (replicate (length lines.now) true) fates.items }
+    requires constants { All (HasConstantsBelow order.now.count) lines.now }
+    ensures drops { IfOk result (λ left. Drops order.now [] lines.now left.items) }
+    ensures stood { IfOk result (λ left. (l : Given) → Contains left.items l → Contains lines.now l) }
+{
+    let now = settled(alloc, ways, lines, fates, order)?;
+    let inner = inner_beside(alloc, lines, ways, &now)?;
+    let left = drop_on(alloc, lines, outer, inner.as_ref(), ways, told, &now, order)?;
+    Ok(left)
+}
+
+// What becomes of the lines in any case, of which there may be arcs from outside.
+fn fates_of(
+    alloc: Global,
+    outer: Option<&Upper>,
+    lines: &[Line],
+    order: &Order,
+) -> Result<Vec<Fate>, Memory>
+    requires outer { IfSome outer (λ t. IsOwnOuter lines.now t.now) }
+    requires constants { All (HasConstantsBelow order.now.count) lines.now }
+    ensures each { IfOk result (λ fates. length fates.items ≡ length lines.now) }
+    ensures fated { IfOk result (λ fates. AreFated order.now lines.now (replicate (length lines.now) true) fates.items) }
+{
+    let stays = staying(alloc, outer, lines, order)?;
+    let fates = rt_sure::fates(alloc, lines, &stays)?;
+    Ok(fates)
+}
+
+// The ways between the variables that the lines name, if there are many `<=` lines of which nothing is known.
+fn ways_beside(alloc: Global, lines: &[Line], fates: &[Fate]) -> Result<Option<Ways>, Memory>
+    ensures { IfOk result (λ ways. IfSome ways (λ t. IsOwnOuter lines.now t)) }
+{
+    if open_count(lines, fates) < MANY {
+        return Ok(None);
+    }
+    let copies = copies(alloc, lines)?;
+    let ways = Ways::of(alloc, copies, &[])?;
+    Ok(Some(ways))
+}
+
+// How many `<=` lines there are of which nothing is known.
+fn open_count(lines: &[Line], fates: &[Fate]) -> usize {
+    let mut count: usize = 0;
+    for i in 0..lines.len() {
+        if is_below(&lines[i]) && fate_of(fates, i) == Fate::Open {
+            count = count.saturating_add(1);
+        }
+    }
+    count
+}
+
+// Whether the line is a `<=` line.
+fn is_below(line: &Line) -> bool {
+    match line {
+        Line::Sub(_, _) => true,
+        Line::Var(_) | Line::Same(_, _) | Line::Low(_, _) | Line::Up(_, _) => false,
+    }
+}
+
+// What becomes of the lines, where ways of them may say more.
+fn settled(
+    alloc: Global,
+    ways: Option<&Ways>,
+    lines: &[Line],
+    fates: Vec<Fate>,
+    order: &Order,
+) -> Result<Vec<Fate>, Memory>
+    requires ways { IfSome ways (λ t. IsOwnOuter lines.now t.now) }
+    requires each { length fates.items ≡ length lines.now }
+    requires fated { AreFated order.now lines.now (replicate (length lines.now) true) fates.items }
+    ensures { IfOk result (λ now. AreFated order.now lines.now (replicate (length lines.now) true) now.items) }
+{
+    let Some(ways) = ways else {
+        return Ok(fates);
+    };
+    let now = staying_beside(alloc, ways, lines, &fates, order)?;
+    Ok(now)
+}
+
+// Arcs from inside of the lines, if there is a bound among them of which nothing is known and no ways decide bounds.
+fn inner_beside(
+    alloc: Global,
+    lines: &[Line],
+    ways: Option<&Ways>,
+    fates: &[Fate],
+) -> Result<Option<Lower>, Memory>
+    ensures { IfOk result (λ inner. IfSome inner (λ t. IsLowerWith lines.now [] t)) }
+{
+    if ways.is_some() || !has_open_bound(lines, fates) {
+        return Ok(None);
+    }
+    let inner = Lower::of(alloc, lines, &[])?;
+    Ok(Some(inner))
+}
+
+// Whether there is a bound among the lines of which nothing is known.
+fn has_open_bound(lines: &[Line], fates: &[Fate]) -> bool {
+    for i in 0..lines.len() {
+        if is_bound(&lines[i]) && fate_of(fates, i) == Fate::Open {
+            return true;
+        }
+    }
+    false
+}
+
+// Whether the line is a bound.
+fn is_bound(line: &Line) -> bool {
+    match line {
+        Line::Var(_) | Line::Same(_, _) | Line::Sub(_, _) => false,
+        Line::Low(_, _) | Line::Up(_, _) => true,
+    }
+}
+
+// The same, where which lines name which variables isn't given.
+fn drop_on(
+    alloc: Global,
+    lines: &[Line],
+    outer: Option<&Upper>,
+    inner: Option<&Lower>,
     ways: Option<&Ways>,
     told: &[bool],
     fates: &[Fate],
     order: &Order,
-    effort: &mut Effort,
-) -> Result<Rest, Memory>
-    requires within { from ≤ length lines.now }
+) -> Result<Vec<Line>, Memory>
+    requires outer { IfSome outer (λ t. IsOwnOuter lines.now t.now) }
+    requires inner { IfSome inner (λ t. IsLowerWith lines.now [] t.now) }
     requires ways { IfSome ways (λ t. IsOwnOuter lines.now t.now) }
-    requires each { from ≤ length told.now }
+    requires each { length lines.now ≤ length told.now }
     requires told { AreTold lines.now told.now }
-    requires fated { AreFated order.now lines.now (replicate (length lines.now) true) from fates.now }
+    requires fated { AreFated order.now lines.now (replicate (length lines.now) true) fates.now }
     requires constants { All (HasConstantsBelow order.now.count) lines.now }
-    ensures left { IfOk result (λ rest. (all : List Given) → AreLeft order.now all from lines.now →
-        AreLeft order.now all rest.place rest.left.items) }
-    ensures whole { IfOk result (λ rest. 0 < length fates.now → rest.place ≡ 0) }
-    ensures stood { IfOk result (λ rest. (l : Given) → Contains rest.left.items l → Contains lines.now l) }
+    ensures drops { IfOk result (λ left. Drops order.now [] lines.now left.items) }
+    ensures stood { IfOk result (λ left. (l : Given) → Contains left.items l → Contains lines.now l) }
 {
-    let outer = outer_of(alloc, lines)?;
-    let inner = inner_beside(alloc, lines, ways)?;
     let witnesses = Witnesses::of(alloc, lines)?;
-    drop_from(
-        alloc,
-        lines,
-        from,
-        outer.as_ref(),
-        inner.as_ref(),
-        ways,
-        told,
-        fates,
-        &witnesses,
-        order,
-        effort,
-    )
+    let left = drop_from(
+        alloc, lines, outer, inner, ways, told, fates, &witnesses, order,
+    )?;
+    Ok(left)
 }
 
-// The same, where arcs of the lines, and which of them name which variables, are given, too.
+// What is left when lines go, the last of them first. Which of them follow from those before them is given, and what becomes of
+// them, as far as it is known, and maybe arcs of all lines from outside and from inside and their ways, and which lines name
+// which variables.
 fn drop_from(
     alloc: Global,
     lines: &[Line],
-    from: usize,
     outer: Option<&Upper>,
     inner: Option<&Lower>,
     ways: Option<&Ways>,
@@ -217,28 +222,24 @@ fn drop_from(
     fates: &[Fate],
     witnesses: &Witnesses,
     order: &Order,
-    effort: &mut Effort,
-) -> Result<Rest, Memory>
-    requires within { from ≤ length lines.now }
+) -> Result<Vec<Line>, Memory>
     requires outer { IfSome outer (λ t. IsOwnOuter lines.now t.now) }
     requires inner { IfSome inner (λ t. IsLowerWith lines.now [] t.now) }
     requires ways { IfSome ways (λ t. IsOwnOuter lines.now t.now) }
-    requires each { from ≤ length told.now }
+    requires each { length lines.now ≤ length told.now }
     requires told { AreTold lines.now told.now }
-    requires fated { AreFated order.now lines.now (replicate (length lines.now) true) from fates.now }
+    requires fated { AreFated order.now lines.now (replicate (length lines.now) true) fates.now }
     requires witnesses { IsWitnesses lines.now witnesses.now }
     requires constants { All (HasConstantsBelow order.now.count) lines.now }
-    ensures left { IfOk result (λ rest. (all : List Given) → AreLeft order.now all from lines.now →
-        AreLeft order.now all rest.place rest.left.items) }
-    ensures whole { IfOk result (λ rest. 0 < length fates.now → rest.place ≡ 0) }
-    ensures stood { IfOk result (λ rest. (l : Given) → Contains rest.left.items l → Contains lines.now l) }
+    ensures drops { IfOk result (λ left. Drops order.now [] lines.now left.items) }
+    ensures stood { IfOk result (λ left. (l : Given) → Contains left.items l → Contains lines.now l) }
 {
     let mut stands = vec![in alloc; true; lines.len()]?;
     let mut left = copies(alloc, lines)?;
-    let mut place = from;
+    let mut place = lines.len();
     // The lines from the place to this one went, and weren't taken out yet.
     let mut next = place;
-    while goes_on(place, lines, fates, effort) {
+    while place > 0 {
         place -= 1;
         next = drop_before(
             alloc,
@@ -253,20 +254,10 @@ fn drop_from(
             order,
             place,
             next,
-            effort,
         )?;
     }
     take_out(&mut left, place, next);
-    Ok(Rest { left, place })
-}
-
-// Whether there is a line before the place, and it is next: where nothing is known of what becomes of lines, a `<=` line or a
-// bound isn't any more when questions have cost much.
-fn goes_on(place: usize, lines: &[Line], fates: &[Fate], effort: &Effort) -> bool
-    requires { place ≤ length lines.now }
-    ensures { MatchBool result (0 < place) (0 < length fates.now → place ≡ 0) }
-{
-    place > 0 && (!fates.is_empty() || !effort.is_large() || !is_flow(&lines[place - 1]))
+    Ok(left)
 }
 
 // What becomes of the line at the place, as far as it is known.
@@ -288,45 +279,6 @@ fn outer_of(alloc: Global, lines: &[Line]) -> Result<Option<Upper>, Memory>
     }
     let outer = Upper::of(alloc, lines, &[])?;
     Ok(Some(outer))
-}
-
-// Arcs from inside of the lines, if there is a bound among them and no ways of the lines decide bounds.
-fn inner_beside(alloc: Global, lines: &[Line], ways: Option<&Ways>) -> Result<Option<Lower>, Memory>
-    ensures { IfOk result (λ inner. IfSome inner (λ t. IsLowerWith lines.now [] t)) }
-{
-    if ways.is_some() {
-        return Ok(None);
-    }
-    inner_of(alloc, lines)
-}
-
-// Arcs from inside of the lines, if there is a bound among them.
-fn inner_of(alloc: Global, lines: &[Line]) -> Result<Option<Lower>, Memory>
-    ensures { IfOk result (λ inner. IfSome inner (λ t. IsLowerWith lines.now [] t)) }
-{
-    if !has_bound(lines) {
-        return Ok(None);
-    }
-    let inner = Lower::of(alloc, lines, &[])?;
-    Ok(Some(inner))
-}
-
-// Whether there is a bound among the lines.
-fn has_bound(lines: &[Line]) -> bool {
-    for line in lines {
-        if is_bound(line) {
-            return true;
-        }
-    }
-    false
-}
-
-// Whether the line is a bound.
-fn is_bound(line: &Line) -> bool {
-    match line {
-        Line::Var(_) | Line::Same(_, _) | Line::Sub(_, _) => false,
-        Line::Low(_, _) | Line::Up(_, _) => true,
-    }
 }
 
 // Whether there is a `<=` line or a bound among the lines.
@@ -367,7 +319,6 @@ fn drop_before(
     order: &Order,
     place: usize,
     next: usize,
-    effort: &mut Effort,
 ) -> Result<usize, Memory>
     requires within { place < next × (next ≤ length left.old.items) }
     requires flags { place < length stands.old.items }
@@ -402,7 +353,7 @@ fn drop_before(
     }
     take_out(left, place + 1, next);
     drop_at(
-        alloc, outer, inner, ways, witnesses, stands, left, order, place, effort,
+        alloc, outer, inner, ways, witnesses, stands, left, order, place,
     )?;
     Ok(place)
 }
@@ -442,7 +393,6 @@ fn drop_at(
     left: &mut Vec<Line>,
     order: &Order,
     place: usize,
-    effort: &mut Effort,
 ) -> Result<(), Memory>
     requires within { place < length left.old.items }
     requires flags { place < length stands.old.items }
@@ -469,9 +419,7 @@ fn drop_at(
         Led::Open => {}
     }
     let line = left.remove(place);
-    let derived = is_derivable_open(
-        alloc, inner, ways, witnesses, stands, left, order, &line, effort,
-    )?;
+    let derived = is_derivable_open(alloc, inner, ways, witnesses, stands, left, order, &line)?;
     if derived {
         return Ok(());
     }

@@ -12,16 +12,15 @@ mod deciding;
 mod derivable;
 mod dropping;
 mod early;
-mod effort;
 mod merging;
 mod opened;
 mod reducing;
 mod rounds;
 mod settling;
+mod staying;
 
 pub use before::comes_before;
 pub use dropping::drop_derivable;
-pub use effort::Effort;
 pub use merging::merge_equal;
 pub use reducing::reduce;
 pub use rounds::round;

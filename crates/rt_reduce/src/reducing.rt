@@ -6,7 +6,6 @@ ghost use Rattle.rt_reduction.specs.Emits.{AreOfScheme};
 ghost use Rattle.rt_reduction.specs.Rounds.{IsReducedForm, Reduces};
 ghost use Rattle.rt_reduce.specs.Rounds.{IsStart};
 
-use crate::effort::Effort;
 use crate::rounds::round;
 use crate::settling::is_settled;
 use rt_base::Memory;
@@ -48,10 +47,9 @@ fn go_round(alloc: Global, lines: Lines, order: &Order) -> Result<Lines, Memory>
     requires constants { All (HasConstantsBelow order.now.count) lines }
     ensures { IfOk result (λ form. Reduces order.now form (tidied lines)) }
 {
-    let mut effort = Effort::none();
-    let mut now = round(alloc, lines, order, &mut effort)?;
+    let mut now = round(alloc, lines, order)?;
     while !is_settled(alloc, now.items())? {
-        now = round(alloc, now, order, &mut effort)?;
+        now = round(alloc, now, order)?;
     }
     Ok(now)
 }

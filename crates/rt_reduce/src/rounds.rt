@@ -7,7 +7,6 @@ ghost use Rattle.rt_reduction.specs.Rounds.{IsRound};
 ghost use Rattle.rt_reduce.specs.Rounds.{IsBegun};
 
 use crate::dropping::drop_derivable;
-use crate::effort::Effort;
 use crate::merging::merge_equal;
 use rt_base::Memory;
 use rt_emit::emit_shape;
@@ -18,14 +17,8 @@ use std::alloc::Global;
 
 /// One round over the tidied lines: existentials that are used alike become the least of them, existentials give their
 /// places away and twins become one, idle existentials keep no more than their shape, the shape is written anew, existentials
-/// that equal a side give their places to it, and each line goes that the others derive. What the rounds before cost says
-/// how lines are asked about. The error is out of memory.
-pub fn round(
-    alloc: Global,
-    lines: Lines,
-    order: &Order,
-    effort: &mut Effort,
-) -> Result<Lines, Memory>
+/// that equal a side give their places to it, and each line goes that the others derive. The error is out of memory.
+pub fn round(alloc: Global, lines: Lines, order: &Order) -> Result<Lines, Memory>
     requires scheme { AreOfScheme lines }
     requires constants { All (HasConstantsBelow order.now.count) lines }
     ensures round { IfOk result (λ after. IsRound order.now (tidied lines) after) }
@@ -37,6 +30,6 @@ pub fn round(
     let simple = prepare(alloc, start)?;
     let emitted = emit_shape(alloc, simple.items())?;
     let merged = merge_equal(alloc, emitted.items(), order)?;
-    let after = drop_derivable(alloc, merged.items(), order, effort)?;
+    let after = drop_derivable(alloc, merged.items(), order)?;
     Ok(after)
 }

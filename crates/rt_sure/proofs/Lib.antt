@@ -1,9 +1,8 @@
-pub mod Entered
-pub mod Inside
 pub mod Around
 pub mod Between
-pub mod Bounded
-pub mod Cleared
+pub mod Entered
 pub mod Fated
+pub mod Inside
 pub mod Leading
 pub mod Numbers
+pub mod Shaping

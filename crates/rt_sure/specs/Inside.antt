@@ -1,2 +1,2 @@
 -- Parts of the way: what loops and functions inside the crate say, and no public contract.
-pub mod Bounds
+pub mod Shapes

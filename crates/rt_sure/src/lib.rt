@@ -1,10 +1,11 @@
-//! What becomes of lines when those go that the others derive, as far as it is sure beforehand (PLDI 2016, section 5): a line
-//! that the others don't derive, however many of them stand, stays; one that those derive which stay, and those before it, goes.
-//! Ways between variables say, which are saturated once, and a table to which the lines are added one by one.
+//! What becomes of lines when those go that the others derive, as far as it is sure beforehand (PLDI 2016, section 5), where it
+//! is known of some lines that they stay: a line goes that those derive which stay, and those before it, also where they do so
+//! by the shapes of others, if its own shape is sure. A table says so to which the lines are added one by one. Ways between
+//! variables, which are saturated once, say which variables lie below which, also when lines are left out.
 #![tactic(auto)]
 
-mod bounds;
 mod fate;
+mod shapes;
 mod ways;
 
 pub use fate::{Fate, fates};

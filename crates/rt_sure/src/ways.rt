@@ -1,10 +1,11 @@
 // Ways between the variables that lines name, along lines and what is pushed.
-ghost use Rattle.std.specs.Prelude.{◌≡◌, ◌+◌, ◌<◌, ◌++◌, ◌∷◌, ℕ, [], List, Contains, IfOk, OnOk, MatchOption, Some};
+ghost use Rattle.std.specs.Prelude.{◌≡◌, ◌+◌, ◌<◌, ◌++◌, ◌∷◌, ℕ, [], List, Contains, IfOk, OnOk, Some};
 ghost use Rattle.std.specs.Prelude.{drop, false, length, slice_get, slice_index_or, true};
 ghost use Rattle.rt_lines.specs.declared.line.Line.{Line as Given};
 ghost use Rattle.rt_lines.specs.declared.variable.Dtv.{Dtv as Variable};
 ghost use Rattle.rt_lines.specs.Orders.{Below};
-ghost use Rattle.rt_rules.specs.Rules.{HasSide};
+ghost use Rattle.rt_lines.specs.declared.line.Line.TheVariants.{Sub as Subtype};
+ghost use Rattle.rt_rules.specs.Rules.{Derivable, HasSide};
 ghost use Rattle.rt_named.specs.Naming.{named as named_by};
 ghost use Rattle.rt_outline.specs.Lines.{AreNumbers, standing};
 ghost use Rattle.rt_outline.specs.Lines.{HasBelow as HasVariableBelow};
@@ -62,18 +63,26 @@ impl Ways {
         &self.lines
     }
 
-    // The number of a variable, or `None` where it isn't named.
-    pub(crate) fn index(&self, x: &Dtv) -> Option<u32>
-        ensures { MatchOption result (Contains self.now.named x.now → ⊥) (λ i. slice_get self.now.named i ≡ Some x.now) }
+    /// Whether the first variable may lie below the second by the lines that stand, those whose flags are set: no only where these
+    /// don't say so. The error is out of memory.
+    pub fn may_lie_below(
+        &self,
+        alloc: Global,
+        stands: &[bool],
+        x: &Dtv,
+        y: &Dtv,
+    ) -> Result<bool, Memory>
+        ensures { IfOk result (λ yes. yes ≡ false → (order : Below) →
+            Derivable order (standing self.now.lines stands.now) (Subtype x.now y.now) → ⊥) }
     {
-        self.named.index(x)
-    }
-
-    // The variables.
-    pub(crate) fn named(&self) -> &Named
-        ensures { result.now ≡ self.now.named }
-    {
-        &self.named
+        let Some(from) = self.named.index(x) else {
+            return Ok(true);
+        };
+        let Some(to) = self.named.index(y) else {
+            return Ok(true);
+        };
+        let yes = self.lead(alloc, stands, &[from], &[to])?;
+        Ok(yes)
     }
 
     /// Whether one of the variables lies below one of the others by the lines. All are named. The error is out of memory.
@@ -93,7 +102,7 @@ impl Ways {
     }
 
     // Whether arcs of lines that stand, and pushed ones, lead from one of the numbers to one of the others.
-    pub(crate) fn lead(
+    fn lead(
         &self,
         alloc: Global,
         stands: &[bool],

@@ -1,5 +1,5 @@
 -- One line that goes or stays.
-use Rattle.std.specs.Prelude.{◌≡◌, ℕ, ◌<◌, ◌≤◌, ◌⊎◌, ◌++◌, List, Bool, true, false, Some, drop, length, slice_get, slice_index_or}
+use Rattle.std.specs.Prelude.{◌≡◌, ℕ, ◌≤◌, ◌⊎◌, ◌++◌, List, Bool, true, false, Some, drop, length, slice_get, slice_index_or}
 use Rattle.std.specs.Prelude.{slice_set, take}
 use Rattle.std.specs.List.{remove}
 use Rattle.rt_lines.specs.declared.line.Line.{Line}
@@ -9,8 +9,9 @@ use Rattle.rt_reduction.specs.Drops.{Drops}
 use Rattle.rt_witness.specs.declared.witnesses.Witnesses.{Witnesses as Witnessed}
 use Rattle.rt_witness.specs.Witnesses.{IsLeft, IsWitnesses}
 use Rattle.rt_sure.specs.declared.fate.Fate.{Fate}
-use Rattle.rt_sure.specs.declared.fate.Fate.TheVariants.{Stays, Goes}
-use Rattle.rt_sure.specs.Fates.{AreGoing, AreStaying, IsSure}
+use Rattle.rt_sure.specs.declared.fate.Fate.TheVariants.{Stays, Goes, Open}
+use Rattle.rt_outline.specs.Lines.{standing}
+use Rattle.rt_sure.specs.Fates.{AreGoing, fate_at}
 
 -- the lines are the same, or the one at the place is gone
 abbrev pub IsKeptOrGone : List Line → ℕ → List Line → Type 0
@@ -54,13 +55,25 @@ pub record AreLeft (order : Below) (lines : List Line) (place : ℕ) (left : Lis
   pub stand : left ≡ take place lines ++ kept
   pub drops : Drops order (take place lines) (drop place lines) kept
 
--- what is known to become of lines: those of which it is known that they are kept or stay stand, and none is kept before a place
-pub record AreFated (order : Below) (lines : List Line) (stands : List Bool) (place : ℕ) (fates : List Fate) : Type 0 where
-  pub kept : List Bool
-  pub staying : AreStaying order lines fates
-  pub going : AreGoing order lines kept fates
-  pub sure : (j : ℕ) → IsSure kept fates j → slice_index_or stands j false ≡ true
-  pub none : (j : ℕ) → j < place → slice_index_or kept j false ≡ false
+-- the line at an index follows from none of the others, however many of them stand
+abbrev pub IsStaying : Below → List Line → ℕ → Type 0
+IsStaying order lines i =
+    (l : Line) → slice_get lines i ≡ Some l → (stands : List Bool) → slice_index_or stands i false ≡ false →
+    Derivable order (standing lines stands) l → ⊥
+
+-- each line that is flagged follows from none of the others
+abbrev pub AreStaying : Below → List Line → List Bool → Type 0
+AreStaying order lines stays = (i : ℕ) → slice_index_or stays i false ≡ true → IsStaying order lines i
+
+-- what is known of the line at an index is the same, or nothing was known, and now it is known to stay
+abbrev pub IsSettled : Below → List Line → ℕ → Fate → Fate → Type 0
+IsSettled order lines i fate now = (now ≡ fate) ⊎ ((fate ≡ Open) × (now ≡ Stays) × IsStaying order lines i)
+
+-- what is known to become of lines: those that stay follow from none of the others, and stand
+pub record AreFated (order : Below) (lines : List Line) (stands : List Bool) (fates : List Fate) : Type 0 where
+  pub staying : (i : ℕ) → fate_at fates i ≡ Stays → IsStaying order lines i
+  pub going : AreGoing order lines fates
+  pub stand : (i : ℕ) → fate_at fates i ≡ Stays → slice_index_or stands i false ≡ true
 
 -- what is known to become of the line at a place: it stays, and the others don't derive it, or it goes, and they do
 pub record IsFatedAt (order : Below) (fate : Fate) (lines : List Line) (place : ℕ) : Type 0 where

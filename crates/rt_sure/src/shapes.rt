@@ -1,0 +1,83 @@
+// Lines that stay, and what is told of the shapes of others.
+ghost use Rattle.std.specs.Prelude.{◌≡◌, ◌≤◌, IfOk, IsTrue, ◌↔◌, drop, length};
+ghost use Rattle.rt_sure.specs.Fates.{AreSure};
+ghost use Rattle.rt_sure.specs.Inside.Shapes.{shape_of, AreJoined, AreShaped, IsSubtype};
+
+use rt_base::Memory;
+use rt_lines::Line;
+use std::alloc::Global;
+
+// For each of the first lines whether its shape is known to follow from those that are flagged and those before it.
+pub(crate) fn joined(alloc: Global, lines: &[Line], stays: &[bool]) -> Result<Vec<bool>, Memory>
+    requires { length stays.now ≤ length lines.now }
+    ensures each { IfOk result (λ joined. length joined.items ≡ length stays.now) }
+    ensures joined { IfOk result (λ joined. AreJoined lines.now stays.now joined.items) }
+{
+    let mut shapes = sure(alloc, lines, stays)?;
+    let count = shapes.len();
+    for i in 0..stays.len() {
+        shapes.push(shape_of(&lines[i])?)?;
+    }
+    let mut joined = rt_earlier::told(alloc, &shapes)?;
+    take_first(&mut joined, count);
+    Ok(joined)
+}
+
+// Takes out the first flags, so many as the count says.
+fn take_first(flags: &mut Vec<bool>, count: usize)
+    requires { count ≤ length flags.old.items }
+    ensures { flags.new.items ≡ drop count flags.old.items }
+{
+    flags.drain(..count);
+}
+
+// The lines that are flagged, and the shapes of the other `<=` lines.
+pub(crate) fn shaped(alloc: Global, lines: &[Line], stays: &[bool]) -> Result<Vec<Line>, Memory>
+    requires { length stays.now ≤ length lines.now }
+    ensures { IfOk result (λ shaped. AreShaped lines.now stays.now shaped.items) }
+{
+    let mut shaped = sure(alloc, lines, stays)?;
+    for i in 0..stays.len() {
+        if !stays[i] && is_below(&lines[i]) {
+            shaped.push(shape_of(&lines[i])?)?;
+        }
+    }
+    Ok(shaped)
+}
+
+// The line, but that a `<=` line says no more than that its sides have one shape.
+fn shape_of(line: &Line) -> Result<Line, Memory>
+    ensures { IfOk result (λ shape. shape ≡ shape_of line.now) }
+{
+    match line {
+        Line::Sub(x, y) => Ok(Line::Same(x.copy()?, y.copy()?)),
+        Line::Var(_) | Line::Same(_, _) | Line::Low(_, _) | Line::Up(_, _) => {
+            let shape = line.copy()?;
+            Ok(shape)
+        }
+    }
+}
+
+// Whether the line is a `<=` line.
+pub(crate) fn is_below(line: &Line) -> bool
+    ensures { IsTrue result ↔ IsSubtype line.now }
+{
+    match line {
+        Line::Sub(_, _) => true,
+        Line::Var(_) | Line::Same(_, _) | Line::Low(_, _) | Line::Up(_, _) => false,
+    }
+}
+
+// The lines that are flagged.
+fn sure(alloc: Global, lines: &[Line], stays: &[bool]) -> Result<Vec<Line>, Memory>
+    requires { length stays.now ≤ length lines.now }
+    ensures { IfOk result (λ sure. AreSure lines.now stays.now sure.items) }
+{
+    let mut sure = Vec::new(alloc);
+    for i in 0..stays.len() {
+        if stays[i] {
+            sure.push(lines[i].copy()?)?;
+        }
+    }
+    Ok(sure)
+}
