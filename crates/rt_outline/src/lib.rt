@@ -9,6 +9,7 @@ mod arc;
 mod bounds;
 mod classes;
 mod closing;
+mod confining;
 mod entering;
 mod found;
 mod frame;

@@ -14,6 +14,7 @@ ghost use Rattle.rt_outline.specs.declared.led.Led.TheVariants.{No as Never, Yes
 use crate::bounds::{Bound, above, below, lows, ups};
 use crate::classes::classes;
 use crate::closing::close;
+use crate::confining::confined;
 use crate::entering::{enter_lines, enter_pointers, numbers};
 use crate::frame::Frame;
 use crate::grouping::Classes;
@@ -171,6 +172,35 @@ impl Upper {
         };
         let led = tell(alloc, &ground, &[source], &targets)?;
         Ok(led)
+    }
+
+    /// The lines.
+    pub fn lines(&self) -> &[Line]
+        ensures { result.now ≡ self.now.lines }
+    {
+        &self.lines
+    }
+
+    /// For each line whether it is a `<=` line that may matter for ways between some variables, as far as the lines that stand
+    /// and arcs from outside show: whether both of its sides lie between these, or what these and such are made of. What may have
+    /// a common lower variable is looked for along so many lines at most. Nothing is promised of this: effort alone rests on it.
+    /// The error is out of memory.
+    pub fn confined(
+        &self,
+        alloc: Global,
+        stands: &[bool],
+        ends: &[Dtv],
+        far: u8,
+    ) -> Result<Vec<bool>, Memory> {
+        confined(
+            alloc,
+            &self.frame,
+            &self.named,
+            &self.lines,
+            stands,
+            ends,
+            far,
+        )
     }
 
     /// Classes of the variables; those that lie below each other are in one class. The error is out of memory.

@@ -1,6 +1,7 @@
 pub mod Places
 pub mod Leaving
 pub mod Firsts
+pub mod Confined
 pub mod Keys
 pub mod Falling
 pub mod Keeping

@@ -10,6 +10,7 @@ ghost use Rattle.rt_outline.specs.Lines.{standing};
 ghost use Rattle.rt_witness.specs.Witnesses.{IsLeft, IsWitnesses};
 ghost use Rattle.rt_reduce.specs.Inside.Deciding.{IsAskable, IsInnerFor, IsUpperWith, IsWaysFor, Tells};
 
+use crate::confining::told_confined;
 use crate::derivable::derives_line;
 use crate::early::{decided, is_told};
 use crate::merging::push_sides;
@@ -107,8 +108,8 @@ fn upper_with(alloc: Global, lines: &[Line], line: &Line) -> Result<Upper, Memor
     Ok(outer)
 }
 
-// Whether the line is derivable from the lines that stand, as far as their sides and arcs from outside say. It needs no list of
-// these lines.
+// Whether the line is derivable from the lines that stand, as far as their sides and arcs from outside say, and those of them
+// that may matter for it, of which more are taken where that is worth while. It needs no list of all of these lines.
 pub(crate) fn told(
     alloc: Global,
     outer: Option<&Upper>,
@@ -116,6 +117,7 @@ pub(crate) fn told(
     stands: &[bool],
     order: &Order,
     line: &Line,
+    wide: bool,
 ) -> Result<Led, Memory>
     requires outer { IfSome outer (λ t. IsAskable order.now stands.now line.now t.now) }
     requires constant { HasConstantsBelow order.now.count line.now }
@@ -130,7 +132,10 @@ pub(crate) fn told(
         return Ok(Led::Open);
     };
     let led = told_by(alloc, outer, stands, order, line)?;
-    Ok(led)
+    match led {
+        Led::Yes | Led::No => Ok(led),
+        Led::Open => told_confined(alloc, outer, stands, order, line, wide),
+    }
 }
 
 // Whether the line says that a variable is there, and a line that stands names it.

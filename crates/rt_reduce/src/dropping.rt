@@ -12,6 +12,7 @@ ghost use Rattle.rt_sure.specs.Fates.{fate_at};
 ghost use Rattle.rt_sure.specs.declared.fate.Fate.TheVariants.{Stays as Staying};
 ghost use Rattle.rt_reduce.specs.Inside.Dropping.{AreFated, AreTold, Decides, IsFatedAt, IsKeptOrGone, IsMoved, IsSpared, IsToldAt};
 
+use crate::confining::among;
 use crate::copying::copies;
 use crate::deciding::{is_derivable_open, is_spare, told};
 use crate::staying::{staying, staying_beside};
@@ -92,7 +93,8 @@ fn fates_of(
     ensures fated { IfOk result (λ fates. AreFated order.now lines.now (replicate (length lines.now) true) fates.items) }
 {
     let stays = staying(alloc, outer, lines, order)?;
-    let fates = rt_sure::fates(alloc, lines, &stays)?;
+    let among = among(alloc, outer, lines, &stays)?;
+    let fates = rt_sure::fates(alloc, lines, &stays, &among)?;
     Ok(fates)
 }
 
@@ -407,7 +409,15 @@ fn drop_at(
     ensures moved { OnOk result (IsMoved left.old.items stands.old.items place left.new.items stands.new.items) }
 {
     stands[place] = false;
-    match told(alloc, outer, witnesses, stands, order, &left[place])? {
+    match told(
+        alloc,
+        outer,
+        witnesses,
+        stands,
+        order,
+        &left[place],
+        ways.is_some(),
+    )? {
         Led::No => {
             stands[place] = true;
             return Ok(());

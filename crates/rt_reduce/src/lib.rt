@@ -7,6 +7,7 @@ mod alike;
 mod bases;
 mod before;
 mod bounds;
+mod confining;
 mod copying;
 mod deciding;
 mod derivable;

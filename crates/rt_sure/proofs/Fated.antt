@@ -15,7 +15,8 @@ use Rattle.rt_sat.specs.Increments.{IsAdded, Tells}
 use Rattle.rt_sure.specs.declared.fate.Fate.{Fate}
 use Rattle.rt_sure.specs.declared.fate.Fate.TheVariants.{Stays, Goes, Open}
 use Rattle.rt_sure.specs.Fates.{fate_at, flag_at, AreGoing, DoStay, HasBefore}
-use Rattle.rt_sure.specs.Inside.Shapes.{AreJoined, AreShaped, IsShapeIn, IsSubtype, IsSureIn, shape_of}
+use Rattle.rt_sure.specs.Inside.Shapes.{AreJoined, AreShaped, IsShapeIn, IsSubtype, IsSureIn}
+use Rattle.rt_sure.specs.Shapes.{shape_of}
 use Rattle.rt_sure.proofs.Shaping.{shape_without}
 
 -- a fate that is put behind others

@@ -1,6 +1,6 @@
 -- What a list says of shapes follows from the shapes of its lines.
 use Rattle.std.proofs.Common.{◌≡◌, ℕ, zero, suc, ◌+◌, ◌<◌, ◌≤◌, inl, inr, List, [], ◌∷◌, ◌++◌, Contains, Bool, true, false, Some, drop}
-use Rattle.std.proofs.Common.{length, map, take, get_or, refl, sym, ap, subst, ◌∙◌, arith}
+use Rattle.std.proofs.Common.{length, map, take, set, get_or, refl, sym, ap, subst, ◌∙◌, arith}
 use Rattle.std.specs.Prelude.{slice_get}
 use Rattle.std.proofs.lemmas.List.{append_assoc, get_or-drop, length-append, length-map, take-map}
 use Rattle.std.proofs.lemmas.List.Elements.{Contains-append_cases, Contains-push_cases}
@@ -16,7 +16,8 @@ use Rattle.rt_rules.specs.Rules.Derivable.{named, prefix, left_side, right_side,
 use Rattle.rt_rules.proofs.Carry.{are_there, given, side}
 use Rattle.rt_rules.proofs.Covering.{derives_more}
 use Rattle.rt_sure.specs.Fates.{AreSure}
-use Rattle.rt_sure.specs.Inside.Shapes.{AreJoined, AreShaped, IsSubtype, shape_of}
+use Rattle.rt_sure.specs.Inside.Shapes.{AreFewer, AreJoined, AreShaped, IsSubtype}
+use Rattle.rt_sure.specs.Shapes.{shape_of}
 
 module _ (order : Below) (left : List Line) where
   -- what the list says of the shape of a line
@@ -220,3 +221,18 @@ module _ (lines : List Line) (stays : List Bool) where
     | inl d ↦ are k d
     | inr f ↦ inr (l, there, subtype, sym is ∙ f)
   ]
+
+-- a flag that is set is when another one is cleared no more
+pub cleared : (flags : List Bool) (i j : ℕ) → get_or (set flags i false) j false ≡ true → get_or flags j false ≡ true
+cleared [] i j e = e
+cleared (f ∷ flags) zero zero e = absurd (cc)
+cleared (f ∷ flags) zero (suc j) e = e
+cleared (f ∷ flags) (suc i) zero e = e
+cleared (f ∷ flags) (suc i) (suc j) e = cleared flags i j e
+
+pub shaped_fewer : (lines shaped : List Line) (given stays : List Bool) → AreFewer given stays → AreShaped lines given shaped →
+    AreShaped lines stays shaped
+shaped_fewer lines shaped given stays fewer are m c = elim (are m c) [
+  | inl s ↦ (let (j, at, flag) = s in inl (j, at, fewer j flag))
+  | inr s ↦ inr s
+]

@@ -1,3 +1,4 @@
 pub mod Arcs
 pub mod Fates
+pub mod Shapes
 pub mod Inside

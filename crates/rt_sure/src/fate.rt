@@ -11,7 +11,7 @@ ghost use Rattle.rt_sure.specs.Fates.{fate_at, flag_at, AreGoing, DoStay};
 ghost use Rattle.rt_sure.specs.Inside.Shapes.{IsSubtype};
 ghost use Rattle.rt_sure.specs.declared.fate.Fate.TheVariants.{Stays as Staying, Goes as Going};
 
-use crate::shapes::{is_below, joined, shaped};
+use crate::shapes::{is_below, joined, shaped_among};
 use rt_base::Memory;
 use rt_lines::{Dtv, Line};
 use rt_sat::GrowingTable;
@@ -30,9 +30,15 @@ pub enum Fate {
 }
 
 /// What becomes of the first lines, where the flags say which of them stay, one for each. Only `<=` lines go: such a line goes, if
-/// its shape follows from those that stay and those before it, and if it follows from these and the shapes of all. The error is
-/// out of memory.
-pub fn fates(alloc: Global, lines: &[Line], stays: &[bool]) -> Result<Vec<Fate>, Memory>
+/// its shape follows from those that stay and those before it, and if it follows from these and the shapes of all. Of the `<=`
+/// lines that stay those alone are looked at that are among some; nothing is promised of how many lines go. The error is out of
+/// memory.
+pub fn fates(
+    alloc: Global,
+    lines: &[Line],
+    stays: &[bool],
+    among: &[bool],
+) -> Result<Vec<Fate>, Memory>
     requires within { length stays.now ≤ length lines.now }
     ensures each { IfOk result (λ fates. length fates.items ≡ length stays.now) }
     ensures staying { IfOk result (λ fates. DoStay stays.now fates.items) }
@@ -41,7 +47,7 @@ pub fn fates(alloc: Global, lines: &[Line], stays: &[bool]) -> Result<Vec<Fate>,
     if !has_open(lines, stays) {
         return known(alloc, stays);
     }
-    let fates = with_going(alloc, lines, stays)?;
+    let fates = with_going(alloc, lines, stays, among)?;
     Ok(fates)
 }
 
@@ -79,14 +85,19 @@ fn fate_by(stays: bool) -> Fate
 }
 
 // What becomes of the first lines, where it is known which of them stay.
-fn with_going(alloc: Global, lines: &[Line], stays: &[bool]) -> Result<Vec<Fate>, Memory>
+fn with_going(
+    alloc: Global,
+    lines: &[Line],
+    stays: &[bool],
+    among: &[bool],
+) -> Result<Vec<Fate>, Memory>
     requires within { length stays.now ≤ length lines.now }
     ensures each { IfOk result (λ fates. length fates.items ≡ length stays.now) }
     ensures staying { IfOk result (λ fates. DoStay stays.now fates.items) }
     ensures going { IfOk result (λ fates. (order : Below) → AreGoing order lines.now fates.items) }
 {
     let joined = joined(alloc, lines, stays)?;
-    let shaped = shaped(alloc, lines, stays)?;
+    let shaped = shaped_among(alloc, lines, stays, among)?;
     let shape = rt_shape::of(alloc, &shaped)?;
     let extra = extra(alloc, &shape, lines, stays)?;
     let mut growing = GrowingTable::of(alloc, &shaped, &shape, &extra)?;

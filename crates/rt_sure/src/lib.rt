@@ -9,4 +9,5 @@ mod shapes;
 mod ways;
 
 pub use fate::{Fate, fates};
+pub use shapes::shape_of;
 pub use ways::Ways;

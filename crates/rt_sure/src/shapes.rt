@@ -1,7 +1,8 @@
 // Lines that stay, and what is told of the shapes of others.
 ghost use Rattle.std.specs.Prelude.{◌≡◌, ◌≤◌, IfOk, IsTrue, ◌↔◌, drop, length};
 ghost use Rattle.rt_sure.specs.Fates.{AreSure};
-ghost use Rattle.rt_sure.specs.Inside.Shapes.{shape_of, AreJoined, AreShaped, IsSubtype};
+ghost use Rattle.rt_sure.specs.Inside.Shapes.{AreFewer, AreJoined, AreShaped, IsSubtype};
+ghost use Rattle.rt_sure.specs.Shapes.{shape_of};
 
 use rt_base::Memory;
 use rt_lines::Line;
@@ -31,8 +32,52 @@ fn take_first(flags: &mut Vec<bool>, count: usize)
     flags.drain(..count);
 }
 
+// The lines that are flagged, but that `<=` lines which aren't among some give their places to their shapes, and the shapes of
+// the other `<=` lines.
+pub(crate) fn shaped_among(
+    alloc: Global,
+    lines: &[Line],
+    stays: &[bool],
+    among: &[bool],
+) -> Result<Vec<Line>, Memory>
+    requires { length stays.now ≤ length lines.now }
+    ensures { IfOk result (λ shaped. AreShaped lines.now stays.now shaped.items) }
+{
+    let given = without_others(alloc, lines, stays, among)?;
+    let shaped = shaped(alloc, lines, &given)?;
+    Ok(shaped)
+}
+
+// The flags, without those of `<=` lines that aren't among some.
+fn without_others(
+    alloc: Global,
+    lines: &[Line],
+    stays: &[bool],
+    among: &[bool],
+) -> Result<Vec<bool>, Memory>
+    requires { length stays.now ≤ length lines.now }
+    ensures each { IfOk result (λ given. length given.items ≡ length stays.now) }
+    ensures fewer { IfOk result (λ given. AreFewer given.items stays.now) }
+{
+    let mut given = stays.to_vec(alloc)?;
+    for i in 0..stays.len() {
+        if is_below(&lines[i]) && !is_among(among, i) {
+            given[i] = false;
+        }
+    }
+    Ok(given)
+}
+
+// Whether there is a flag at the index, and it is set.
+fn is_among(among: &[bool], i: usize) -> bool {
+    match among.get(i) {
+        Some(flag) => *flag,
+        None => false,
+    }
+}
+
 // The lines that are flagged, and the shapes of the other `<=` lines.
-pub(crate) fn shaped(alloc: Global, lines: &[Line], stays: &[bool]) -> Result<Vec<Line>, Memory>
+fn shaped(alloc: Global, lines: &[Line], stays: &[bool]) -> Result<Vec<Line>, Memory>
     requires { length stays.now ≤ length lines.now }
     ensures { IfOk result (λ shaped. AreShaped lines.now stays.now shaped.items) }
 {
@@ -45,8 +90,8 @@ pub(crate) fn shaped(alloc: Global, lines: &[Line], stays: &[bool]) -> Result<Ve
     Ok(shaped)
 }
 
-// The line, but that a `<=` line says no more than that its sides have one shape.
-fn shape_of(line: &Line) -> Result<Line, Memory>
+/// The line, but that a `<=` line says no more than that its sides have one shape. The error is out of memory.
+pub fn shape_of(line: &Line) -> Result<Line, Memory>
     ensures { IfOk result (λ shape. shape ≡ shape_of line.now) }
 {
     match line {

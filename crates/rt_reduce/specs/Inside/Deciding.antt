@@ -1,5 +1,5 @@
 -- What is told of a line without saturating the others.
-use Rattle.std.specs.Prelude.{◌≡◌, ℕ, ◌<◌, List, [], All, Bool, true, false, Contains, slice_index_or}
+use Rattle.std.specs.Prelude.{◌≡◌, ◌⊎◌, ℕ, ◌<◌, List, [], All, Bool, true, false, Contains, slice_index_or}
 use Rattle.rt_lines.specs.declared.variable.Dtv.{Dtv}
 use Rattle.rt_lines.specs.declared.line.Line.{Line}
 use Rattle.rt_lines.specs.declared.line.Line.TheVariants.{Low, Up}
@@ -10,6 +10,7 @@ use Rattle.rt_named.specs.Naming.{named as named_by}
 use Rattle.rt_outline.specs.declared.led.Led.{Led}
 use Rattle.rt_outline.specs.declared.led.Led.TheVariants.{No, Yes}
 use Rattle.rt_outline.specs.Lines.{Lined, standing}
+use Rattle.rt_sure.specs.Shapes.{shape_of}
 
 -- arcs of lines between the variables that they name
 abbrev pub IsOwnOuter : List Line → Lined → Type 0
@@ -63,6 +64,10 @@ pub record IsUpperWith (lines : List Line) (line : Line) (outer : Lined) : Type 
 pub record Tells (order : Below) (lines : List Line) (line : Line) (led : Led) : Type 0 where
   pub no : led ≡ No → Derivable order lines line → ⊥
   pub yes : led ≡ Yes → Derivable order lines line
+
+-- each of the lines is one of those left, or the shape of one
+abbrev pub AreConfined : List Line → List Line → Type 0
+AreConfined left confined = (m : Line) → Contains confined m → (l : Line) × Contains left l × ((m ≡ l) ⊎ (m ≡ shape_of l))
 
 -- the variables of lower bounds at or above a constant
 pub record AreAbove (order : Below) (lines : List Line) (k : ℕ) (variables : List Dtv) : Type 0 where

@@ -2,18 +2,11 @@
 use Rattle.std.specs.Prelude.{◌≡◌, ◌⊎◌, ℕ, List, Bool, true, Contains, Some, slice_get}
 use Rattle.rt_lines.specs.declared.variable.Dtv.{Dtv}
 use Rattle.rt_lines.specs.declared.line.Line.{Line}
-use Rattle.rt_lines.specs.declared.line.Line.TheVariants.{Var, Same, Sub, Low, Up}
+use Rattle.rt_lines.specs.declared.line.Line.TheVariants.{Sub}
 use Rattle.rt_lines.specs.Orders.{Below}
 use Rattle.rt_rules.specs.Rules.{Derivable}
 use Rattle.rt_sure.specs.Fates.{flag_at, HasBefore}
-
--- the line, but that a `<=` line says no more than that its sides have one shape
-abbrev pub shape_of : Line → Line
-shape_of (Var x) = Var x
-shape_of (Same x y) = Same x y
-shape_of (Sub x y) = Same x y
-shape_of (Low k x) = Low k x
-shape_of (Up x k) = Up x k
+use Rattle.rt_sure.specs.Shapes.{shape_of}
 
 -- the line is a `<=` line
 abbrev pub IsSubtype : Line → Type 0
@@ -22,6 +15,10 @@ IsSubtype l = (x : Dtv) × (y : Dtv) × (l ≡ Sub x y)
 -- the line is one of the lines that are flagged
 abbrev pub IsSureIn : List Line → List Bool → Line → Type 0
 IsSureIn lines stays m = (j : ℕ) × (slice_get lines j ≡ Some m) × (flag_at stays j ≡ true)
+
+-- each of the flags is one of the others
+abbrev pub AreFewer : List Bool → List Bool → Type 0
+AreFewer given stays = (j : ℕ) → flag_at given j ≡ true → flag_at stays j ≡ true
 
 -- the shape of each line that is told to be joined follows from each list that has those that are flagged and those before it
 abbrev pub AreJoined : List Line → List Bool → List Bool → Type 0

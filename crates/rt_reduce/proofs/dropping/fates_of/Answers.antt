@@ -5,7 +5,7 @@ use Rattle.rt_reduce.proofs.dropping.fates_of.Goals as goal
 
 pub returns-clause-each : goal.returns-clause-each
 returns-clause-each c =
-    c.in_ok-fates.ensures.each ∙ ap length c.deref.ensures.value ∙ c.in_ok-stays.ensures.each
+    c.in_ok-fates.ensures.each ∙ ap length c.deref-2.ensures.value ∙ c.in_ok-stays.ensures.each
 
 pub returns-clause-fated : goal.returns-clause-fated
 returns-clause-fated c =
@@ -14,5 +14,5 @@ returns-clause-fated c =
     let stays = c.in_ok-stays.stays.items in
     let fates = c.in_ok-fates.fates.items in
     fated_found order lines stays fates c.in_ok-stays.ensures.each
-    (c.in_ok-fates.ensures.each ∙ ap length c.deref.ensures.value) c.in_ok-stays.ensures.staying
-    (subst (λ (fs : List Bool). DoStay fs fates) c.deref.ensures.value c.in_ok-fates.ensures.staying) (c.in_ok-fates.ensures.going order)
+    (c.in_ok-fates.ensures.each ∙ ap length c.deref-2.ensures.value) c.in_ok-stays.ensures.staying
+    (subst (λ (fs : List Bool). DoStay fs fates) c.deref-2.ensures.value c.in_ok-fates.ensures.staying) (c.in_ok-fates.ensures.going order)
