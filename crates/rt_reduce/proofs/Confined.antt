@@ -1,11 +1,10 @@
 -- Lines that stand, and the shapes of others.
-use Rattle.std.proofs.Common.{◌≡◌, ◌⊎◌, ℕ, inl, inr, List, [], ◌∷◌, ◌++◌, All, Contains, Bool, true, false, Some, get_or, sym, subst}
+use Rattle.std.proofs.Common.{◌≡◌, ◌⊎◌, ℕ, inl, inr, List, [], ◌∷◌, ◌++◌, Contains, Bool, true, false, Some, get_or, sym, subst}
 use Rattle.std.specs.Prelude.{slice_get}
-use Rattle.std.proofs.lemmas.List.Elements.{All-contains, Contains-push_cases}
-use Rattle.rt_base.proofs.Lists.{All-from_contains, Contains-none}
+use Rattle.std.proofs.lemmas.List.Elements.{Contains-push_cases}
+use Rattle.rt_base.proofs.Lists.{Contains-none}
 use Rattle.rt_lines.specs.declared.line.Line.{Line}
 use Rattle.rt_lines.specs.declared.line.Line.TheVariants.{Var, Same, Sub, Low, Up}
-use Rattle.rt_lines.specs.Lines.{HasConstantsBelow}
 use Rattle.rt_lines.specs.Orders.{Below}
 use Rattle.rt_rules.specs.Rules.{Derivable}
 use Rattle.rt_rules.specs.Rules.Derivable.{same_sub, sub_line}
@@ -23,13 +22,6 @@ shape_derived order left (Sub x y) c = same_sub (sub_line c)
 shape_derived order left (Low k x) c = given order left (Low k x) c
 shape_derived order left (Up x k) c = given order left (Up x k) c
 
-shape_below : (count : ℕ) (l : Line) → HasConstantsBelow count l → HasConstantsBelow count (shape_of l)
-shape_below count (Var x) h = h
-shape_below count (Same x y) h = h
-shape_below count (Sub x y) h = tt
-shape_below count (Low k x) h = h
-shape_below count (Up x k) h = h
-
 -- what they derive, the lines left derive
 pub confined_derives : (order : Below) (left confined : List Line) (l : Line) → AreConfined left confined → Derivable order confined l →
     Derivable order left l
@@ -38,15 +30,6 @@ confined_derives order left confined l are d = derives_more order confined left 
     by : (m : Line) → (k : Line) × Contains left k × ((m ≡ k) ⊎ (m ≡ shape_of k)) → Derivable order left m
     by m (k, c, inl e) = subst (Derivable order left) (sym e) (given order left k c)
     by m (k, c, inr e) = subst (Derivable order left) (sym e) (shape_derived order left k c)
-
-pub confined_below : (count : ℕ) (left confined : List Line) → AreConfined left confined → All (HasConstantsBelow count) left →
-    All (HasConstantsBelow count) confined
-confined_below count left confined are few = All-from_contains (HasConstantsBelow count) confined (λ m c. by m (are m c))
-  where
-    by : (m : Line) → (k : Line) × Contains left k × ((m ≡ k) ⊎ (m ≡ shape_of k)) → HasConstantsBelow count m
-    by m (k, c, inl e) = subst (HasConstantsBelow count) (sym e) (All-contains (HasConstantsBelow count) left k few c)
-    by m (k, c, inr e) =
-        subst (HasConstantsBelow count) (sym e) (shape_below count k (All-contains (HasConstantsBelow count) left k few c))
 
 pub confined_none : (left confined : List Line) → confined ≡ [] → AreConfined left confined
 confined_none left confined e m c = absurd (Contains-none m (subst (λ ls. Contains ls m) e c))

@@ -11,7 +11,7 @@ use crate::derivable::is_below;
 use rt_base::Memory;
 use rt_lines::{Dtv, Line, Order};
 use rt_outline::{Led, Upper};
-use rt_sure::shape_of;
+use rt_sure::{shape_of, shortened};
 use std::alloc::Global;
 
 // Of so few lines all are saturated as soon.
@@ -30,7 +30,6 @@ pub(crate) fn told_confined(
     line: &Line,
     wide: bool,
 ) -> Result<Led, Memory>
-    requires { All (HasConstantsBelow order.now.count) (standing outer.now.lines stands.now) }
     ensures { IfOk result (Tells order.now (standing outer.now.lines stands.now) line.now) }
 {
     match line {
@@ -61,7 +60,6 @@ fn is_below_confined(
     y: &Dtv,
     far: u8,
 ) -> Result<bool, Memory>
-    requires { All (HasConstantsBelow order.now.count) (standing outer.now.lines stands.now) }
     ensures { IfOk result (λ yes. yes ≡ true →
         Derivable order.now (standing outer.now.lines stands.now) (Subtype x.now y.now)) }
 {
@@ -70,7 +68,8 @@ fn is_below_confined(
     ends.push(y.copy()?)?;
     let among = outer.confined(alloc, stands, &ends, far)?;
     let lines = confined(alloc, outer.lines(), stands, &among)?;
-    let yes = is_below(alloc, &lines, order, x, y)?;
+    let short = shortened(alloc, &lines, &ends)?;
+    let yes = is_below(alloc, &short, order, x, y)?;
     Ok(yes)
 }
 
@@ -122,7 +121,7 @@ pub(crate) fn among(
         return Ok(all);
     };
     let ends = open_sides(alloc, lines, stays)?;
-    let among = outer.confined(alloc, &all, &ends, 0)?;
+    let among = outer.confined(alloc, &all, &ends, FAR)?;
     Ok(among)
 }
 

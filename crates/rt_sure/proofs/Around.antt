@@ -1,5 +1,5 @@
 -- Where one variable lies below another by the lines that stand, arcs of these and pushed ones lead from one to the other.
-use Rattle.std.proofs.Common.{◌≡◌, ℕ, ◌+◌, ◌<◌, Bool, true, false, List, Contains, None, Some, drop, length, get_or, refl, sym, ap, subst, ◌∙◌, arith}
+use Rattle.std.proofs.Common.{◌≡◌, ℕ, ◌<◌, Bool, true, false, List, Contains, None, Some, drop, length, get_or, refl, sym, ap, subst, ◌∙◌, arith}
 use Rattle.std.specs.Prelude.{slice_get}
 use Rattle.std.proofs.lemmas.Option.{get_or_from_slice_get, slice_get_within}
 use Rattle.rt_lines.specs.declared.label.Variance.TheVariants.{Co, Contra}
@@ -11,7 +11,7 @@ use Rattle.rt_rules.specs.Rules.{Derivable}
 use Rattle.rt_rules.proofs.Carry.{given}
 use Rattle.rt_rules.proofs.Covering.{derives_more}
 use Rattle.rt_bridge.specs.Growing.{Var, dot, dv, vd, Given, Fact, S, Der, HasSub}
-use Rattle.rt_bridge.specs.Counted.{State, st, differ, IsEven}
+use Rattle.rt_bridge.specs.Counted.{State, st}
 use Rattle.rt_bridge.specs.Ways.{Way, stays, turns, steps, WayIn, HasLines}
 use Rattle.rt_bridge.specs.Laws.{Named, AreNamed, Edge as EdgeOf}
 use Rattle.rt_bridge.proofs.Bridges.{bridge_even}

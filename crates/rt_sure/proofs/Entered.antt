@@ -1,5 +1,5 @@
 -- Arcs of lines and of edges, entered one by one.
-use Rattle.std.proofs.Common.{◌≡◌, ℕ, ◌+◌, ◌-◌, ◌<◌, ◌≤◌, inl, inr, false, List, [], ◌∷◌, ◌++◌, None, Some, drop, take, length, get_or, sym, ap, subst, ◌∙◌, arith}
+use Rattle.std.proofs.Common.{◌≡◌, ℕ, ◌+◌, ◌-◌, ◌<◌, ◌≤◌, inl, inr, List, [], ◌∷◌, ◌++◌, None, Some, drop, take, length, get_or, sym, ap, subst, ◌∙◌, arith}
 use Rattle.std.specs.Prelude.{slice_get}
 use Rattle.std.proofs.lemmas.List.{get_or-drop, length-drop}
 use Rattle.std.proofs.lemmas.List.Elements.{Contains-push, Contains-push_cases}
@@ -12,7 +12,7 @@ use Rattle.rt_outline.specs.Arcs.{HasArc, IsAdded}
 use Rattle.rt_outline.specs.Lines.{AreLineArcs, IsNumber}
 use Rattle.rt_outline.proofs.Entered.{lines_more}
 use Rattle.rt_sat.specs.declared.state.Edge.{Edge}
-use Rattle.rt_equals.specs.Plain.{HasPlain, IsPlain}
+use Rattle.rt_equals.specs.Plain.{IsPlain}
 use Rattle.rt_equals.proofs.Pairing.{had}
 use Rattle.rt_sure.specs.Arcs.{AreArcs}
 

@@ -8,13 +8,14 @@ use Rattle.std.proofs.lemmas.Option.{get_or_from_slice_get, slice_get-get_or}
 use Rattle.rt_lines.specs.declared.line.Line.{Line}
 use Rattle.rt_lines.specs.Orders.{Below}
 use Rattle.rt_rules.specs.Rules.{Derivable}
+use Rattle.rt_base.proofs.Lists.{Contains-none, Contains-here, Contains-cons_cases}
 use Rattle.rt_rules.proofs.Carry.{given}
 use Rattle.rt_rules.proofs.Covering.{derives_more}
 use Rattle.rt_sat.specs.declared.increments.GrowingTable.{GrowingTable as Growing}
 use Rattle.rt_sat.specs.Increments.{IsAdded, Tells}
 use Rattle.rt_sure.specs.declared.fate.Fate.{Fate}
 use Rattle.rt_sure.specs.declared.fate.Fate.TheVariants.{Stays, Goes, Open}
-use Rattle.rt_sure.specs.Fates.{fate_at, flag_at, AreGoing, DoStay, HasBefore}
+use Rattle.rt_sure.specs.Fates.{fate_at, flag_at, AreGoing, DerivesAll, DoStay, HasBefore}
 use Rattle.rt_sure.specs.Inside.Shapes.{AreJoined, AreShaped, IsShapeIn, IsSubtype, IsSureIn}
 use Rattle.rt_sure.specs.Shapes.{shape_of}
 use Rattle.rt_sure.proofs.Shaping.{shape_without}
@@ -46,9 +47,14 @@ DoStayTo stays fates count = (j : ℕ) → j < count → fate_at fates j ≡ Sta
 
 module _ (lines : List Line) (stays : List Bool) where
   -- each of the lines is one that is flagged, or the shape of a `<=` line, or stands before an index
+  abbrev pub AreGroundTo : ℕ → List Line → Type 0
+  AreGroundTo i ground =
+      (m : Line) → Contains ground m → IsSureIn lines stays m ⊎ IsShapeIn lines m ⊎ ((j : ℕ) × (j < i) × (slice_get lines j ≡ Some m))
+
+  -- such lines derive each of the lines
   abbrev pub AreToldTo : ℕ → List Line → Type 0
   AreToldTo i told =
-      (m : Line) → Contains told m → IsSureIn lines stays m ⊎ IsShapeIn lines m ⊎ ((j : ℕ) × (j < i) × (slice_get lines j ≡ Some m))
+      (order : Below) (m : Line) → Contains told m → (ground : List Line) × AreGroundTo i ground × Derivable order ground m
 
   -- such lines derive the line, and a list that has those that are flagged and those before it derives its shape
   pub record IsGone (i : ℕ) (l : Line) : Type 0 where
@@ -69,8 +75,9 @@ module _ (lines : List Line) (stays : List Bool) where
   IsTold i growing = (told : List Line) × AreToldTo i told × Tells told growing
 
   -- what the table tells of, before the first step
-  pub told_first : (shaped : List Line) (growing : Growing) → AreShaped lines stays shaped → Tells shaped growing → IsTold 0 growing
-  told_first shaped growing are tells = (shaped, λ m c. by m (are m c), tells)
+  pub told_first : (shaped short : List Line) (growing : Growing) → AreShaped lines stays shaped →
+      ((order : Below) → DerivesAll order shaped short) → Tells short growing → IsTold 0 growing
+  told_first shaped short growing are derived tells = (short, λ order m c. (shaped, λ k d. by k (are k d), derived order m c), tells)
     where
       by : (m : Line) → IsSureIn lines stays m ⊎ IsShapeIn lines m →
           IsSureIn lines stays m ⊎ IsShapeIn lines m ⊎ ((j : ℕ) × (j < 0) × (slice_get lines j ≡ Some m))
@@ -78,8 +85,8 @@ module _ (lines : List Line) (stays : List Bool) where
       by m (inr s) = inr (inl s)
 
   module _ (i : ℕ) (line : Line) (here : slice_get lines i ≡ Some line) where
-    told_more : (told : List Line) → AreToldTo i told → AreToldTo (i + 1) told
-    told_more told are m c = by (are m c)
+    ground_more : (ground : List Line) → AreGroundTo i ground → AreGroundTo (i + 1) ground
+    ground_more ground are m c = by (are m c)
       where
         by : IsSureIn lines stays m ⊎ IsShapeIn lines m ⊎ ((j : ℕ) × (j < i) × (slice_get lines j ≡ Some m)) →
             IsSureIn lines stays m ⊎ IsShapeIn lines m ⊎ ((j : ℕ) × (j < i + 1) × (slice_get lines j ≡ Some m))
@@ -87,13 +94,23 @@ module _ (lines : List Line) (stays : List Bool) where
         by (inr (inl s)) = inr (inl s)
         by (inr (inr (j, h, at))) = inr (inr (j, omega (arith, h), at))
 
+    ground_here : AreGroundTo (i + 1) (line ∷ [])
+    ground_here m c = elim (Contains-cons_cases line [] m c) [
+      | inl e ↦ inr (inr (i, omega arith, here ∙ ap Some e))
+      | inr n ↦ absurd (Contains-none m n)
+    ]
+
+    told_more : (told : List Line) → AreToldTo i told → AreToldTo (i + 1) told
+    told_more told are order m c =
+        let r : (ground : List Line) × AreGroundTo i ground × Derivable order ground m = are order m c in
+        (r.0, ground_more r.0 r.1, r.2)
+
     told_added : (told : List Line) → AreToldTo i told → AreToldTo (i + 1) (told ++ line ∷ [])
-    told_added told are m c = by (Contains-push_cases told line m c)
+    told_added told are order m c = by (Contains-push_cases told line m c)
       where
-        by : Contains told m ⊎ (line ≡ m) →
-            IsSureIn lines stays m ⊎ IsShapeIn lines m ⊎ ((j : ℕ) × (j < i + 1) × (slice_get lines j ≡ Some m))
-        by (inl d) = told_more told are m d
-        by (inr e) = inr (inr (i, omega arith, here ∙ ap Some e))
+        by : Contains told m ⊎ (line ≡ m) → (ground : List Line) × AreGroundTo (i + 1) ground × Derivable order ground m
+        by (inl d) = told_more told are order m d
+        by (inr e) = (line ∷ [], ground_here, subst (Derivable order (line ∷ [])) e (given order (line ∷ []) line (Contains-here line [])))
 
     -- a step
     pub told_next : (growing new : Growing) → IsTold i growing →
@@ -174,7 +191,9 @@ all_go order lines stays fates same go i l at e left has before all = derives_mo
     by m (inr (inr (j, h, f))) = given order left m (before j m h f)
 
     gives : (m : Line) → Contains told m → Derivable order left m
-    gives m c = by m ((gone.derived order).1 m c)
+    gives m c =
+        let r : (ground : List Line) × AreGroundTo lines stays i ground × Derivable order ground m = (gone.derived order).1 order m c in
+        derives_more order r.0 left (λ k d. by k (r.1 k d)) r.2
 
 pub more_long : (fates new : List Fate) (i : ℕ) (f : Fate) → new ≡ fates ++ f ∷ [] → length fates ≡ i → length new ≡ i + 1
 more_long fates new i f is long = ap length is ∙ length-append fates (f ∷ []) ∙ ap (λ n. n + 1) long

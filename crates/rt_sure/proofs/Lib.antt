@@ -2,6 +2,7 @@ pub mod Around
 pub mod Between
 pub mod Entered
 pub mod Fated
+pub mod Grown
 pub mod Inside
 pub mod Leading
 pub mod Numbers

@@ -12,6 +12,7 @@ ghost use Rattle.rt_sure.specs.Inside.Shapes.{IsSubtype};
 ghost use Rattle.rt_sure.specs.declared.fate.Fate.TheVariants.{Stays as Staying, Goes as Going};
 
 use crate::shapes::{is_below, joined, shaped_among};
+use crate::shortening::shortened;
 use rt_base::Memory;
 use rt_lines::{Dtv, Line};
 use rt_sat::GrowingTable;
@@ -98,9 +99,11 @@ fn with_going(
 {
     let joined = joined(alloc, lines, stays)?;
     let shaped = shaped_among(alloc, lines, stays, among)?;
-    let shape = rt_shape::of(alloc, &shaped)?;
-    let extra = extra(alloc, &shape, lines, stays)?;
-    let mut growing = GrowingTable::of(alloc, &shaped, &shape, &extra)?;
+    let sides = open_sides(alloc, lines, stays)?;
+    let short = shortened(alloc, &shaped, &sides)?;
+    let shape = rt_shape::of(alloc, &short)?;
+    let extra = existing(alloc, &shape, &sides)?;
+    let mut growing = GrowingTable::of(alloc, &short, &shape, &extra)?;
     let mut fates = Vec::with_capacity(alloc, stays.len())?;
     for i in 0..stays.len() {
         let fate = going(alloc, &mut growing, &lines[i], stays[i], joined[i])?;
@@ -109,41 +112,40 @@ fn with_going(
     Ok(fates)
 }
 
-// The sides of `<=` lines that aren't flagged, as far as they exist by the lines of the shape.
-fn extra(alloc: Global, shape: &Shape, lines: &[Line], stays: &[bool]) -> Result<Vec<Dtv>, Memory>
+// The sides of `<=` lines that aren't flagged.
+fn open_sides(alloc: Global, lines: &[Line], stays: &[bool]) -> Result<Vec<Dtv>, Memory>
     requires { length stays.now ≤ length lines.now }
-    ensures { IfOk result (λ extra. (sure : List Given) → IsShapeOf sure shape.now → AreThere sure extra.items) }
 {
-    let mut extra = Vec::new(alloc);
+    let mut sides = Vec::new(alloc);
     for i in 0..stays.len() {
-        if !stays[i] {
-            add_sides(shape, &mut extra, &lines[i])?;
+        if !stays[i]
+            && let Line::Sub(x, y) = &lines[i]
+        {
+            sides.push(x.copy()?)?;
+            sides.push(y.copy()?)?;
         }
     }
-    Ok(extra)
+    Ok(sides)
 }
 
-// Adds the sides of a `<=` line that exist.
-fn add_sides(shape: &Shape, extra: &mut Vec<Dtv>, line: &Line) -> Result<(), Memory>
-    ensures { OnOk result ((lines : List Given) → IsShapeOf lines shape.now → AreThere lines extra.old.items →
-        AreThere lines extra.new.items) }
+// Those of the variables that exist by the lines of a shape.
+fn existing(alloc: Global, shape: &Shape, sides: &[Dtv]) -> Result<Vec<Dtv>, Memory>
+    ensures { IfOk result (λ existing. (lines : List Given) → IsShapeOf lines shape.now → AreThere lines existing.items) }
 {
-    match line {
-        Line::Var(_) | Line::Same(_, _) | Line::Low(_, _) | Line::Up(_, _) => Ok(()),
-        Line::Sub(x, y) => {
-            add_side(shape, extra, x)?;
-            add_side(shape, extra, y)
-        }
+    let mut existing = Vec::new(alloc);
+    for x in sides {
+        add_existing(shape, &mut existing, x)?;
     }
+    Ok(existing)
 }
 
 // Adds the variable, if it exists.
-fn add_side(shape: &Shape, extra: &mut Vec<Dtv>, x: &Dtv) -> Result<(), Memory>
-    ensures { OnOk result ((lines : List Given) → IsShapeOf lines shape.now → AreThere lines extra.old.items →
-        AreThere lines extra.new.items) }
+fn add_existing(shape: &Shape, existing: &mut Vec<Dtv>, x: &Dtv) -> Result<(), Memory>
+    ensures { OnOk result ((lines : List Given) → IsShapeOf lines shape.now → AreThere lines existing.old.items →
+        AreThere lines existing.new.items) }
 {
     if shape.node(x).is_some() {
-        extra.push(x.copy()?)?;
+        existing.push(x.copy()?)?;
     }
     Ok(())
 }

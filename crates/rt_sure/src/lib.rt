@@ -4,10 +4,13 @@
 //! variables, which are saturated once, say which variables lie below which, also when lines are left out.
 #![tactic(auto)]
 
+mod describing;
 mod fate;
 mod shapes;
+mod shortening;
 mod ways;
 
 pub use fate::{Fate, fates};
 pub use shapes::shape_of;
+pub use shortening::shortened;
 pub use ways::Ways;

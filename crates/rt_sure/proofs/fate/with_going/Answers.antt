@@ -4,7 +4,7 @@ use Rattle.std.proofs.lemmas.List.{get_or_default}
 use Rattle.std.proofs.lemmas.Option.{slice_get-get_or}
 use Rattle.rt_lines.specs.declared.line.Line.{Line}
 use Rattle.rt_sat.specs.Increments.{Tells}
-use Rattle.rt_sure.specs.Fates.{DoStay}
+use Rattle.rt_sure.specs.Fates.{DerivesAll, DoStay}
 use Rattle.rt_sure.proofs.Fated.{all_go, DoStayTo, gone_here, more_go, more_long, more_same, none_go, told_first, told_next, whole_same}
 use Rattle.rt_sure.proofs.fate.with_going.Goals as goal
 
@@ -13,8 +13,10 @@ loop-i-init c = record {
   each = ap length c.in_ok-fates.ensures.items;
   staying = λ j h. absurd (omega (arith, h));
   going = none_go c.args.lines.now c.args.stays.now c.in_ok-fates.fates.items c.in_ok-fates.ensures.items;
-  told = told_first c.args.lines.now c.args.stays.now c.in_ok-shaped.shaped.items c.in_ok-growing.growing c.in_ok-shaped.ensures
-      (subst (λ (ls : List Line). Tells ls c.in_ok-growing.growing) c.deref-2.ensures.value c.in_ok-growing.ensures.tells);
+  told = told_first c.args.lines.now c.args.stays.now c.in_ok-shaped.shaped.items c.in_ok-short.short.items c.in_ok-growing.growing
+      c.in_ok-shaped.ensures
+      (λ order. subst (λ (ls : List Line). DerivesAll order ls c.in_ok-short.short.items) c.deref.ensures.value (c.in_ok-short.ensures.derived order))
+      (subst (λ (ls : List Line). Tells ls c.in_ok-growing.growing) c.deref-5.ensures.value c.in_ok-growing.ensures.tells);
 }
 
 pub loop-i-preserved : goal.loop-i-preserved
