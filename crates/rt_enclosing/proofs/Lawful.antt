@@ -1,6 +1,5 @@
 -- The laws of the lower and the upper relations.
-use Rattle.std.proofs.Common.{◌≡◌, ◌⊎◌, inl, inr, Bool, true, false, [], ◌∷◌, refl}
-use Rattle.std.specs.Prelude.{IsTrue}
+use Rattle.std.proofs.Common.{◌≡◌, ◌⊎◌, Bool, [], ◌∷◌, refl}
 use Rattle.rt_lines.specs.declared.label.Label.{Label}
 use Rattle.rt_lines.specs.declared.label.Label.TheVariants.{Load, Store}
 use Rattle.rt_lines.specs.declared.label.Variance.{Variance}
@@ -14,9 +13,10 @@ use Rattle.rt_enclosing.specs.Lower.{IsThere, Lower, self, chain, line, meet, me
 use Rattle.rt_enclosing.specs.Lower.{below as lies_below, meets as both_above}
 use Rattle.rt_enclosing.specs.Upper.{IsUpper, HasHub, IsByHubs, Steps, stay, by_line, by_push}
 use Rattle.rt_enclosing.specs.Implicit.{IsAccess, Shown, AreImplicit, ArePushedBehind}
-use Rattle.rt_enclosing.specs.Laws.{Holds, HasLines, LowerLaw, UpperLaw, FewerLaw, HubsLaw, ExactLaw, ImplicitLaw, NeedNoHub}
+use Rattle.rt_enclosing.specs.Laws.{Holds, HasLines, LowerLaw, UpperLaw, FewerLaw, HubsLaw, ExactLaw, ImplicitLaw, TurningLaw, NeedNoHub}
 use Rattle.rt_enclosing.proofs.Lower.{lower_means}
 use Rattle.rt_enclosing.proofs.Upper.{steps_to, is_above}
+use Rattle.rt_enclosing.proofs.Turning.{turning_steps}
 use Rattle.rt_enclosing.proofs.Implicit.{Wide, Joint, wide_upper, wide_lines, bared}
 use Rattle.rt_bridge.proofs.Lawful.{decide}
 
@@ -158,3 +158,8 @@ pub implicit_law : ImplicitLaw
 implicit_law L fewer named implicit below meets pushed are more imp upper behind lines x y p q d =
     bare L fewer named implicit below meets pushed are imp upper behind p.1
     (led L fewer named implicit below meets pushed are imp upper behind more lines p.0 q.0 d)
+
+pub turning_law : TurningLaw
+turning_law L fewer named matters below meets joins pushed are more upper lines x y p q d =
+    turning_steps L fewer (Named named) (Named matters) (Holds below) (Holds meets) (Holds joins) (Holds pushed) upper more are.parents lines
+    (λ z. decide (named z)) are.bases are.sides p q d

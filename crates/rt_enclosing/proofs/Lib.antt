@@ -1,4 +1,5 @@
 pub mod Lower
 pub mod Upper
 pub mod Implicit
+pub mod Turning
 pub mod Lawful

@@ -5,6 +5,7 @@ use Rattle.rt_bridge.specs.Growing.{Var, dot, Given, Fact, S, Der, HasSub}
 use Rattle.rt_bridge.specs.Laws.{Named, AreNamed}
 use Rattle.rt_enclosing.specs.Lower.{Relation, below, meets, Means, Lower}
 use Rattle.rt_enclosing.specs.Implicit.{Shown, AreImplicit, ArePushedBehind}
+use Rattle.rt_enclosing.specs.Turning.{IsTurning}
 use Rattle.rt_enclosing.specs.Upper.{NeedHub, IsUpper, IsByHubs, Steps}
 
 -- the relation of a test
@@ -64,3 +65,12 @@ ImplicitLaw =
     ArePushedBehind L (Shown (Named named) (Named implicit)) (Named implicit) (Holds lies) (Holds may) (Holds pushed) →
     HasLines fewer (Holds lies) → (x y : Var) → Shown (Named named) (Named implicit) x → Shown (Named named) (Named implicit) y →
     Der fewer (S x y) → Steps fewer (Holds pushed) x y
+
+-- the law of fewer lines, of an upper relation that tells common lower variables and common upper ones apart
+abbrev pub TurningLaw : Type 0
+TurningLaw =
+    (L fewer : Given) (named matters : Var → Bool) (lies may_meet may_join pushed : Var → Var → Bool) → AreNamed fewer named →
+    ((f : Fact) → Der fewer f → Der L f) →
+    IsTurning L (Named named) (Named matters) (Holds lies) (Holds may_meet) (Holds may_join) (Holds pushed) →
+    HasLines fewer (Holds lies) →
+    (x y : Var) → Named named x → Named named y → Der fewer (S x y) → Steps fewer (Holds pushed) x y

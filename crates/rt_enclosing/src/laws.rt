@@ -1,5 +1,5 @@
 // The laws of the lower and the upper relations: functions that do nothing, each for the law that it ensures.
-ghost use Rattle.rt_enclosing.specs.Laws.{ExactLaw, FewerLaw, HubsLaw, ImplicitLaw, LowerLaw, UpperLaw};
+ghost use Rattle.rt_enclosing.specs.Laws.{ExactLaw, FewerLaw, HubsLaw, ImplicitLaw, LowerLaw, TurningLaw, UpperLaw};
 
 /// The lower relations say what is derivable: that one variable lies below another, or that some variable lies below both,
 /// or above both.
@@ -32,4 +32,10 @@ pub fn exact()
 /// behind these.
 pub fn implicit()
     ensures { ImplicitLaw }
+{}
+
+/// So it is with an upper relation that tells which variables may have a common lower one, and which a common upper one, where
+/// counts matter.
+pub fn turning()
+    ensures { TurningLaw }
 {}

@@ -1,17 +1,19 @@
 -- How outer arcs are built: nodes with more behind them, arcs with more.
 use Rattle.std.proofs.Common.{◌≡◌, ℕ, zero, suc, ◌<◌, ◌≤◌, inl, inr, Bool, true, List, [], ◌∷◌, ◌++◌, Option, Some, None, length, replicate, sym, ap, subst, ◌∙◌, arith}
-use Rattle.std.specs.Prelude.{slice_get}
+use Rattle.std.specs.Prelude.{slice_get, IfSome}
+use Rattle.rt_outline.specs.declared.frame.Frame.{Frame}
 use Rattle.std.proofs.lemmas.List.{append_assoc}
 use Rattle.rt_lines.specs.declared.label.Label.{Label}
 use Rattle.rt_lines.specs.declared.variable.Dtv.{Dtv}
 use Rattle.rt_lines.specs.declared.line.Line.{Line}
 use Rattle.rt_outline.specs.declared.arc.Arc.{Arc}
-use Rattle.rt_outline.specs.Arcs.{HasArc}
-use Rattle.rt_outline.specs.Built.{AreNamed, AreOuterArcs, HasHubs, IsHubbed}
+use Rattle.rt_outline.specs.Arcs.{HasArc, Leads}
+use Rattle.rt_outline.specs.Built.{AreNamed, AreOuterArcs, HasHubs, IsCrossed, IsHubbed, IsSorted}
+use Rattle.rt_outline.specs.Turning.{AreTurning}
 use Rattle.rt_outline.specs.Frames.{Origins, IsMade, IsClosed, IsPushedMore, IsStepped, AreOriginsOf, AreKept, AreLinesKept, AreMore, HavePointers, IsPointerPair}
 use Rattle.rt_outline.specs.Hubs.{HasAccess, HaveHubs, IsGrownBy}
 use Rattle.rt_outline.specs.Lines.{AreLineArcs}
-use Rattle.rt_outline.proofs.Outer.{outer_of}
+use Rattle.rt_outline.proofs.Outer.{outer_of, outer_turning}
 use Rattle.rt_outline.proofs.Standing.{all_set}
 use Rattle.rt_base.proofs.Lists.{slice_get-front}
 
@@ -97,8 +99,8 @@ built lines known named grown lined pointed last hubbed entered opened all is sa
           stands (all_set stands (length lines) whole) closed
           (pointers_kept last opened all pushed.kept (subst (λ (os : Origins). HavePointers os opened) (sym same_last) pointers))
           (λ n f. subst (λ (os : Origins). HasAccess os n) (sym same) (is.hubbed.accesses n f))
-          (hubs_kept last hubbed all is.classes is.flips (λ v w line c. pushed.kept v w line (kept_opened v w line (kept v w line c)))
-          (subst (λ (os : Origins). HaveHubs os hubbed is.classes is.flips) (sym same) is.hubbed.hubs)) lines_all;
+          lines_all (hubs_kept last hubbed all is.classes is.flips (λ v w line c. pushed.kept v w line (kept_opened v w line (kept v w line c)))
+          (subst (λ (os : Origins). HaveHubs os hubbed is.classes is.flips) (sym same) is.hubbed.hubs));
     }
   where
     same : last ≡ grown
@@ -113,3 +115,26 @@ built lines known named grown lined pointed last hubbed entered opened all is sa
     lines_all =
         lines_kept lines (length lines) known opened all pushed.kept pushed.lines
         (lines_kept lines (length lines) known entered opened kept_opened (pointers_lines lined entered opened only) are_lines)
+
+-- and where arcs tell common lower variables and common upper ones apart
+pub crossed_outer : (lines : List Line) (known : List Dtv) (named : AreNamed lines known) (classes : List (Option ℕ)) (flips marks stands : List Bool) →
+    IsSorted lines known classes flips → stands ≡ replicate (length lines) true → (origins : Origins) (arcs : List (List Arc)) →
+    IsCrossed lines known flips stands origins arcs → AreTurning origins (Leads arcs stands true) classes flips marks (length classes) →
+    AreOuterArcs lines known origins arcs
+crossed_outer lines known named classes flips marks stands sorted whole origins arcs is told = record {
+  nodes = (let h : length is.first ≤ length origins = grown_length is.first origins is.more is.behind in omega (arith, is.are.each, h));
+  lines_all = is.lines_all;
+  outer =
+      outer_turning lines named.0 known named.1 sorted.graph sorted.shape classes flips sorted.classed sorted.flagged is.first origins is.are
+      (grown_made is.first origins is.more is.behind) arcs stands (all_set stands (length lines) whole) is.closed is.pointers is.accesses
+      is.lines_all marks told;
+}
+
+pub crossed_found : (lines : List Line) (known : List Dtv) (named : AreNamed lines known) (classes : List (Option ℕ)) (flips marks stands : List Bool) →
+    IsSorted lines known classes flips → stands ≡ replicate (length lines) true → (found : Option Frame) →
+    IfSome found (λ frame. IsCrossed lines known flips stands frame.origins.items frame.arcs.items) →
+    IfSome found (λ frame. AreTurning frame.origins.items (Leads frame.arcs.items stands true) classes flips marks (length classes)) →
+    IfSome found (λ frame. AreOuterArcs lines known frame.origins.items frame.arcs.items)
+crossed_found lines known named classes flips marks stands sorted whole None is told = tt
+crossed_found lines known named classes flips marks stands sorted whole (Some frame) is told =
+    crossed_outer lines known named classes flips marks stands sorted whole frame.origins.items frame.arcs.items is told

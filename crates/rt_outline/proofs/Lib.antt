@@ -16,7 +16,10 @@ pub mod Leading
 pub mod Naming
 pub mod Outer
 pub mod Built
+pub mod Crossed
 pub mod Gathered
 pub mod Behind
 pub mod Rested
 pub mod Bounded
+pub mod Sided
+pub mod Told

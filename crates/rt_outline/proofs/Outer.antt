@@ -21,7 +21,9 @@ use Rattle.rt_bridge.proofs.Growing.{der, dv-vd, both, q1, q2, q3, q4, q5, s6}
 use Rattle.rt_components.specs.Groups.{Reaches}
 use Rattle.rt_components.specs.Groups.Reaches.{there, onward}
 use Rattle.rt_enclosing.specs.Upper.{NeedHub, IsUpper, Steps, stay, by_line, by_push}
+use Rattle.rt_enclosing.specs.Turning.{AreBehind, IsTurning}
 use Rattle.rt_enclosing.proofs.Upper.{flip_along, steps_to}
+use Rattle.rt_enclosing.proofs.Turning.{turning_steps}
 use Rattle.rt_named.specs.Naming.{named as named_by}
 use Rattle.rt_named.specs.Origins.{no_variable}
 use Rattle.rt_shape.specs.Graphs.{Graph, node_of, step_of}
@@ -34,6 +36,7 @@ use Rattle.rt_outline.specs.Frames.{Origins, IsMade, IsClosed, HavePointers, Are
 use Rattle.rt_outline.specs.Frames.IsPushed.{co, contra}
 use Rattle.rt_outline.specs.Hubs.{HasAccess, HaveHubs, common_of, key_of, key_by, key_from}
 use Rattle.rt_outline.specs.Lines.{IsNumber, AreLineArcs, standing}
+use Rattle.rt_outline.specs.Turning.{AreSplit, AreTold, AreTurning, HaveAbove, HaveBelow, HaveBoth, IsMarked}
 use Rattle.rt_named.specs.Nodes.{AreNodesOf, AreFlipsOf, flips_at}
 use Rattle.rt_outline.proofs.Inner.{distinct}
 use Rattle.rt_outline.proofs.Naming.{is_known, parents, bases, both_sides}
@@ -114,7 +117,7 @@ module _ (lines : List Line) (extra known : List Dtv) (is : known ≡ named_by l
     (first origins : Origins) (are : AreOriginsOf known first) (behind : (n p : ℕ) (l : Label) → IsMade first n p l → IsMade origins n p l)
     (arcs : List (List Arc)) (all : List Bool) (whole : (i : ℕ) → i < length lines → get_or all i false ≡ true) (closed : IsClosed origins arcs all)
     (pointers : HavePointers origins arcs) (accesses : (n : ℕ) → slice_get flips n ≡ Some true → HasAccess origins n)
-    (hubs : HaveHubs origins arcs classes flips) (entered : AreLineArcs lines (length lines) known arcs) where
+    (entered : AreLineArcs lines (length lines) known arcs) where
   abbrev Every : ℕ → ℕ → Type 0
   Every = Leads arcs all true
 
@@ -236,38 +239,180 @@ module _ (lines : List Line) (extra known : List Dtv) (is : known ≡ named_by l
     beside_same x y l m e d (inl f) = subst (λ k. Der L (E (dot x l) (dot y k))) f (q5 l e d)
     beside_same x y l m e d (inr (p, q, f)) = q4 (pointers_same L x l m p q f) (q5 m e (pointer_there L x m q f))
 
-    hub_meets : (x y : Var) (l m : Label) → NeedHub L M x y l m → Meets (dot x l) (dot y m)
-    hub_meets x y l m need =
-        let v : (v : ℕ) × IsNumber known v (dv (dot x l)) = number_of (dv (dot x l)) need.first.0 in
-        let w : (w : ℕ) × IsNumber known w (dv (dot y m)) = number_of (dv (dot y m)) need.second.0 in
-        let p : (p : ℕ) × IsNumber known p (dv x) = number_of (dv x) (parents L extra known is x l need.first.0) in
-        let q : (q : ℕ) × IsNumber known q (dv y) = number_of (dv y) (parents L extra known is y m need.second.0) in
-        let c : (c : ℕ) × (node_of graph (dv x) ≡ Some c) = node_there L graph shape x (both L need.same).0 in
-        let d : (d : ℕ) × (node_of graph (dv y) ≡ Some d) = node_there L graph shape y (both L need.same).1 in
-        let same : c.0 ≡ d.0 = (shape.one order (dv x) (dv y) c.0 d.0 c.1 d.1).1 need.same.derives in
-        let k : key_of origins classes flips v.0 ≡ Some (c.0, common_of (flips_at graph (Some c.0)) l) = key_at x l v.0 p.0 c.0 p.1 v.1 c.1 in
-        let j : key_of origins classes flips w.0 ≡ Some (c.0, common_of (flips_at graph (Some c.0)) l) =
-        key_at y m w.0 q.0 c.0 q.1 w.1 (d.1 ∙ ap Some (sym same)) ∙ ap (λ (k : Label). Some (c.0, k)) (sym (beside_one x l m c.0 c.1 need.beside)) in
-        let flip : Flip L (dot y m) = flip_along L (beside_same x y l m need.same need.first.1 need.beside) need.flips in
-        let a = hubs.2 v.0 (flip_at (dot x l) v.0 v.1 need.flips) (c.0, common_of (flips_at graph (Some c.0)) l) k in
-        let b = hubs.2 w.0 (flip_at (dot y m) w.0 w.1 flip) (c.0, common_of (flips_at graph (Some c.0)) l) j in
-        let g : Some a.0 ≡ Some b.0 = sym a.1 ∙ b.1 in
-        let h : a.0 ≡ b.0 = cc in
-        (v.0, w.0, v.1, w.1, (a.0, hubs.1 (c.0, common_of (flips_at graph (Some c.0)) l) a.0 a.1, onward (None, a.2, refl) there, onward (None, subst (λ n. HasArc arcs n w.0 None) (sym h) b.2, refl) there))
+    -- where hubs stand for all that may have a common lower variable
+    module _ (hubs : HaveHubs origins arcs classes flips) where
+      hub_meets : (x y : Var) (l m : Label) → NeedHub L M x y l m → Meets (dot x l) (dot y m)
+      hub_meets x y l m need =
+          let v : (v : ℕ) × IsNumber known v (dv (dot x l)) = number_of (dv (dot x l)) need.first.0 in
+          let w : (w : ℕ) × IsNumber known w (dv (dot y m)) = number_of (dv (dot y m)) need.second.0 in
+          let p : (p : ℕ) × IsNumber known p (dv x) = number_of (dv x) (parents L extra known is x l need.first.0) in
+          let q : (q : ℕ) × IsNumber known q (dv y) = number_of (dv y) (parents L extra known is y m need.second.0) in
+          let c : (c : ℕ) × (node_of graph (dv x) ≡ Some c) = node_there L graph shape x (both L need.same).0 in
+          let d : (d : ℕ) × (node_of graph (dv y) ≡ Some d) = node_there L graph shape y (both L need.same).1 in
+          let same : c.0 ≡ d.0 = (shape.one order (dv x) (dv y) c.0 d.0 c.1 d.1).1 need.same.derives in
+          let k : key_of origins classes flips v.0 ≡ Some (c.0, common_of (flips_at graph (Some c.0)) l) = key_at x l v.0 p.0 c.0 p.1 v.1 c.1 in
+          let j : key_of origins classes flips w.0 ≡ Some (c.0, common_of (flips_at graph (Some c.0)) l) =
+          key_at y m w.0 q.0 c.0 q.1 w.1 (d.1 ∙ ap Some (sym same)) ∙ ap (λ (k : Label). Some (c.0, k)) (sym (beside_one x l m c.0 c.1 need.beside)) in
+          let flip : Flip L (dot y m) = flip_along L (beside_same x y l m need.same need.first.1 need.beside) need.flips in
+          let a = hubs.2 v.0 (flip_at (dot x l) v.0 v.1 need.flips) (c.0, common_of (flips_at graph (Some c.0)) l) k in
+          let b = hubs.2 w.0 (flip_at (dot y m) w.0 w.1 flip) (c.0, common_of (flips_at graph (Some c.0)) l) j in
+          let g : Some a.0 ≡ Some b.0 = sym a.1 ∙ b.1 in
+          let h : a.0 ≡ b.0 = cc in
+          (v.0, w.0, v.1, w.1, (a.0, hubs.1 (c.0, common_of (flips_at graph (Some c.0)) l) a.0 a.1, onward (None, a.2, refl) there, onward (None, subst (λ n. HasArc arcs n w.0 None) (sym h) b.2, refl) there))
 
-    upper : IsUpper L M (Between Every) Meets (Between Pushed)
-    upper = record {
-      self = λ {x} t. (let v : (v : ℕ) × IsNumber known v (dv x) = number_of (dv x) t.0 in (v.0, v.0, v.1, v.1, there));
-      chain = λ {x} {y} {z} b c. chained x y z b c;
-      stays = λ {x} {y} b. (b.0, b.1, b.2, b.3, pushed_ways all b.4);
-      co = λ {x} {y} l s t u e b. longer_co x y l s t.0 u.0 b;
-      contra = λ {x} {y} l s t u e b. longer_contra x y l s t.0 u.0 b;
-      pointer = λ {x} {y} t u f e b. over_hub x y t.0 u.0 b;
-      alone = λ {x} t f. alone_meets x t.0 f;
-      turned = λ {x} {y} b. turned_meets x y b;
-      onward = λ {x} {y} {z} b c. onward_meets x y z b c;
-      hubs = λ {x} {y} {l} {m} n. hub_meets x y l m n;
-    }
+      upper : IsUpper L M (Between Every) Meets (Between Pushed)
+      upper = record {
+        self = λ {x} t. (let v : (v : ℕ) × IsNumber known v (dv x) = number_of (dv x) t.0 in (v.0, v.0, v.1, v.1, there));
+        chain = λ {x} {y} {z} b c. chained x y z b c;
+        stays = λ {x} {y} b. (b.0, b.1, b.2, b.3, pushed_ways all b.4);
+        co = λ {x} {y} l s t u e b. longer_co x y l s t.0 u.0 b;
+        contra = λ {x} {y} l s t u e b. longer_contra x y l s t.0 u.0 b;
+        pointer = λ {x} {y} t u f e b. over_hub x y t.0 u.0 b;
+        alone = λ {x} t f. alone_meets x t.0 f;
+        turned = λ {x} {y} b. turned_meets x y b;
+        onward = λ {x} {y} {z} b c. onward_meets x y z b c;
+        hubs = λ {x} {y} {l} {m} n. hub_meets x y l m n;
+      }
+
+    -- where nodes tell which variables have a common lower variable, and which a common upper one
+    module _ (marks : List Bool) (told : AreTurning origins Every classes flips marks (length classes)) where
+      abbrev Matters : Var → Type 0
+      Matters x = (c : ℕ) × (node_of graph (dv x) ≡ Some c) × (get_or marks c false ≡ true)
+
+      abbrev MayMeet : Var → Var → Type 0
+      MayMeet x y = (v : ℕ) × (w : ℕ) × IsNumber known v (dv x) × IsNumber known w (dv y) × HaveBelow origins Every (get_or flips v false) v w
+
+      abbrev MayJoin : Var → Var → Type 0
+      MayJoin x y = (v : ℕ) × (w : ℕ) × IsNumber known v (dv x) × IsNumber known w (dv y) × HaveAbove Every v w
+
+      small : (x : Var) (v : ℕ) → IsNumber known v (dv x) → v < length classes
+      small x v h = let s : v < length known = slice_get_within known v (dv x) h in omega (arith, s, classed.each)
+
+      marked_at : (x : Var) (v : ℕ) → IsNumber known v (dv x) → Matters x → IsMarked classes marks v
+      marked_at x v h (c, e, m) = (c, class_at (dv x) v h ∙ e, m)
+
+      matters_at : (x : Var) (v : ℕ) → IsNumber known v (dv x) → IsMarked classes marks v → Matters x
+      matters_at x v h (c, e, m) = (c, sym (class_at (dv x) v h) ∙ e, m)
+
+      flag_of : (x : Var) (v : ℕ) → IsNumber known v (dv x) → Flip L x → get_or flips v false ≡ true
+      flag_of x v h f = flag_at (dv x) v h ∙ flips_there L graph shape x f
+
+      -- variables of one shape have one node
+      node_same : (x y : Var) (c : ℕ) → Der L (E x y) → node_of graph (dv x) ≡ Some c → node_of graph (dv y) ≡ Some c
+      node_same x y c e f =
+          let d : (d : ℕ) × (node_of graph (dv y) ≡ Some d) = node_there L graph shape y (both L e).1 in
+          let same : c ≡ d.0 = (shape.one order (dv x) (dv y) c d.0 f d.1).1 e.derives in
+          d.1 ∙ ap Some (sym same)
+
+      flags_same : (x y : Var) (v w : ℕ) → IsNumber known v (dv x) → IsNumber known w (dv y) → Der L (E x y) → get_or flips w false ≡ get_or flips v false
+      flags_same x y v w h k e =
+          let c : (c : ℕ) × (node_of graph (dv x) ≡ Some c) = node_there L graph shape x (both L e).0 in
+          flag_at (dv y) w k ∙ ap (flips_at graph) (node_same x y c.0 e c.1 ∙ sym c.1) ∙ sym (flag_at (dv x) v h)
+
+      there_matters : (x : Var) → M x → Flip L x → Matters x
+      there_matters x m f =
+          let v : (v : ℕ) × IsNumber known v (dv x) = number_of (dv x) m in
+          matters_at x v.0 v.1 ((told.marked v.0 (small x v.0 v.1)).through (flag_of x v.0 v.1 f))
+
+      letter_matters : (x : Var) (l : Label) → M (dot x l) → Matters (dot x l) → Matters x
+      letter_matters x l m w =
+          let v : (v : ℕ) × IsNumber known v (dv (dot x l)) = number_of (dv (dot x l)) m in
+          let p : (p : ℕ) × IsNumber known p (dv x) = number_of (dv x) (parents L extra known is x l m) in
+          matters_at x p.0 p.1
+          ((told.marked v.0 (small (dot x l) v.0 v.1)).letters p.0 l (made v.0 p.0 (dv x) l p.1 v.1) (marked_at (dot x l) v.0 v.1 w))
+
+      self_meets : (x : Var) → M x → MayMeet x x
+      self_meets x m =
+          let v : (v : ℕ) × IsNumber known v (dv x) = number_of (dv x) m in
+          let s : v.0 < length known = slice_get_within known v.0 (dv x) v.1 in (
+            v.0,
+            v.0,
+            v.1,
+            v.1,
+            (v.0, λ e. accesses v.0 (slice_get-get_or flips v.0 false (omega (arith, s, classed.each, flagged.each)) ∙ ap Some e), there, there),
+          )
+
+      self_joins : (x : Var) → M x → MayJoin x x
+      self_joins x m = let v : (v : ℕ) × IsNumber known v (dv x) = number_of (dv x) m in (v.0, v.0, v.1, v.1, (v.0, there, there))
+
+      other_meets : (x y : Var) → Der L (E x y) → MayMeet x y → MayMeet y x
+      other_meets x y e (v, w, h, k, (n, a, r, s)) = (w, v, k, h, (n, λ f. a (sym (flags_same x y v w h k e) ∙ f), s, r))
+
+      other_joins : (x y : Var) → MayJoin x y → MayJoin y x
+      other_joins x y (v, w, h, k, (n, r, s)) = (w, v, k, h, (n, s, r))
+
+      higher_meets : (x y z : Var) → MayMeet x y → Between Every y z → MayMeet x z
+      higher_meets x y z (v, w, h, k, (n, a, r, s)) b =
+          (v, b.1, h, b.3, (n, a, r, reaches_join Every (subst (Reaches Every n) (one w b.0 (dv y) k b.2) s) b.4))
+
+      lower_joins : (x y z : Var) → MayJoin x y → Between Every z y → MayJoin x z
+      lower_joins x y z (v, w, h, k, (n, r, s)) b =
+          (v, b.0, h, b.2, (n, r, reaches_join Every b.4 (subst (λ u. Reaches Every u n) (one w b.1 (dv y) k b.3) s)))
+
+      -- what is told of variables behind letters
+      told_of : (x y : Var) (l m : Label) → AreBehind L M Matters x y l m → (v w p q : ℕ) → IsNumber known v (dv (dot x l)) →
+          IsNumber known w (dv (dot y m)) → IsNumber known p (dv x) → IsNumber known q (dv y) → AreTold origins Every flips p q l m v w
+      told_of x y l m b v w p q h k i j =
+          let c : (c : ℕ) × (node_of graph (dv x) ≡ Some c) = node_there L graph shape x (both L b.same).0 in
+          told.told v (small (dot x l) v h) p c.0 l (made v p (dv x) l i h) (marked_at (dot x l) v h b.matters) (class_at (dv x) p i ∙ c.1)
+          w q m (small (dot y m) w k) (made w q (dv y) m j k) (class_at (dv y) q j ∙ node_same x y c.0 b.same c.1)
+
+      weaker : (a : Bool) (p q : ℕ) → HaveBelow origins Every a p q → HaveBelow origins Every false p q
+      weaker a p q (n, f, r, s) = (n, λ e. absurd (cc), r, s)
+
+      behind_meets : (x y : Var) (l : Label) → AreBehind L M Matters x y l l → (p q : ℕ) → IsNumber known p (dv x) → IsNumber known q (dv y) →
+          ((v w : ℕ) → AreSplit origins Every (get_or flips v false) (label_variance l) p q v w → HaveBelow origins Every (get_or flips v false) v w) →
+          MayMeet (dot x l) (dot y l)
+      behind_meets x y l b p q i j f =
+          let v : (v : ℕ) × IsNumber known v (dv (dot x l)) = number_of (dv (dot x l)) b.first.0 in
+          let w : (w : ℕ) × IsNumber known w (dv (dot y l)) = number_of (dv (dot y l)) b.second.0 in
+          (v.0, w.0, v.1, w.1, f v.0 w.0 ((told_of x y l l b v.0 w.0 p q v.1 w.1 i j).same refl))
+
+      behind_joins : (x y : Var) (l : Label) → AreBehind L M Matters x y l l → (p q : ℕ) → IsNumber known p (dv x) → IsNumber known q (dv y) →
+          ((v w : ℕ) → AreSplit origins Every (get_or flips v false) (label_variance l) p q v w → HaveAbove Every v w) →
+          MayJoin (dot x l) (dot y l)
+      behind_joins x y l b p q i j f =
+          let v : (v : ℕ) × IsNumber known v (dv (dot x l)) = number_of (dv (dot x l)) b.first.0 in
+          let w : (w : ℕ) × IsNumber known w (dv (dot y l)) = number_of (dv (dot y l)) b.second.0 in
+          (v.0, w.0, v.1, w.1, f v.0 w.0 ((told_of x y l l b v.0 w.0 p q v.1 w.1 i j).same refl))
+
+      both_of : (x y : Var) (l m : Label) → IsPointer l → IsPointer m → Flip L x → AreBehind L M Matters x y l m →
+          (v : ℕ) × (w : ℕ) × IsNumber known v (dv (dot x l)) × IsNumber known w (dv (dot y m)) × HaveBoth origins Every (get_or flips v false) v w
+      both_of x y l m i j f b =
+          let v : (v : ℕ) × IsNumber known v (dv (dot x l)) = number_of (dv (dot x l)) b.first.0 in
+          let w : (w : ℕ) × IsNumber known w (dv (dot y m)) = number_of (dv (dot y m)) b.second.0 in
+          let p : (p : ℕ) × IsNumber known p (dv x) = number_of (dv x) (parents L extra known is x l b.first.0) in
+          let q : (q : ℕ) × IsNumber known q (dv y) = number_of (dv y) (parents L extra known is y m b.second.0) in
+          (v.0, w.0, v.1, w.1, (told_of x y l m b v.0 w.0 p.0 q.0 v.1 w.1 p.1 q.1).pointers i j (flag_of x p.0 p.1 f))
+
+      over_meet : (x y : Var) → M (dot x Store) → M (dot y Load) → Flip L x → MayMeet x y → Between Pushed (dot x Store) (dot y Load)
+      over_meet x y m n f (v, w, h, k, (u, a, r, s)) = over_hub x y m n (v, w, h, k, (u, a (flag_of x v h f), r, s))
+
+      turning : IsTurning L M Matters (Between Every) MayMeet MayJoin (Between Pushed)
+      turning = record {
+        self = λ {x} t. (let v : (v : ℕ) × IsNumber known v (dv x) = number_of (dv x) t.0 in (v.0, v.0, v.1, v.1, there));
+        chain = λ {x} {y} {z} b c. chained x y z b c;
+        stays = λ {x} {y} b. (b.0, b.1, b.2, b.3, pushed_ways all b.4);
+        co = λ {x} {y} l s t u e b. longer_co x y l s t.0 u.0 b;
+        contra = λ {x} {y} l s t u e b. longer_contra x y l s t.0 u.0 b;
+        pointer = λ {x} {y} t u f e b. over_meet x y t.0 u.0 f b;
+        flips = λ {x} t f. there_matters x t.0 f;
+        shape = λ {x} {y} e w. (w.0, node_same x y w.0 e w.1, w.2);
+        letter = λ {x} l t w. letter_matters x l t.0 w;
+        alone_meets = λ {x} t w. self_meets x t.0;
+        turned_meets = λ {x} {y} e b. other_meets x y e b;
+        onward_meets = λ {x} {y} {z} b c. higher_meets x y z b c;
+        alone_joins = λ {x} t w. self_joins x t.0;
+        turned_joins = λ {x} {y} b. other_joins x y b;
+        onward_joins = λ {x} {y} {z} b c. lower_joins x y z b c;
+        meets_co = λ {x} {y} l s b m. behind_meets x y l b m.0 m.1 m.2 m.3 (λ v w t. t.co_below s (weaker (get_or flips m.0 false) m.0 m.1 m.4));
+        meets_contra = λ {x} {y} l s b m. behind_meets x y l b m.0 m.1 m.2 m.3 (λ v w t. t.contra_below s m.4);
+        joins_co = λ {x} {y} l s b m. behind_joins x y l b m.0 m.1 m.2 m.3 (λ v w t. t.co_above s m.4);
+        joins_contra =
+            λ {x} {y} l s b m. behind_joins x y l b m.0 m.1 m.2 m.3 (λ v w t. t.contra_above s (weaker (get_or flips m.0 false) m.0 m.1 m.4));
+        meets_pointer = λ {x} {y} {l} {m} i j f b. (let t = both_of x y l m i j f b in (t.0, t.1, t.2, t.3, t.4.below));
+        joins_pointer = λ {x} {y} {l} {m} i j f b. (let t = both_of x y l m i j f b in (t.0, t.1, t.2, t.3, t.4.above));
+      }
 
     module _ (stands : List Bool) where
       abbrev some : List Line
@@ -306,21 +451,32 @@ module _ (lines : List Line) (extra known : List Dtv) (is : known ≡ named_by l
       steps_reach (by_push {x} {y} b s) v w h k =
           reaches_join Open (subst (λ n. Reaches Open n b.1) (one b.0 v (dv x) b.2 h) (pushed_ways stands b.4)) (steps_reach s b.1 w b.3 k)
 
-      pub derived_led : (x y : Var) (v w : ℕ) → IsNumber known v (dv x) → IsNumber known w (dv y) → Der fewer (S x y) → Reaches Open v w
-      derived_led x y v w h k d = steps_reach steps v w h k
+      -- steps lead wherever the lines that stand say that a variable lies below another
+      abbrev AreLedTo : Type 0
+      AreLedTo = (x y : Var) → M x → M y → Der fewer (S x y) → Steps fewer (Between Pushed) x y
+
+      derived_led : AreLedTo → (x y : Var) (v w : ℕ) → IsNumber known v (dv x) → IsNumber known w (dv y) → Der fewer (S x y) →
+          Reaches Open v w
+      derived_led steps x y v w h k d = steps_reach (steps x y (listed x v h) (listed y w k) d) v w h k
         where
           listed : (x : Var) (v : ℕ) → IsNumber known v (dv x) → M x
           listed x v h = (v, slice_get_within known v (dv x) h, get_or_from_slice_get known v (dv x) (dv x) h)
 
-          steps : Steps fewer (Between Pushed) x y
-          steps = steps_to L fewer M (Between Every) Meets (Between Pushed) upper more (parents L extra known is) line_every
-              (λ z. is_known known (dv z)) (λ b e. bases L extra known is b (more _ e)) (λ u z c. both_sides L extra known is u z (some_line _ c))
-              (listed x v h) (listed y w k) d
+      by_hubs : HaveHubs origins arcs classes flips → AreLedTo
+      by_hubs hubs x y p q d =
+          steps_to L fewer M (Between Every) Meets (Between Pushed) (upper hubs) more (parents L extra known is) line_every
+          (λ z. is_known known (dv z)) (λ b e. bases L extra known is b (more _ e)) (λ u z c. both_sides L extra known is u z (some_line _ c)) p q d
+
+      by_turns : (marks : List Bool) → AreTurning origins Every classes flips marks (length classes) → AreLedTo
+      by_turns marks told x y p q d =
+          turning_steps L fewer M (Matters marks told) (Between Every) (MayMeet marks told) (MayJoin marks told) (Between Pushed)
+          (turning marks told) more (parents L extra known is) line_every
+          (λ z. is_known known (dv z)) (λ b e. bases L extra known is b (more _ e)) (λ u z c. both_sides L extra known is u z (some_line _ c)) p q d
 
   -- and so they are outer arcs
-  pub outer_of : IsOuter lines known arcs
-  outer_of order stands v w h k d =
-      derived_led order stands (vd x) (vd y) v w (number v h) (number w k)
+  outer_by : ((order : Below) (stands : List Bool) → AreLedTo order stands) → IsOuter lines known arcs
+  outer_by steps order stands v w h k d =
+      derived_led order stands (steps order stands) (vd x) (vd y) v w (number v h) (number w k)
       (der (fewer order stands) (S (vd x) (vd y)) (subst (λ z. Derivable order (standing lines stands) (Sub z (dv (vd y)))) (sym (dv-vd x)) (subst (λ z. Derivable order (standing lines stands) (Sub x z)) (sym (dv-vd y)) d)))
     where
       x : Dtv
@@ -331,3 +487,9 @@ module _ (lines : List Line) (extra known : List Dtv) (is : known ≡ named_by l
 
       number : (n : ℕ) → n < length known → IsNumber known n (dv (vd (variable_at known n)))
       number n h = slice_get-get_or known n no_variable h ∙ ap Some (sym (dv-vd (variable_at known n)))
+
+  pub outer_of : HaveHubs origins arcs classes flips → IsOuter lines known arcs
+  outer_of hubs = outer_by (λ order stands. by_hubs order stands hubs)
+
+  pub outer_turning : (marks : List Bool) → AreTurning origins (Leads arcs all true) classes flips marks (length classes) → IsOuter lines known arcs
+  outer_turning marks told = outer_by (λ order stands. by_turns order stands marks told)

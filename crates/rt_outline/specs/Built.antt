@@ -9,7 +9,7 @@ use Rattle.rt_shape.specs.Shapes.{IsShapeOf}
 use Rattle.rt_outline.specs.declared.arc.Arc.{Arc}
 use Rattle.rt_outline.specs.Arcs.{HasArc}
 use Rattle.rt_outline.specs.Enclosing.{IsOuter}
-use Rattle.rt_outline.specs.Frames.{Origins, AreOriginsOf}
+use Rattle.rt_outline.specs.Frames.{Origins, AreOriginsOf, HavePointers, IsClosed}
 use Rattle.rt_outline.specs.Hubs.{HasAccess, HaveHubs}
 use Rattle.rt_outline.specs.Lines.{AreLineArcs}
 
@@ -44,3 +44,22 @@ pub record AreOuterArcs (lines : List Line) (named : List Dtv) (origins : Origin
   pub nodes : length named ≤ length origins
   pub lines_all : AreLineArcs lines (length lines) named arcs
   pub outer : IsOuter lines named arcs
+
+-- arcs of lines and pushed ones, closed, with nodes of the variables first, a load and a store of each that can be read and written through,
+-- and whatever hubs
+pub record IsCrossed (lines : List Line) (named : List Dtv) (flips stands : List Bool) (origins : Origins) (arcs : List (List Arc)) : Type 0 where
+  pub first : Origins
+  pub more : Origins
+  pub are : AreOriginsOf named first
+  pub behind : origins ≡ first ++ more
+  pub accesses : (n : ℕ) → slice_get flips n ≡ Some true → HasAccess origins n
+  pub lines_all : AreLineArcs lines (length lines) named arcs
+  pub pointers : HavePointers origins arcs
+  pub closed : IsClosed origins arcs stands
+
+-- classes of the variables are nodes of the lines' shape, and flags say which can be read and written through
+pub record IsSorted (lines : List Line) (named : List Dtv) (classes : List (Option ℕ)) (flips : List Bool) : Type 0 where
+  pub graph : Graph
+  pub shape : IsShapeOf lines graph
+  pub classed : AreNodesOf graph named classes
+  pub flagged : AreFlipsOf graph classes flips

@@ -3,3 +3,4 @@ pub mod Found
 pub mod Sweeps
 pub mod Resting
 pub mod Bounds
+pub mod Sides

@@ -7,4 +7,5 @@ pub mod Together
 pub mod Equal
 pub mod Hubs
 pub mod Accesses
+pub mod Turning
 pub mod Inside

@@ -30,7 +30,7 @@ pub(crate) fn enter_accesses(alloc: Global, frame: &mut Frame, flips: &[bool]) -
 }
 
 // Adds load and store of a node.
-fn enter_access(alloc: Global, frame: &mut Frame, node: u32) -> Result<(), Memory>
+pub(crate) fn enter_access(alloc: Global, frame: &mut Frame, node: u32) -> Result<(), Memory>
     requires frame { IsFrame frame.old.origins.items frame.old.steps.entries frame.old.arcs.items frame.old.back.items }
     requires node { node < length frame.old.origins.items }
     ensures frame { OnOk result (IsFrame frame.new.origins.items frame.new.steps.entries frame.new.arcs.items frame.new.back.items) }

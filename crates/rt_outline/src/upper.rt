@@ -1,5 +1,5 @@
 // Outer arcs.
-ghost use Rattle.std.specs.Prelude.{◌≡◌, ◌∷◌, ◌<◌, [], All, Contains, IfOk, length};
+ghost use Rattle.std.specs.Prelude.{◌≡◌, ◌∷◌, ◌<◌, [], All, Contains, IfOk, IfSome, length};
 ghost use Rattle.rt_lines.specs.declared.variable.Dtv.{Dtv as Variable};
 ghost use Rattle.rt_lines.specs.Lines.{HasConstantsBelow};
 ghost use Rattle.rt_lines.specs.Orders.{Below};
@@ -15,6 +15,7 @@ use crate::bounds::{Bound, above, below, lows, ups};
 use crate::classes::classes;
 use crate::closing::close;
 use crate::confining::confined;
+use crate::crossing::crossed;
 use crate::entering::{enter_lines, enter_pointers, numbers};
 use crate::frame::Frame;
 use crate::grouping::Classes;
@@ -68,6 +69,38 @@ impl Upper {
     {
         let named = Named::of(alloc, lines, extra)?;
         let frame = framed(alloc, lines, &named)?;
+        let upper = Upper::with_frame(alloc, lines, named, frame)?;
+        Ok(upper)
+    }
+
+    /// The same, but that arcs lead to fewer variables: hubs tell which of them may have a common lower one. It takes longer. None,
+    /// where no such hubs were found. The error is out of memory.
+    pub fn narrow(alloc: Global, lines: &[Line], extra: &[Dtv]) -> Result<Option<Upper>, Memory>
+        ensures { IfOk result (λ found. IfSome found (λ upper.
+            upper ≡ record { lines = lines.now; named = named lines.now extra.now })) }
+    {
+        let named = Named::of(alloc, lines, extra)?;
+        match crossed(alloc, lines, &named)? {
+            Some(frame) => {
+                let upper = Upper::with_frame(alloc, lines, named, frame)?;
+                Ok(Some(upper))
+            }
+            None => Ok(None),
+        }
+    }
+
+    // The arcs of a frame of the lines, with their bounds.
+    fn with_frame(
+        alloc: Global,
+        lines: &[Line],
+        named: Named,
+        frame: Frame,
+    ) -> Result<Upper, Memory>
+        requires named { AreNamed lines.now named }
+        requires frame { IsFrame frame.origins.items frame.steps.entries frame.arcs.items frame.back.items }
+        requires outer { AreOuterArcs lines.now named frame.origins.items frame.arcs.items }
+        ensures { IfOk result (λ upper. upper ≡ record { lines = lines.now; named = named }) }
+    {
         let lows = lows(alloc, &named, lines)?;
         let ups = ups(alloc, &named, lines)?;
         let lines = copied(alloc, lines)?;

@@ -1,5 +1,6 @@
 -- Arcs from outside of the lines that are left.
-use Rattle.std.proofs.Common.{◌≡◌, Bool, true, List, [], ◌++◌, Contains, length, replicate, sym, ap, subst, ◌∙◌}
+use Rattle.std.proofs.Common.{◌≡◌, Bool, true, List, [], ◌++◌, Contains, Option, Some, None, length, replicate, sym, ap, subst, ◌∙◌}
+use Rattle.std.specs.Prelude.{IfSome}
 use Rattle.rt_lines.specs.declared.variable.Dtv.{Dtv}
 use Rattle.rt_lines.specs.declared.line.Line.{Line}
 use Rattle.rt_lines.specs.Sides.{sides as sides_of}
@@ -19,6 +20,13 @@ upper_of lines line none sides given outer start e same is = record {
   line_sides = λ x h. extra_named lines given outer.named (ap (λ (l : Lined). l.named) is) x
       (subst (λ xs. Contains xs x) (sym (same ∙ e ∙ ap (λ xs. xs ++ sides_of line) start)) (Contains-sides line x h));
 }
+
+-- if there are such arcs
+pub upper_found : (lines : List Line) (line : Line) (none sides given : List Dtv) (found : Option Lined) → none ≡ [] → sides ≡ none ++ sides_of line →
+    given ≡ sides → IfSome found (λ outer. outer ≡ record { lines = lines; named = named_by lines given }) →
+    IfSome found (IsUpperWith lines line)
+upper_found lines line none sides given None start e same is = tt
+upper_found lines line none sides given (Some outer) start e same is = upper_of lines line none sides given outer start e same is
 
 -- all lines stand
 pub all_stand : (left : List Line) (line : Line) (flags given : List Bool) (outer : Lined) → flags ≡ replicate (length left) true →

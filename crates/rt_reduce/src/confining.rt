@@ -15,7 +15,7 @@ use rt_sure::{shape_of, shortened};
 use std::alloc::Global;
 
 // Of so few lines all are saturated as soon.
-const FEW: usize = 1000;
+pub(crate) const FEW: usize = 1000;
 
 // Along how many lines what may have a common lower variable is looked for, where that is worth while.
 const FAR: u8 = 6;

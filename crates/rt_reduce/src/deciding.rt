@@ -10,7 +10,7 @@ ghost use Rattle.rt_outline.specs.Lines.{standing};
 ghost use Rattle.rt_witness.specs.Witnesses.{IsLeft, IsWitnesses};
 ghost use Rattle.rt_reduce.specs.Inside.Deciding.{IsAskable, IsInnerFor, IsUpperWith, IsWaysFor, Tells};
 
-use crate::confining::told_confined;
+use crate::confining::{FEW, told_confined};
 use crate::derivable::derives_line;
 use crate::early::{decided, is_told};
 use crate::merging::push_sides;
@@ -93,8 +93,43 @@ fn told_alone(alloc: Global, left: &[Line], order: &Order, line: &Line) -> Resul
     ensures { IfOk result (Tells order.now left.now line.now) }
 {
     let outer = upper_with(alloc, left, line)?;
+    let led = told_of_all(alloc, &outer, left, order, line)?;
+    match led {
+        Led::Yes | Led::No => Ok(led),
+        Led::Open => told_narrow(alloc, left, order, line),
+    }
+}
+
+// What narrower arcs say of a line, if there are so many lines that it's worth while.
+fn told_narrow(alloc: Global, left: &[Line], order: &Order, line: &Line) -> Result<Led, Memory>
+    requires constants { All (HasConstantsBelow order.now.count) left.now }
+    requires constant { HasConstantsBelow order.now.count line.now }
+    ensures { IfOk result (Tells order.now left.now line.now) }
+{
+    if left.len() < FEW {
+        return Ok(Led::Open);
+    }
+    match narrow_with(alloc, left, line)? {
+        Some(outer) => told_of_all(alloc, &outer, left, order, line),
+        None => Ok(Led::Open),
+    }
+}
+
+// What arcs from outside of lines say of a line, where all of these stand.
+fn told_of_all(
+    alloc: Global,
+    outer: &Upper,
+    left: &[Line],
+    order: &Order,
+    line: &Line,
+) -> Result<Led, Memory>
+    requires outer { IsUpperWith left.now line.now outer.now }
+    requires constants { All (HasConstantsBelow order.now.count) left.now }
+    requires constant { HasConstantsBelow order.now.count line.now }
+    ensures { IfOk result (Tells order.now left.now line.now) }
+{
     let stands = vec![in alloc; true; left.len()]?;
-    let led = told_by(alloc, &outer, &stands, order, line)?;
+    let led = told_by(alloc, outer, &stands, order, line)?;
     Ok(led)
 }
 
@@ -105,6 +140,16 @@ fn upper_with(alloc: Global, lines: &[Line], line: &Line) -> Result<Upper, Memor
     let mut sides = Vec::new(alloc);
     push_sides(line, &mut sides)?;
     let outer = Upper::of(alloc, lines, &sides)?;
+    Ok(outer)
+}
+
+// The same, but that the arcs lead to fewer, where such were found.
+fn narrow_with(alloc: Global, lines: &[Line], line: &Line) -> Result<Option<Upper>, Memory>
+    ensures { IfOk result (λ found. IfSome found (IsUpperWith lines.now line.now)) }
+{
+    let mut sides = Vec::new(alloc);
+    push_sides(line, &mut sides)?;
+    let outer = Upper::narrow(alloc, lines, &sides)?;
     Ok(outer)
 }
 

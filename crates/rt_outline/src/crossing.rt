@@ -1,0 +1,191 @@
+// Arcs that tell common lower nodes and common upper ones apart.
+ghost use Rattle.std.specs.Prelude.{◌≡◌, ◌<◌, true, IfOk, IfSome, OnOk, length};
+ghost use Rattle.rt_outline.specs.Arcs.{Leads};
+ghost use Rattle.rt_outline.specs.Built.{AreNamed, AreOuterArcs, IsCrossed, IsSorted};
+ghost use Rattle.rt_outline.specs.Frames.{AreDistinct, IsFrame};
+ghost use Rattle.rt_outline.specs.Hubs.{IsGrownBy};
+ghost use Rattle.rt_outline.specs.Turning.{AreTurning};
+
+use crate::arc::Arc;
+use crate::closing::close;
+use crate::entering::{enter_lines, enter_pointers};
+use crate::frame::Frame;
+use crate::hubs::{enter_access, enter_accesses};
+use crate::meeting::{Hub, first_hubs, widen};
+use crate::sorting::Sorts;
+use crate::turning::are_turning;
+use rt_base::Memory;
+use rt_lines::Line;
+use rt_named::Named;
+use rt_named::nodes::{flips, nodes};
+use std::alloc::Global;
+
+// How often hubs are added at most.
+const ROUNDS: usize = 8;
+
+// Nodes of the variables and of hubs, with the arcs of the lines and of hubs, closed under what is pushed from ways of them, if
+// hubs were found that tell common lower nodes and common upper ones apart.
+pub(crate) fn crossed(alloc: Global, lines: &[Line], named: &Named) -> Result<Option<Frame>, Memory>
+    requires { AreNamed lines.now named.now }
+    ensures frame { IfOk result (λ found. IfSome found (λ frame.
+        IsFrame frame.origins.items frame.steps.entries frame.arcs.items frame.back.items)) }
+    ensures outer { IfOk result (λ found. IfSome found (λ frame.
+        AreOuterArcs lines.now named.now frame.origins.items frame.arcs.items)) }
+{
+    let sorts = sorted(alloc, lines, named)?;
+    let mut hubs = hubs_of(alloc, named, &sorts)?;
+    let stands = vec![in alloc; true; lines.len()]?;
+    let found = crossed_by(alloc, lines, named, &sorts, &stands, &mut hubs)?;
+    Ok(found)
+}
+
+// What is known of the classes of variables, by the shape of the lines.
+fn sorted(alloc: Global, lines: &[Line], named: &Named) -> Result<Sorts, Memory>
+    requires { AreNamed lines.now named.now }
+    ensures { IfOk result (λ sorts. IsSorted lines.now named.now sorts.classes.items sorts.flips.items) }
+{
+    let shape = rt_shape::of(alloc, lines)?;
+    let classes = nodes(alloc, named, &shape)?;
+    let flips = flips(alloc, &shape, &classes)?;
+    let sorts = sorts_of(alloc, named, classes, flips)?;
+    Ok(sorts)
+}
+
+// What is known of the classes of variables, of which some can be read and written through.
+fn sorts_of(
+    alloc: Global,
+    named: &Named,
+    classes: Vec<Option<u32>>,
+    flips: Vec<bool>,
+) -> Result<Sorts, Memory>
+    requires { AreDistinct named.now }
+    ensures classes { IfOk result (λ sorts. sorts.classes.items ≡ classes.items) }
+    ensures flips { IfOk result (λ sorts. sorts.flips.items ≡ flips.items) }
+{
+    let frame = Frame::of(alloc, named)?;
+    let sorts = Sorts::of(alloc, &frame, classes, flips)?;
+    Ok(sorts)
+}
+
+// The first hubs, for classes of the variables.
+fn hubs_of(alloc: Global, named: &Named, sorts: &Sorts) -> Result<Vec<Hub>, Memory>
+    requires { AreDistinct named.now }
+{
+    let frame = Frame::of(alloc, named)?;
+    let hubs = first_hubs(alloc, &frame, sorts)?;
+    Ok(hubs)
+}
+
+// The same for classes of the variables, with hubs to which others are added.
+fn crossed_by(
+    alloc: Global,
+    lines: &[Line],
+    named: &Named,
+    sorts: &Sorts,
+    stands: &[bool],
+    hubs: &mut Vec<Hub>,
+) -> Result<Option<Frame>, Memory>
+    requires named { AreNamed lines.now named.now }
+    requires flips { length sorts.now.flips.items ≡ length named.now }
+    ensures frame { IfOk result (λ found. IfSome found (λ frame.
+        IsFrame frame.origins.items frame.steps.entries frame.arcs.items frame.back.items)) }
+    ensures crossed { IfOk result (λ found. IfSome found (λ frame. IsCrossed lines.now named.now sorts.now.flips.items stands.now
+        frame.origins.items frame.arcs.items)) }
+    ensures turning { IfOk result (λ found. IfSome found (λ frame. AreTurning frame.origins.items
+        (Leads frame.arcs.items stands.now true) sorts.now.classes.items sorts.now.flips.items sorts.now.marks.items
+        (length sorts.now.classes.items))) }
+{
+    for _ in 0..ROUNDS {
+        let frame = framed_with(alloc, lines, named, sorts, hubs, stands)?;
+        if !widen(alloc, &frame, sorts, stands, hubs)? {
+            return if_turning(alloc, frame, sorts, stands);
+        }
+    }
+    Ok(None)
+}
+
+// The nodes and arcs, if they tell common lower nodes and common upper ones apart.
+fn if_turning(
+    alloc: Global,
+    frame: Frame,
+    sorts: &Sorts,
+    stands: &[bool],
+) -> Result<Option<Frame>, Memory>
+    requires frame { IsFrame frame.origins.items frame.steps.entries frame.arcs.items frame.back.items }
+    ensures same { IfOk result (λ found. IfSome found (λ same. same ≡ frame)) }
+    ensures turning { IfOk result (λ found. IfSome found (λ same. AreTurning frame.origins.items
+        (Leads frame.arcs.items stands.now true) sorts.now.classes.items sorts.now.flips.items sorts.now.marks.items
+        (length sorts.now.classes.items))) }
+{
+    if are_turning(alloc, &frame, sorts, stands)? {
+        return Ok(Some(frame));
+    }
+    Ok(None)
+}
+
+// Nodes of the variables and of hubs, with the arcs of the lines and of the hubs, closed under what is pushed from ways of them.
+fn framed_with(
+    alloc: Global,
+    lines: &[Line],
+    named: &Named,
+    sorts: &Sorts,
+    hubs: &[Hub],
+    stands: &[bool],
+) -> Result<Frame, Memory>
+    requires named { AreNamed lines.now named.now }
+    requires flips { length sorts.now.flips.items ≡ length named.now }
+    ensures frame { IfOk result (λ frame. IsFrame frame.origins.items frame.steps.entries frame.arcs.items frame.back.items) }
+    ensures crossed { IfOk result (λ frame. IsCrossed lines.now named.now sorts.now.flips.items stands.now frame.origins.items
+        frame.arcs.items) }
+{
+    let mut frame = Frame::of(alloc, named)?;
+    enter_accesses(alloc, &mut frame, &sorts.flips)?;
+    enter_hubs(alloc, &mut frame, hubs)?;
+    enter_lines(named, lines, &mut frame)?;
+    enter_pointers(&mut frame)?;
+    close(alloc, &mut frame, stands)?;
+    Ok(frame)
+}
+
+// Adds hubs, with an arc to each of their nodes, or from each.
+fn enter_hubs(alloc: Global, frame: &mut Frame, hubs: &[Hub]) -> Result<(), Memory>
+    requires { IsFrame frame.old.origins.items frame.old.steps.entries frame.old.arcs.items frame.old.back.items }
+    ensures frame { OnOk result (IsFrame frame.new.origins.items frame.new.steps.entries frame.new.arcs.items frame.new.back.items) }
+    ensures more { OnOk result (IsGrownBy frame.old.origins.items frame.old.arcs.items frame.new.origins.items frame.new.arcs.items) }
+{
+    for hub in hubs {
+        enter_hub(alloc, frame, hub)?;
+    }
+    Ok(())
+}
+
+// Adds a hub, with a load and a store if it lies below its nodes.
+fn enter_hub(alloc: Global, frame: &mut Frame, hub: &Hub) -> Result<(), Memory>
+    requires { IsFrame frame.old.origins.items frame.old.steps.entries frame.old.arcs.items frame.old.back.items }
+    ensures frame { OnOk result (IsFrame frame.new.origins.items frame.new.steps.entries frame.new.arcs.items frame.new.back.items) }
+    ensures more { OnOk result (IsGrownBy frame.old.origins.items frame.old.arcs.items frame.new.origins.items frame.new.arcs.items) }
+{
+    let node = frame.enter(alloc, None)?;
+    if hub.is_lower {
+        enter_access(alloc, frame, node)?;
+    }
+    for member in hub.members.items() {
+        join(frame, node, *member, hub.is_lower)?;
+    }
+    Ok(())
+}
+
+// Adds a pushed arc from a hub to another node, if there is that, or the other way.
+fn join(frame: &mut Frame, hub: u32, node: u32, is_lower: bool) -> Result<(), Memory>
+    requires frame { IsFrame frame.old.origins.items frame.old.steps.entries frame.old.arcs.items frame.old.back.items }
+    requires hub { hub < length frame.old.origins.items }
+    ensures frame { OnOk result (IsFrame frame.new.origins.items frame.new.steps.entries frame.new.arcs.items frame.new.back.items) }
+    ensures more { OnOk result (IsGrownBy frame.old.origins.items frame.old.arcs.items frame.new.origins.items frame.new.arcs.items) }
+{
+    if node as usize >= frame.origins.len() {
+        return Ok(());
+    }
+    let (from, to) = if is_lower { (hub, node) } else { (node, hub) };
+    frame.join(from, Arc { to, line: None })?;
+    Ok(())
+}
