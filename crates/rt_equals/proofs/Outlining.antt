@@ -1,5 +1,5 @@
 -- Numbers by arcs, where those from outside and from inside agree.
-use Rattle.std.proofs.Common.{◌≡◌, ℕ, ◌<◌, inl, inr, List, [], Contains, length, get_or, refl, sym, ap, subst, ◌∙◌}
+use Rattle.std.proofs.Common.{◌≡◌, ℕ, ◌<◌, inl, inr, List, [], Contains, length, get_or, sym, subst, ◌∙◌}
 use Rattle.std.proofs.lemmas.List.{get_or_default}
 use Rattle.rt_base.proofs.Lists.{Contains-none}
 use Rattle.rt_lines.specs.declared.variable.Dtv.{Dtv}
@@ -19,7 +19,7 @@ use Rattle.rt_equals.specs.Comparing.{Agree, AreEquals}
 use Rattle.rt_sat.specs.Numbered.{at_number}
 
 -- what lines name exists
-there : (order : Below) (lines : List Line) (x : Dtv) → Contains (named_by lines []) x → Derivable order lines (Var x)
+pub there : (order : Below) (lines : List Line) (x : Dtv) → Contains (named_by lines []) x → Derivable order lines (Var x)
 there order lines x c = by ((contents_law lines [] x).0 c)
   where
     by : (y : Dtv) × IsGiven lines [] y × IsPrefix x y → Derivable order lines (Var x)

@@ -1,2 +1,3 @@
 pub mod Plain
 pub mod Comparing
+pub mod Joined

@@ -25,7 +25,7 @@ pub(crate) fn agree(
 }
 
 // At each number of an existential by the first numbers one of those that it has by the second ones.
-fn marked(
+pub(crate) fn marked(
     alloc: Global,
     named: &Named,
     outer: &Classes,

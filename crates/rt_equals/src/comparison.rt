@@ -8,6 +8,7 @@ ghost use Rattle.rt_equals.specs.Comparing.{AreEquals};
 
 use crate::agreeing::agree;
 use crate::counted::counted;
+use crate::growing::{apart, are_told};
 use rt_base::Memory;
 use rt_lines::{Dtv, Line};
 use rt_named::Named;
@@ -66,7 +67,7 @@ impl Comparison {
     }
 }
 
-// Such numbers, where arcs from outside and from inside say the same of existentials.
+// Such numbers, where arcs from outside, and arcs from inside or a table of ways, say the same of existentials.
 fn outlined(alloc: Global, named: &Named, lines: &[Line]) -> Result<Option<Vec<usize>>, Memory>
     requires { named.now ≡ named_by lines.now [] }
     ensures { IfOk result (λ found. IfSome found (λ numbers. AreEquals lines.now named.now numbers.items)) }
@@ -87,7 +88,7 @@ fn outer_classes(alloc: Global, lines: &[Line]) -> Result<Classes, Memory>
     Ok(classes)
 }
 
-// Whether arcs from inside say the same of existentials as classes from outside.
+// Whether arcs from inside, or else a table of ways, say the same of existentials as classes from outside.
 fn are_exact(alloc: Global, named: &Named, lines: &[Line], outer: &Classes) -> Result<bool, Memory>
     requires named { named.now ≡ named_by lines.now [] }
     requires outer { AreOuterEquals lines.now named.now outer.now.count outer.now.numbers.items }
@@ -98,8 +99,11 @@ fn are_exact(alloc: Global, named: &Named, lines: &[Line], outer: &Classes) -> R
     }
     let lower = Lower::of(alloc, lines, &[])?;
     let inner = lower.equals(alloc)?;
-    let exact = agree(alloc, named, outer, &inner.numbers)?;
-    Ok(exact)
+    if agree(alloc, named, outer, &inner.numbers)? {
+        return Ok(true);
+    }
+    let told = are_told(alloc, named, lines, outer)?;
+    Ok(told)
 }
 
 // Whether classes from outside put no other variable together with an existential.
@@ -112,18 +116,6 @@ fn are_apart(alloc: Global, named: &Named, outer: &Classes) -> Result<bool, Memo
     let apart = apart(alloc, named.len())?;
     let exact = agree(alloc, named, outer, &apart)?;
     Ok(exact)
-}
-
-// So many numbers, no two of them equal.
-fn apart(alloc: Global, count: usize) -> Result<Vec<usize>, Memory>
-    ensures each { IfOk result (λ numbers. length numbers.items ≡ count) }
-    ensures own { IfOk result (λ numbers. (i : ℕ) → i < count → slice_index_or numbers.items i 0 ≡ i) }
-{
-    let mut numbers = Vec::with_capacity(alloc, count)?;
-    for i in 0..count {
-        numbers.push(i)?;
-    }
-    Ok(numbers)
 }
 
 // The lines, once more.

@@ -1,9 +1,10 @@
 //! Which variables of lines equal an existential: each lies below the other. Arcs without counts say, where those from
-//! inside and from outside agree, else an exact saturation.
+//! outside agree with those from inside or with a table of ways, else an exact saturation.
 #![tactic(auto)]
 
 mod agreeing;
 mod comparison;
 mod counted;
+mod growing;
 
 pub use comparison::Comparison;

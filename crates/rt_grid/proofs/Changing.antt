@@ -2,10 +2,10 @@
 use Rattle.std.proofs.Common.{◌≡◌, ℕ, ◌+◌, ◌<◌, ◌⊎◌, inl, inr, List, [], ◌∷◌, ◌++◌, Contains, length, set, refl, sym, subst, ap, ◌∙◌}
 use Rattle.std.proofs.lemmas.List.Elements.{Contains-push_cases}
 use Rattle.rt_grid.specs.declared.grid.Step.{Step}
-use Rattle.rt_grid.specs.Tables.{count_at, row_of, size_of, steps_of, AreSteps, AreWays, Holds, IsBeyond, IsRelaxed, IsRelaxedBy, Made, Says, SaysWith, Table}
+use Rattle.rt_grid.specs.Tables.{count_at, row_of, size_of, steps_of, AreSteps, AreWays, Holds, IsBeyond, IsLowered, IsRelaxed, IsRelaxedBy, Made, Says, SaysOr, SaysWith, Table}
 use Rattle.rt_grid.specs.Tables.Made.{told, behind}
 use Rattle.rt_grid.proofs.Holding.{says_holds}
-use Rattle.rt_grid.proofs.Writing.{steps_set, ways_set}
+use Rattle.rt_grid.proofs.Writing.{set_cases, steps_set, ways_set}
 
 -- fewer steps from a place
 pub pruned_table : (old : Table) (place : ℕ) (kept : List Step) → place < length old.steps → ((s : Step) → Contains kept s → Contains (steps_of old.steps place) s) → Holds (Says old) (record { rows = old.rows; steps = set old.steps place kept })
@@ -52,3 +52,35 @@ added_table old new from to count row less long counts e f = record {
     pushed : (s : Step) → Contains (steps_of old.steps from) s ⊎ (record { to = to; count = count } ≡ s) → Made (SaysWith old from to count) from s.to s.count
     pushed s (inl c) = told (inl (inr c))
     pushed s (inr g) = told (inr (refl, sym (ap (λ (u : Step). u.to) g), sym (ap (λ (u : Step). u.count) g)))
+
+-- a row that took in the count of one more step
+pub lowered_more : (first was : List ℕ) (steps : List Step) (s : Step) → Contains steps s → s.to < length was → IsLowered first steps was → IsLowered first steps (set was s.to s.count)
+lowered_more first was steps s c less before j = by (set_cases was s.to s.count 255 less j)
+  where
+    row : List ℕ
+    row = set was s.to s.count
+
+    by : ((j ≡ s.to) × (count_at row j ≡ s.count)) ⊎ (count_at row j ≡ count_at was j) → count_at row j < 255 → (count_at row j ≡ count_at first j) ⊎ Contains steps (record { to = j; count = count_at row j })
+    by (inl (e, f)) known = inr (subst (λ n. Contains steps (record { to = j; count = n })) (sym f) (subst (λ i. Contains steps (record { to = i; count = s.count })) (sym e) c))
+    by (inr f) known = subst (λ n. (n ≡ count_at first j) ⊎ Contains steps (record { to = j; count = n })) (sym f) (before j (subst (λ n. n < 255) f known))
+
+-- a row in which counts of ways from its place were taken in
+pub lowered_table : (old new : Table) (from : ℕ) (ways : List Step) (row : List ℕ) → from < size_of old → IsLowered (row_of old.rows from) ways row → new.rows ≡ set old.rows from row → new.steps ≡ old.steps → Holds (Made (SaysOr old from ways)) new
+lowered_table old new from ways row less counts e f = record {
+  rows = subst (AreWays Way) (sym e) (ways_set Way old.rows from row less (λ i j known. told (inl (inl (known, refl)))) (λ j known. by j known (counts j known)));
+  steps = subst (AreSteps Way) (sym f) (λ i s c. told (inl (inr c)));
+}
+  where
+    Way : ℕ → ℕ → ℕ → Type 0
+    Way = Made (SaysOr old from ways)
+
+    by : (j : ℕ) → count_at row j < 255 → (count_at row j ≡ count_at (row_of old.rows from) j) ⊎ Contains ways (record { to = j; count = count_at row j }) → Way from j (count_at row j)
+    by j known (inl same) = told (inl (inl (subst (λ n. n < 255) same known, same)))
+    by j known (inr c) = told (inr (refl, c))
+
+-- what holds of a table holds of it with more ways to begin with
+pub more_ways : (table : Table) (from : ℕ) (ways : List Step) → Holds (Made (SaysOr table from ways)) table
+more_ways table from ways = record {
+  rows = λ i j known. told (inl (inl (known, refl)));
+  steps = λ i s c. told (inl (inr c));
+}

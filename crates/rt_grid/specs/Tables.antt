@@ -55,6 +55,10 @@ Says table i j n =
 abbrev pub SaysWith : Table → ℕ → ℕ → ℕ → ℕ → ℕ → ℕ → Type 0
 SaysWith table from to count i j n = Says table i j n ⊎ ((i ≡ from) × (j ≡ to) × (n ≡ count))
 
+-- those, and those of some steps from a place
+abbrev pub SaysOr : Table → ℕ → List Step → ℕ → ℕ → ℕ → Type 0
+SaysOr table from steps i j n = Says table i j n ⊎ ((i ≡ from) × Contains steps (record { to = j; count = n }))
+
 -- a way behind a way is one, of both counts
 abbrev pub IsChain : (ℕ → ℕ → ℕ → Type 0) → Type 0
 IsChain Way = (i j k m n : ℕ) → Way i j m → Way j k n → Way i k (m + n)
@@ -75,6 +79,11 @@ AreInside size steps = (i : ℕ) → AreWithin size (steps_of steps i)
 abbrev pub IsRelaxed : List ℕ → List ℕ → ℕ → List ℕ → Type 0
 IsRelaxed was by count row = (j : ℕ) → count_at row j < 255 → (count_at row j ≡ count_at was j) ⊎
     ((count_at by j < 255) × (count_at row j ≡ count + count_at by j))
+
+-- each known count of a row stays, or is that of a step
+abbrev pub IsLowered : List ℕ → List Step → List ℕ → Type 0
+IsLowered was steps row = (j : ℕ) → count_at row j < 255 → (count_at row j ≡ count_at was j) ⊎
+    Contains steps (record { to = j; count = count_at row j })
 
 -- a count is that of a step, and of a way from where it leads
 abbrev pub IsBeyond : List (List ℕ) → List Step → ℕ → ℕ → Type 0

@@ -1,10 +1,11 @@
 // Tables of counts, with the steps that they come from.
 ghost use Rattle.std.specs.Prelude.{◌≡◌, ◌∷◌, ◌++◌, ◌<◌, [], Contains, length, replicate, slice_set, IfOk, OnOk};
 ghost use Rattle.rt_grid.specs.declared.grid.Step.{Step as Pace};
-ghost use Rattle.rt_grid.specs.Tables.{row_of, size_of, steps_of, AreSquare, AreWays, AreWithin, Holds, IsRelaxedBy, IsRest, Made, Says, SaysWith};
+ghost use Rattle.rt_grid.specs.Tables.{row_of, size_of, steps_of, AreSquare, AreWays, AreWithin, Holds, IsRelaxedBy, IsRest, Made, Says, SaysOr};
+ghost use Rattle.rt_grid.specs.Tables.{SaysWith};
 
 use crate::pruning::pruned;
-use crate::rows::{first_row, relax};
+use crate::rows::{first_row, lower, relax};
 use rt_base::{Memory, Sequence};
 use std::alloc::Global;
 use std::marker::Model;
@@ -121,6 +122,22 @@ impl Grid {
         self.push_step(from, Step { to, count })?;
         self.put(from, row);
         Ok(true)
+    }
+
+    /// Takes in the counts of ways from a place, as far as they are less than those that are known, but adds no step: a way that
+    /// goes on from there isn't known but by another one. Whether one was less. The error is out of memory.
+    pub fn lower(&mut self, alloc: Global, from: usize, ways: &[Step]) -> Result<bool, Memory>
+        requires from { from < size_of self.old }
+        requires ways { AreWithin (size_of self.old) ways.now }
+        ensures size { OnOk result (size_of self.new ≡ size_of self.old) }
+        ensures holds { OnOk result (Holds (Made (SaysOr self.old from ways.now)) self.new) }
+    {
+        let mut row = self.rows[from].items().to_vec(alloc)?;
+        let any = lower(&mut row, ways);
+        if any {
+            self.put(from, row);
+        }
+        Ok(any)
     }
 
     // Adds a step from a place to the others.

@@ -1,8 +1,8 @@
 // Rows of counts.
 ghost use Rattle.std.specs.Prelude.{◌≡◌, ◌<◌, ℕ, length, IfOk};
-ghost use Rattle.rt_grid.specs.Tables.{count_at, IsRelaxed};
+ghost use Rattle.rt_grid.specs.Tables.{count_at, AreWithin, IsLowered, IsRelaxed};
 
-use crate::grid::NONE;
+use crate::grid::{NONE, Step};
 use rt_base::Memory;
 use std::alloc::Global;
 
@@ -32,4 +32,20 @@ pub(crate) fn relax(row: &mut [u8], by: &[u8], count: u8) -> bool
         row[j] = least;
     }
     changed != 0
+}
+
+// Takes in the counts of steps, as far as they are less. Whether one was.
+pub(crate) fn lower(row: &mut [u8], steps: &[Step]) -> bool
+    requires { AreWithin (length row.old) steps.now }
+    ensures each { length row.new ≡ length row.old }
+    ensures counts { IsLowered row.old steps.now row.new }
+{
+    let mut any = false;
+    for step in steps {
+        if step.count < row[step.to] {
+            row[step.to] = step.count;
+            any = true;
+        }
+    }
+    any
 }

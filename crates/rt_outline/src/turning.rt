@@ -109,46 +109,44 @@ fn is_told(
     let Some(class) = sorts.class(*parent) else {
         return Ok(true);
     };
-    let sides = sides_where(alloc, frame, sorts, stands, node, *parent, class)?;
-    let told = is_told_with_all(
-        frame,
-        sorts,
-        sides.as_ref(),
-        stands,
-        node,
-        *parent,
-        *label,
-        class,
-    );
+    if is_told_with_all(frame, sorts, None, stands, node, *parent, *label, class) {
+        return Ok(true);
+    }
+    let told = is_told_by_sides(alloc, frame, sorts, stands, node, *parent, *label, class)?;
     Ok(told)
 }
 
-// The sides of a node, unless all nodes of the class of what it is made of have one node below all, and one above.
-fn sides_where(
+// Whether a node behind a letter has with all others behind letters of nodes of a class what they must have, as its sides tell,
+// unless all nodes of the class have one node below all, and one above.
+fn is_told_by_sides(
     alloc: Global,
     frame: &Frame,
     sorts: &Sorts,
     stands: &[bool],
     node: u32,
     parent: u32,
+    label: Label,
     class: u32,
-) -> Result<Option<Sides>, Memory>
+) -> Result<bool, Memory>
     requires frame { IsFrame frame.now.origins.items frame.now.steps.entries frame.now.arcs.items frame.now.back.items }
-    ensures { IfOk result (λ found. IfSome found (λ sides. AreSides frame.now.origins.items
-        (Leads frame.now.arcs.items stands.now true) (flag_at sorts.now.flips.items node) node parent sides)) }
+    ensures { IfOk result (λ yes. yes ≡ true → AreToldTo frame.now.origins.items (Leads frame.now.arcs.items stands.now true)
+        sorts.now.classes.items sorts.now.flips.items node parent class label (length sorts.now.classes.items)) }
 {
     if sorts.is_joined(class) {
-        return Ok(None);
+        return Ok(false);
     }
-    let sides = sides_of(
-        alloc,
+    let access = sorts.is_flip(node as usize);
+    let sides = sides_of(alloc, frame, stands, node, parent, access)?;
+    Ok(is_told_with_all(
         frame,
+        sorts,
+        Some(&sides),
         stands,
         node,
         parent,
-        sorts.is_flip(node as usize),
-    )?;
-    Ok(Some(sides))
+        label,
+        class,
+    ))
 }
 
 // What has a node below, or above, it and a node, and what this is made of.

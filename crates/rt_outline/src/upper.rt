@@ -73,8 +73,8 @@ impl Upper {
         Ok(upper)
     }
 
-    /// The same, but that arcs lead to fewer variables: hubs tell which of them may have a common lower one. It takes longer. None,
-    /// where no such hubs were found. The error is out of memory.
+    /// The same, but that arcs are meant to lead to fewer variables: hubs tell which of them may have a common lower one. It takes
+    /// longer. None, where no such hubs were found. The error is out of memory.
     pub fn narrow(alloc: Global, lines: &[Line], extra: &[Dtv]) -> Result<Option<Upper>, Memory>
         ensures { IfOk result (λ found. IfSome found (λ upper.
             upper ≡ record { lines = lines.now; named = named lines.now extra.now })) }

@@ -30,5 +30,7 @@ pub mod Weighed
 pub mod Flagging
 pub mod Completing
 pub mod Adding
+mod Homes
+mod Turning
 mod Standing
 mod Linking

@@ -16,7 +16,7 @@ use Rattle.rt_bridge.specs.Counted.{bit, differ, st, Bridge, IsPointer}
 use Rattle.rt_bridge.specs.Counted.Bridge.{push}
 use Rattle.rt_bridge.specs.Laws.{Named}
 use Rattle.rt_grid.specs.declared.grid.Step.{Step}
-use Rattle.rt_grid.specs.Tables.{count_at, row_of, Holds, Made, Says, SaysWith, Table}
+use Rattle.rt_grid.specs.Tables.{count_at, row_of, Holds, Made, Says, SaysOr, SaysWith, Table}
 use Rattle.rt_grid.specs.Tables.Made.{told}
 use Rattle.rt_grid.proofs.Holding.{add_holds, holds_by, made_chain, made_ways, says_holds, says_ways}
 use Rattle.rt_sat.specs.declared.family.Family.{Family}
@@ -26,7 +26,7 @@ use Rattle.rt_sat.specs.declared.state.State.{State}
 use Rattle.rt_sat.specs.declared.state.Edge.{Edge}
 use Rattle.rt_sat.specs.Counts.{digit_of}
 use Rattle.rt_sat.specs.Deciding.{is_among}
-use Rattle.rt_sat.specs.Hints.{bit_of, grid_of, members_of, no_table, state_at, AreEnds, AreSameMembers, AreToldSteps, IsEnd, IsFamily, IsHome, IsTold, IsToldAt, IsToldFamily, IsToldRow, SaysOr}
+use Rattle.rt_sat.specs.Hints.{bit_of, grid_of, members_of, no_table, state_at, AreEnds, AreSameMembers, AreToldSteps, IsEnd, IsFamily, IsHome, IsTold, IsToldAt, IsToldFamily, IsToldRow}
 use Rattle.rt_sat.specs.Numbered.{at_number, is_contra, sign_of, state_of}
 use Rattle.rt_sat.specs.Pushes.{flip_at, IsChildOf, PushBy}
 use Rattle.rt_sat.proofs.Closed.{child_state, named_child, parent_state, push_of, there_child}
@@ -59,7 +59,7 @@ home_same count old new state home same before after stands =
       is = ap (λ (xs : List (List ℕ)). state_at (get_or xs home.class []) home.index) same ∙ stands.is;
     }
 
-ends_same : (known : List Dtv) (flips : List Bool) (members : List ℕ) (count : ℕ) (old new : Family) (ends : List End) → AreSameMembers old new → IsFamily count old → IsFamily count new → AreEnds known flips members old ends → AreEnds known flips members new ends
+pub ends_same : (known : List Dtv) (flips : List Bool) (members : List ℕ) (count : ℕ) (old new : Family) (ends : List End) → AreSameMembers old new → IsFamily count old → IsFamily count new → AreEnds known flips members old ends → AreEnds known flips members new ends
 ends_same known flips members count old new ends same before after are end c =
     let is : IsEnd known flips members old end = are end c in
     record { inside = is.inside; parent = is.parent; child = is.child; home = home_same count old new end.stand end.home same before after is.home; flip = is.flip }
@@ -72,7 +72,7 @@ ends_kept known flips members now count old new ends items each read same before
 
 -- what stands where no end does
 abbrev pub no_end : End
-no_end = record { place = 0; parent = record { variable = 0; contra = false }; child = record { variable = 0; contra = false }; letter = In (Arg 0); stand = record { variable = 0; contra = false }; home = record { class = 0; index = 0 }; flip = false; matters = false }
+no_end = record { place = 0; parent = record { variable = 0; contra = false }; child = record { variable = 0; contra = false }; letter = In (Arg 0); stand = record { variable = 0; contra = false }; home = record { class = 0; index = 0 }; flip = false; matters = false; pointer = false; turned = false; leads_on = false }
 
 -- an end more
 pub ends_more : (known : List Dtv) (flips : List Bool) (members : List ℕ) (into : Family) (ends more : List End) (end : End) → AreEnds known flips members into ends → IsEnd known flips members into end → more ≡ ends ++ end ∷ [] → AreEnds known flips members into more

@@ -4,7 +4,7 @@ use Rattle.rt_lines.specs.declared.variable.Dtv.{Dtv}
 use Rattle.rt_bridge.specs.Growing.{Var, Given, HasSub}
 use Rattle.rt_bridge.specs.Counted.{Bridge}
 use Rattle.rt_bridge.specs.Laws.{Named}
-use Rattle.rt_grid.specs.Tables.{Table, count_at, size_of, steps_of, Holds, Says}
+use Rattle.rt_grid.specs.Tables.{Table, count_at, size_of, steps_of, Holds}
 use Rattle.rt_grid.specs.declared.grid.Step.{Step}
 use Rattle.rt_sat.specs.declared.state.State.{State}
 use Rattle.rt_sat.specs.declared.state.Edge.{Edge}
@@ -163,10 +163,6 @@ pub record IsStepOf (members : List ℕ) (grid : Table) (e : Edge) : Type 0 wher
 -- edges of which something holds are put behind others
 abbrev pub AreMore : (Edge → Type 0) → List Edge → List Edge → Type 0
 AreMore P old new = (e : Edge) → Contains new e → Contains old e ⊎ P e
-
--- what a table says, and some of the steps from a place
-abbrev pub SaysOr : Table → ℕ → List Step → ℕ → ℕ → ℕ → Type 0
-SaysOr table from found i j n = Says table i j n ⊎ ((i ≡ from) × Contains found (record { to = j; count = n }))
 
 -- the least bit of a sign: one where it keeps the order
 abbrev pub bit_of : Bool → ℕ

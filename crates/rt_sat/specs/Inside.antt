@@ -1,4 +1,5 @@
 -- Parts of the way: what loops and functions inside the crate say, and no public contract.
 pub mod Checks
+pub mod Filling
 pub mod Flags
 pub mod Links

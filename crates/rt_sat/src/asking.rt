@@ -7,7 +7,7 @@ ghost use Rattle.rt_sat.specs.Tables.{HasNought, IsAnswer, place};
 
 use crate::checking::checked;
 use crate::closing::pass;
-use crate::hints::hints;
+use crate::hints::{Hinted, hints};
 use crate::layers::Layers;
 use crate::reached::Reached;
 use crate::spreading::spread;
@@ -30,12 +30,13 @@ pub(crate) fn reaches(
     ensures { IfOk result (λ yes. IsAnswer begun sources.now targets.now yes) }
 {
     let Begun { frame, first } = begun;
-    let hints = hints(alloc, &frame, &first)?;
-    let mut layers = Layers::new(alloc, first, hints)?;
+    let hinted = hints(alloc, &frame, &first)?;
+    let Hinted { edges, family } = hinted;
+    let mut layers = Layers::new(alloc, first, edges)?;
     if meets(alloc, &layers, sources, targets)? {
         return Ok(true);
     }
-    let mut done = checked(alloc, &frame, &layers)?;
+    let mut done = checked(alloc, &frame, &layers, family.as_ref())?;
     loop {
         let before = layers.edges.len();
         done = pass(alloc, &frame, &mut layers, &done)?;

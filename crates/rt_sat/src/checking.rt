@@ -1,5 +1,5 @@
 // Variables whose ways are pushed, as tables of bytes show: no search is needed for these.
-ghost use Rattle.std.specs.Prelude.{◌≡◌, ◌*◌, ◌<◌, ℕ, List, true, length, IfOk};
+ghost use Rattle.std.specs.Prelude.{◌≡◌, ◌*◌, ◌<◌, ℕ, List, true, length, IfOk, IfSome};
 ghost use Rattle.rt_lines.specs.declared.label.Label.{Label as Letter};
 ghost use Rattle.rt_sat.specs.declared.state.State.{State as Place};
 ghost use Rattle.rt_sat.specs.declared.state.Edge.{Edge as Arrow};
@@ -12,6 +12,7 @@ ghost use Rattle.rt_sat.specs.Pushes.{asked_of, pushed_of, AreChildren, AreDone,
 use crate::building::built;
 use crate::complete::is_complete;
 use crate::family::Family;
+use crate::filling::filled;
 use crate::gathering::{between, child_of};
 use crate::hints::{MANY, above, below, group_nodes, groups, member_state};
 use crate::layers::Layers;
@@ -35,12 +36,18 @@ struct Target {
 }
 
 // For each variable whether tables show that whatever is pushed from its ways has a way along the pushed edges. No flag where
-// there are few lines.
-pub(crate) fn checked(alloc: Global, frame: &Frame, layers: &Layers) -> Result<Vec<bool>, Memory>
+// there are few lines. The tables that the pushed edges come from spare to make most of the others anew.
+pub(crate) fn checked(
+    alloc: Global,
+    frame: &Frame,
+    layers: &Layers,
+    family: Option<&Family>,
+) -> Result<Vec<bool>, Memory>
     requires children { AreChildren frame.now.named frame.now.children.items }
     requires distinct { AreDistinct frame.now.named }
     requires nodes { length frame.now.nodes.items ≡ length frame.now.named }
     requires indexed { AreIndexed layers.now }
+    requires family { IfSome family (λ f. IsFamily (length frame.now.named) f.now) }
     ensures { IfOk result (λ done. AreDone frame.now.named frame.now.flips.items frame.now.matters.items layers.now.edges.items
         (pushed_of layers.now) done.items) }
 {
@@ -48,7 +55,10 @@ pub(crate) fn checked(alloc: Global, frame: &Frame, layers: &Layers) -> Result<V
         return Ok(Vec::new(alloc));
     }
     let above = above(alloc, frame)?;
-    let ways = built(alloc, &frame.nodes, &layers.edges, &above)?;
+    let ways = match family {
+        Some(family) => filled(alloc, frame, &layers.edges, &above, family)?,
+        None => built(alloc, &frame.nodes, &layers.edges, &above)?,
+    };
     if !is_complete(&ways, &layers.edges) {
         return Ok(Vec::new(alloc));
     }

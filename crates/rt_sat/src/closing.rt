@@ -7,7 +7,7 @@ ghost use Rattle.rt_sat.specs.Pushes.{is_done, pushed_of, AreChildren, AreDone, 
 ghost use Rattle.rt_sat.specs.Pushes.{IsClosedBy, IsClosedIn, IsClosing, IsStill};
 
 use crate::checking::checked;
-use crate::hints::hints;
+use crate::hints::{Hinted, hints};
 use crate::layers::Layers;
 use crate::pushing::{Frame, flag, push_below};
 use crate::reached::Reached;
@@ -53,9 +53,10 @@ pub(crate) fn closed(alloc: Global, frame: &Frame, lines: Vec<Edge>) -> Result<V
     requires nodes { length frame.now.nodes.items ≡ length frame.now.named }
     ensures { IfOk result (λ edges. IsClosing frame.now.named frame.now.flips.items frame.now.matters.items lines.items edges.items) }
 {
-    let hints = hints(alloc, frame, &lines)?;
-    let mut layers = Layers::new(alloc, lines, hints)?;
-    let mut done = checked(alloc, frame, &layers)?;
+    let hinted = hints(alloc, frame, &lines)?;
+    let Hinted { edges, family } = hinted;
+    let mut layers = Layers::new(alloc, lines, edges)?;
+    let mut done = checked(alloc, frame, &layers, family.as_ref())?;
     loop {
         let before = layers.edges.len();
         done = pass(alloc, frame, &mut layers, &done)?;

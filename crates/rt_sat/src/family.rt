@@ -1,17 +1,18 @@
 // Variables in classes, with what is known of ways between their states.
 ghost use Rattle.std.specs.Prelude.{◌≡◌, ◌+◌, ◌*◌, ◌<◌, ◌≤◌, ℕ, [], Bool, List, Contains, Some, IfOk, IfSome, OnOk};
 ghost use Rattle.std.specs.Prelude.{length, slice_get, slice_index_or};
+ghost use Rattle.rt_grid.specs.Tables.{size_of};
 ghost use Rattle.rt_lines.specs.declared.variable.Dtv.{Dtv as Variable};
 ghost use Rattle.rt_sat.specs.declared.state.Edge.{Edge as Arrow};
 ghost use Rattle.rt_sat.specs.Counts.{digit_of};
 ghost use Rattle.rt_sat.specs.Inside.Checks.{home_of, AreWalked};
 ghost use Rattle.rt_sat.specs.Searches.{Walk};
-ghost use Rattle.rt_sat.specs.Hints.{no_table, AreMembers, AreSameMembers, IsFamily, IsHome, IsTold, IsToldFamily, IsTurning};
+ghost use Rattle.rt_sat.specs.Hints.{grid_of, no_table, AreInClass, AreMembers, AreSameMembers, IsFamily, IsHome, IsTold, IsToldFamily, IsTurning};
 
 use crate::closing::no_numbers;
 use crate::state::State;
 use rt_base::{Memory, Sequence};
-use rt_grid::Grid;
+use rt_grid::{Grid, Step};
 use std::alloc::Global;
 
 // A class with more members takes in no other.
@@ -97,6 +98,19 @@ impl Family {
         if left.class == right.class {
             self.grids[left.class].add(alloc, left.index, right.index, count)?;
         }
+        Ok(())
+    }
+
+    // Takes in counts of ways from a place, as far as they are less. The error is out of memory.
+    pub(crate) fn lower(&mut self, alloc: Global, home: Home, ways: &[Step]) -> Result<(), Memory>
+        requires family { (count : ℕ) × IsFamily count self.old }
+        requires class { home.class < length self.old.members.items }
+        requires place { home.index < size_of (grid_of self.old home.class) }
+        requires ways { AreInClass self.old home.class ways.now }
+        ensures same { OnOk result (AreSameMembers self.old self.new) }
+        ensures family { OnOk result ((count : ℕ) → IsFamily count self.old → IsFamily count self.new) }
+    {
+        self.grids[home.class].lower(alloc, home.index, ways)?;
         Ok(())
     }
 

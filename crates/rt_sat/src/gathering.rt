@@ -2,17 +2,18 @@
 ghost use Rattle.std.specs.Prelude.{◌≡◌, ◌⊎◌, ◌+◌, ◌%◌, ◌<◌, ◌≤◌, ℕ, Bool, List, Contains, Some, None, IfOk, IfSome, OnOk};
 ghost use Rattle.std.specs.Prelude.{length};
 ghost use Rattle.rt_grid.specs.declared.grid.Step.{Step as Pace};
-ghost use Rattle.rt_grid.specs.Tables.{size_of, Holds, Made, SaysWith};
+ghost use Rattle.rt_grid.specs.Tables.{size_of, Holds, Made, SaysOr, SaysWith};
 ghost use Rattle.rt_lines.specs.declared.label.Label.{Label as Letter};
 ghost use Rattle.rt_lines.specs.declared.variable.Dtv.{Dtv as Variable};
 ghost use Rattle.rt_sat.specs.declared.family.Family.{Family as Classes};
+ghost use Rattle.rt_sat.specs.declared.gathering.End.{End as Stop};
 ghost use Rattle.rt_sat.specs.declared.state.State.{State as Place};
 ghost use Rattle.rt_sat.specs.declared.state.Edge.{Edge as Arrow};
 ghost use Rattle.rt_sat.specs.Counts.{digit_of};
-ghost use Rattle.rt_sat.specs.Inside.Links.{noted_at, AreBefore, AreBehind, AreEndsFrom, AreLinked, AreSources, AreTargets, AreTied};
+ghost use Rattle.rt_sat.specs.Inside.Links.{noted_at, AreBefore, AreBehind, AreEndsFrom, AreEndsOf, AreLinked, AreSources, AreTargets, AreTied};
 ghost use Rattle.rt_sat.specs.Hints.{bit_of, grid_of, members_of, state_at, AreEnds, AreGroups, AreInClass, AreInRows, AreKids};
 ghost use Rattle.rt_sat.specs.Hints.{AreSameMembers, AreToldSteps, IsEnd, IsFamily, IsGroup, IsHome, IsInRows, IsTold, IsToldFamily};
-ghost use Rattle.rt_sat.specs.Hints.{IsToldRow, SaysOr};
+ghost use Rattle.rt_sat.specs.Hints.{IsToldRow};
 ghost use Rattle.rt_sat.specs.Numbered.{sign_of, AreDistinct};
 ghost use Rattle.rt_sat.specs.Pushes.{IsChildOf, PushBy};
 
@@ -59,6 +60,9 @@ pub(crate) struct Kin {
     pub(crate) groups: Vec<Group>,
     // What leads to those of them that aren't members themselves, and from them.
     pub(crate) links: Links,
+    // For each place of each class whether no edge of a line leads from there: all that leads on is pushed. Where there is no
+    // flag, one may lead. Effort alone rests on these.
+    pub(crate) dead: Vec<Vec<bool>>,
 }
 
 // The state of a variable with a letter more than a member's state, to which what is known of the latter is pushed.
@@ -78,6 +82,12 @@ struct End {
     flip: bool,
     // Whether counts above nought matter at the child.
     matters: bool,
+    // Whether the letter is that of a pointer.
+    pointer: bool,
+    // Whether the rest behind the child, with its letter, turns the order round.
+    turned: bool,
+    // Whether something leads on from where it stands but what is pushed to the group's others.
+    leads_on: bool,
 }
 
 // Pushes within a family, until nothing is added.
@@ -248,7 +258,9 @@ fn push_due(
 {
     for group in &kin.groups {
         if let Some(since) = clock_of(due, since, group.class) {
-            push_group(alloc, frame, group, &kin.links, family, since, next)?;
+            push_group(
+                alloc, frame, group, &kin.links, &kin.dead, family, since, next,
+            )?;
         }
     }
     Ok(())
@@ -268,6 +280,7 @@ fn push_group(
     frame: &Frame,
     group: &Group,
     links: &Links,
+    dead: &[Vec<bool>],
     family: &mut Family,
     since: u64,
     next: &mut Vec<bool>,
@@ -285,11 +298,55 @@ fn push_group(
 {
     let members = family.members[group.class].items();
     let kids = group.kids.items();
-    let sources = ends(alloc, frame, members, kids, &links.before, family)?;
-    let targets = ends(alloc, frame, members, kids, &links.behind, family)?;
-    for source in &sources {
-        if family.grids[group.class].has_changed(source.place, since) {
-            push_within(alloc, &targets, source, family, group.class, next)?;
+    let sources = ends(alloc, frame, members, kids, &links.before, dead, family)?;
+    let targets = ends(alloc, frame, members, kids, &links.behind, dead, family)?;
+    let leading = those(alloc, &targets, true)?;
+    let others = those(alloc, &targets, false)?;
+    push_ends(alloc, &sources, &leading, family, group.class, since, next)?;
+    push_ends(alloc, &sources, &others, family, group.class, since, next)?;
+    Ok(())
+}
+
+// The ends from which something leads on, or the others.
+fn those(alloc: Global, ends: &[End], lead_on: bool) -> Result<Vec<End>, Memory>
+    ensures { IfOk result (λ those. (end : Stop) → Contains those.items end → Contains ends.now end) }
+{
+    let mut those = Vec::new(alloc);
+    for end in ends {
+        if end.leads_on == lead_on {
+            those.push(*end)?;
+        }
+    }
+    Ok(those)
+}
+
+// Pushes from the rows of ends' parents that changed since to others within their family, and flags the classes to which
+// something was added.
+fn push_ends(
+    alloc: Global,
+    sources: &[End],
+    targets: &[End],
+    family: &mut Family,
+    class: usize,
+    since: u64,
+    next: &mut Vec<bool>,
+) -> Result<(), Memory>
+    requires family { (count : ℕ) × IsFamily count family.old }
+    requires class { class < length family.old.members.items }
+    requires ends { (known : List Variable) × (flips : List Bool) ×
+        AreEndsOf known flips (members_of family.old class) family.old sources.now targets.now }
+    requires next { length next.old.items ≡ length family.old.members.items }
+    ensures next { OnOk result (length next.new.items ≡ length next.old.items) }
+    ensures same { OnOk result (AreSameMembers family.old family.new) }
+    ensures family { OnOk result ((count : ℕ) → IsFamily count family.old → IsFamily count family.new) }
+    ensures told { OnOk result ((known : List Variable) (flips : List Bool) (lines : List Arrow) →
+        AreEndsOf known flips (members_of family.old class) family.old sources.now targets.now →
+        AreSources known flips lines sources.now → AreTargets known flips lines targets.now →
+        IsToldFamily known flips lines family.old → IsToldFamily known flips lines family.new) }
+{
+    for source in sources {
+        if family.grids[class].has_changed(source.place, since) {
+            push_within(alloc, targets, source, family, class, next)?;
         }
     }
     Ok(())
@@ -318,10 +375,19 @@ fn push_within(
         IsToldFamily known flips lines family.new) }
 {
     let found = found_at(alloc, targets, source, family, class, family)?;
-    if put(alloc, family, source.home, &found)? {
+    let leads_on = source.leads_on || lead_on(targets);
+    if put(alloc, family, source.home, &found, leads_on)? {
         next[source.home.class] = true;
     }
     Ok(())
+}
+
+// Whether something leads on from the first of ends.
+fn lead_on(ends: &[End]) -> bool {
+    match ends.first() {
+        Some(end) => end.leads_on,
+        None => false,
+    }
 }
 
 // Pushes from the ways of a class to the variables of a group, in another family.
@@ -343,10 +409,10 @@ pub(crate) fn push_apart(
         IsToldFamily frame.now.named frame.now.flips.items lines into.new) }
 {
     let members = family.members[group.class].items();
-    let ends = ends(alloc, frame, members, group.kids.items(), &[], into)?;
+    let ends = ends(alloc, frame, members, group.kids.items(), &[], &[], into)?;
     for source in &ends {
         let found = found_at(alloc, &ends, source, family, group.class, into)?;
-        put(alloc, into, source.home, &found)?;
+        put(alloc, into, source.home, &found, true)?;
     }
     Ok(())
 }
@@ -378,8 +444,14 @@ fn found_at(
     Ok(found)
 }
 
-// Adds steps from a place of a class. Whether one was added.
-fn put(alloc: Global, into: &mut Family, home: Home, found: &[Step]) -> Result<bool, Memory>
+// Adds steps from a place of a class, or their counts alone. Whether one was added.
+fn put(
+    alloc: Global,
+    into: &mut Family,
+    home: Home,
+    found: &[Step],
+    leads_on: bool,
+) -> Result<bool, Memory>
     requires into { (count : ℕ) × IsFamily count into.old }
     requires class { home.class < length into.old.members.items }
     requires place { home.index < size_of (grid_of into.old home.class) }
@@ -390,7 +462,13 @@ fn put(alloc: Global, into: &mut Family, home: Home, found: &[Step]) -> Result<b
         IsHome into.old stand home → AreToldSteps known flips lines stand into.old home.class found.now →
         IsToldFamily known flips lines into.old → IsToldFamily known flips lines into.new) }
 {
-    let added = enter(alloc, &mut into.grids[home.class], home.index, found)?;
+    let added = enter(
+        alloc,
+        &mut into.grids[home.class],
+        home.index,
+        found,
+        leads_on,
+    )?;
     Ok(added)
 }
 
@@ -402,6 +480,7 @@ fn ends(
     members: &[u32],
     kids: &[Kid],
     near: &[Sequence<State>],
+    dead: &[Vec<bool>],
     into: &Family,
 ) -> Result<Vec<End>, Memory>
     requires distinct { AreDistinct frame.now.named }
@@ -417,7 +496,16 @@ fn ends(
     let mut ends = Vec::new(alloc);
     for kid in kids {
         for turned in 0..2 {
-            add_kid(frame, members, *kid, turned == 1, near, into, &mut ends)?;
+            add_kid(
+                frame,
+                members,
+                *kid,
+                turned == 1,
+                near,
+                dead,
+                into,
+                &mut ends,
+            )?;
         }
     }
     Ok(ends)
@@ -431,6 +519,7 @@ fn add_kid(
     kid: Kid,
     contra: bool,
     near: &[Sequence<State>],
+    dead: &[Vec<bool>],
     into: &Family,
     ends: &mut Vec<End>,
 ) -> Result<(), Memory>
@@ -465,10 +554,27 @@ fn add_kid(
                 home,
                 flip: flag(&frame.flips, parent.variable),
                 matters: flag(&frame.matters, child.variable),
+                pointer: is_pointer(letter),
+                turned: turns(letter.variance().times(sign(child.contra))),
+                leads_on: leads_on(*stand, child, dead, home),
             })?;
         }
     }
     Ok(())
+}
+
+// Whether something leads on from where a state stands, but what is pushed to it and to others.
+fn leads_on(stand: State, state: State, dead: &[Vec<bool>], home: Home) -> bool {
+    if stand != state {
+        return true;
+    }
+    let Some(flags) = dead.get(home.class) else {
+        return true;
+    };
+    match flags.get(home.index) {
+        Some(flag) => !*flag,
+        None => true,
+    }
 }
 
 // The state, if it stands in a class of a family, else those that are noted at it.
@@ -552,6 +658,9 @@ fn pushed_step(row: &[u8], source: &End, target: &End, known: &[u8]) -> Option<S
     if least == 0 {
         return None;
     }
+    if is_spare(source, target, way, least) {
+        return None;
+    }
     let count = between(
         source.flip,
         source.letter,
@@ -567,6 +676,18 @@ fn pushed_step(row: &[u8], source: &End, target: &End, known: &[u8]) -> Option<S
         to: target.home.index,
         count,
     })
+}
+
+// Whether what is pushed from a count between the parents of ends is no less than what is known, as flags tell soon. Effort alone
+// rests on it.
+fn is_spare(source: &End, target: &End, way: u8, least: u8) -> bool
+    requires { way < 255 }
+{
+    if way >= least && !(source.flip && source.pointer && target.pointer) {
+        return true;
+    }
+    let differ = source.child.contra != target.child.contra;
+    way >= least && half(way, source.turned, target.turned, differ) >= least
 }
 
 // The least count that one between two parents gives between children with these letters and signs.
@@ -618,13 +739,24 @@ fn half(count: u8, left: bool, right: bool, differ: bool) -> u8
     }
 }
 
-// Adds steps from a place, the least counts first. Whether one was added.
-fn enter(alloc: Global, grid: &mut Grid, from: usize, found: &[Step]) -> Result<bool, Memory>
+// Adds steps from a place, the least counts first, or their counts alone, if nothing leads on from where they end but what is
+// pushed from the place too. Whether one was added.
+fn enter(
+    alloc: Global,
+    grid: &mut Grid,
+    from: usize,
+    found: &[Step],
+    leads_on: bool,
+) -> Result<bool, Memory>
     requires from { from < size_of grid.old }
     requires inside { (s : Pace) → Contains found.now s → s.to < size_of grid.old }
     ensures size { OnOk result (size_of grid.new ≡ size_of grid.old) }
     ensures holds { OnOk result (Holds (Made (SaysOr grid.old from found.now)) grid.new) }
 {
+    if !leads_on {
+        let any = grid.lower(alloc, from, found)?;
+        return Ok(any);
+    }
     let mut any = false;
     let levels = most(found) as usize + 1;
     for level in 0..levels {

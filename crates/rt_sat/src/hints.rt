@@ -1,6 +1,6 @@
 // Edges that are pushed from ways along others, found by tables of bytes. Nothing says that these are all, so searches go on
 // from them.
-ghost use Rattle.std.specs.Prelude.{◌≡◌, ◌∷◌, ◌++◌, ◌*◌, ◌<◌, ◌≤◌, ℕ, [], List, Bool, Contains, IfOk, OnOk, length};
+ghost use Rattle.std.specs.Prelude.{◌≡◌, ◌∷◌, ◌++◌, ◌*◌, ◌<◌, ◌≤◌, ℕ, [], List, Bool, Contains, IfOk, IfSome, OnOk, length};
 ghost use Rattle.rt_lines.specs.declared.variable.Dtv.{Dtv as Variable};
 ghost use Rattle.rt_sat.specs.declared.state.Edge.{Edge as Arrow};
 ghost use Rattle.rt_grid.specs.Tables.{size_of};
@@ -36,24 +36,40 @@ type Kind = (u8, u32, i32);
 // The group of each class and kind of letters.
 type Places = BTreeMap<(usize, Kind), usize>;
 
+// Pushed edges, and the tables that they come from.
+#[derive(Drop)]
+pub(crate) struct Hinted {
+    pub(crate) edges: Vec<Edge>,
+    // The ways between the variables from which edges lead on. There are none where there are few lines.
+    pub(crate) family: Option<Family>,
+}
+
 // Pushed edges. The error is out of memory.
-pub(crate) fn hints(alloc: Global, frame: &Frame, lines: &[Edge]) -> Result<Vec<Edge>, Memory>
+pub(crate) fn hints(alloc: Global, frame: &Frame, lines: &[Edge]) -> Result<Hinted, Memory>
     requires distinct { AreDistinct frame.now.named }
     requires nodes { length frame.now.nodes.items ≡ length frame.now.named }
-    ensures told { IfOk result (λ hints. AreTold frame.now.named frame.now.flips.items lines.now hints.items) }
-    ensures within { IfOk result (λ hints. AreWithin frame.now.named hints.items) }
+    ensures told { IfOk result (λ hinted. AreTold frame.now.named frame.now.flips.items lines.now hinted.edges.items) }
+    ensures within { IfOk result (λ hinted. AreWithin frame.now.named hinted.edges.items) }
+    ensures family { IfOk result (λ hinted. IfSome hinted.family (IsFamily (length frame.now.named))) }
 {
     if lines.len() < MANY {
-        return Ok(Vec::new(alloc));
+        return Ok(Hinted {
+            edges: Vec::new(alloc),
+            family: None,
+        });
     }
     let above = above(alloc, frame)?;
     let inner = inner(frame, lines, above);
     let mut family = Family::of(alloc, &frame.nodes, &inner)?;
     enter_lines(alloc, &mut family, lines)?;
-    let kin = kin(alloc, frame, lines, &family)?;
+    let mut kin = kin(alloc, frame, lines, &family)?;
+    kin.dead = dead(alloc, frame, &family, &kin.links)?;
     spread(alloc, frame, &kin, &mut family)?;
     let edges = pushed(alloc, frame, &kin.groups, &family)?;
-    Ok(edges)
+    Ok(Hinted {
+        edges,
+        family: Some(family),
+    })
 }
 
 // The flags, but for those of variables with a letter more than another one and with none more themselves. An edge between two
@@ -110,7 +126,59 @@ pub(crate) fn kin(
 {
     let groups = groups(alloc, frame, family)?;
     let links = Links::of(alloc, edges, family, frame.named.len())?;
-    Ok(Kin { groups, links })
+    Ok(Kin {
+        groups,
+        links,
+        dead: Vec::new(alloc),
+    })
+}
+
+// For each place of each class where counts matter whether no edge of a line leads from there, but for that to the state that is
+// turned round.
+pub(crate) fn dead(
+    alloc: Global,
+    frame: &Frame,
+    family: &Family,
+    links: &Links,
+) -> Result<Vec<Vec<bool>>, Memory>
+    requires { (count : ℕ) × IsFamily count family.now }
+{
+    let mut dead = Vec::with_capacity(alloc, family.grids.len())?;
+    for class in 0..family.grids.len() {
+        let members = family.members[class].items();
+        let flags = dead_of(alloc, frame, members, &family.grids[class])?;
+        dead.push(flags)?;
+    }
+    for states in &links.before {
+        for state in states.items() {
+            revive(family, *state, &mut dead);
+        }
+    }
+    Ok(dead)
+}
+
+// For each place of a class whether there is no step from it but that to the state that is turned round, if counts matter there.
+fn dead_of(alloc: Global, frame: &Frame, members: &[u32], grid: &Grid) -> Result<Vec<bool>, Memory>
+    requires { size_of grid.now ≡ 2 * length members.now }
+{
+    let mut dead = Vec::with_capacity(alloc, grid.len())?;
+    for place in 0..grid.len() {
+        let matters = flag(&frame.matters, members[place / 2]);
+        dead.push(matters && grid.steps(place).len() < 2)?;
+    }
+    Ok(dead)
+}
+
+// Clears the flag of where a state stands.
+pub(crate) fn revive(family: &Family, state: State, dead: &mut [Vec<bool>])
+    requires { (count : ℕ) × IsFamily count family.now }
+{
+    if let Some(home) = family.home(state)
+        && home.class < dead.len()
+        && home.index < dead[home.class].len()
+    {
+        dead[home.class][home.index] = false;
+    }
 }
 
 // Adds steps of edges, as far as their counts are small.
@@ -133,7 +201,7 @@ pub(crate) fn enter_lines(alloc: Global, family: &mut Family, lines: &[Edge]) ->
 }
 
 // Adds the step of an edge, if its count is small.
-fn enter_line(alloc: Global, family: &mut Family, edge: &Edge) -> Result<(), Memory>
+pub(crate) fn enter_line(alloc: Global, family: &mut Family, edge: &Edge) -> Result<(), Memory>
     requires { (count : ℕ) × IsFamily count family.old }
     ensures same { OnOk result (AreSameMembers family.old family.new) }
     ensures family { OnOk result ((count : ℕ) → IsFamily count family.old → IsFamily count family.new) }

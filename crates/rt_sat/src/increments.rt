@@ -1,5 +1,5 @@
 // What lines say, in tables of bytes to which lines can be added.
-ghost use Rattle.std.specs.Prelude.{◌≡◌, ℕ, List, Contains, true, length, IfOk, OnOk};
+ghost use Rattle.std.specs.Prelude.{◌≡◌, ℕ, List, Contains, Some, true, length, slice_get, IfOk, OnOk};
 ghost use Rattle.rt_sat.specs.declared.state.Edge.{Edge as Arrow};
 ghost use Rattle.rt_sat.specs.Inside.Links.{AreLinked};
 ghost use Rattle.rt_sat.specs.Hints.{AreGroups, IsFamily, IsTold, IsToldFamily};
@@ -17,7 +17,8 @@ ghost use Rattle.rt_sat.specs.Tables.{place, AreThere};
 use crate::entering::line_edges;
 use crate::family::Family;
 use crate::gathering::{Kin, clocks, spread, spread_from};
-use crate::hints::{enter_lines, inner, kin, set};
+use crate::hints::{dead, enter_lines, inner, kin, revive, set};
+use crate::links::Links;
 use crate::pushing::Frame;
 use crate::state::{Edge, State};
 use crate::table::{Begun, begin};
@@ -56,7 +57,8 @@ impl GrowingTable {
         let used = with_named(&frame.named, extra, inner);
         let mut family = Family::of(alloc, &frame.nodes, &used)?;
         enter_lines(alloc, &mut family, &first)?;
-        let kin = kin(alloc, &frame, &first, &family)?;
+        let mut kin = kin(alloc, &frame, &first, &family)?;
+        kin.dead = resting(alloc, &frame, &family, &kin.links, extra)?;
         spread(alloc, &frame, &kin, &mut family)?;
         Ok(GrowingTable { frame, family, kin })
     }
@@ -73,6 +75,16 @@ impl GrowingTable {
         let Some(upper) = self.frame.named.index(y) else {
             return false;
         };
+        self.has_numbers(lower, upper)
+    }
+
+    /// The same of the variables of two numbers: each has its index among those that the lines and others name for its number.
+    pub fn has_numbers(&self, lower: u32, upper: u32) -> bool
+        requires { (lines : List Given) × Tells lines self.now }
+        ensures { result ≡ true → (order : Below) (lines : List Given) (x y : Variable) → Tells lines self.now →
+            slice_get (named_of self.now) lower ≡ Some x → slice_get (named_of self.now) upper ≡ Some y →
+            Derivable order lines (Subtype x y) }
+    {
         self.has_way(forth(lower), forth(upper))
     }
 
@@ -177,4 +189,26 @@ fn with_named(named: &Named, variables: &[Dtv], flags: Vec<bool>) -> Vec<bool>
         }
     }
     flags
+}
+
+// For each place of each class whether no edge leads on from there, and none of a line that is added either, if each of these
+// begins at one of some variables.
+fn resting(
+    alloc: Global,
+    frame: &Frame,
+    family: &Family,
+    links: &Links,
+    variables: &[Dtv],
+) -> Result<Vec<Vec<bool>>, Memory>
+    requires { (count : ℕ) × IsFamily count family.now }
+{
+    let mut dead = dead(alloc, frame, family, links)?;
+    for x in variables {
+        if let Some(variable) = frame.named.index(x) {
+            for contra in [false, true] {
+                revive(family, State { variable, contra }, &mut dead);
+            }
+        }
+    }
+    Ok(dead)
 }

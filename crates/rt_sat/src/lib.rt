@@ -12,6 +12,7 @@ mod count;
 mod digits;
 mod entering;
 mod family;
+mod filling;
 mod gathering;
 mod hints;
 mod increments;

@@ -38,6 +38,10 @@ AreSources known flips lines ends = (end : End) → Contains ends end → IsTold
 abbrev pub AreTargets : List Dtv → List Bool → List Edge → List End → Type 0
 AreTargets known flips lines ends = (end : End) → Contains ends end → IsTold known flips lines end.child end.stand 0
 
+-- ends, and others
+abbrev pub AreEndsOf : List Dtv → List Bool → List ℕ → Family → List End → List End → Type 0
+AreEndsOf known flips members into sources targets = AreEnds known flips members into sources × AreEnds known flips members into targets
+
 -- one end, and others
 abbrev pub AreEndsFrom : List Dtv → List Bool → List ℕ → Family → End → List End → Type 0
 AreEndsFrom known flips members into source targets = IsEnd known flips members into source × AreEnds known flips members into targets

@@ -6,10 +6,10 @@ use Rattle.rt_equals.proofs.comparison.are_exact.Goals as goal
 pub returns-then-branch : goal.returns-then-branch
 returns-then-branch c = λ yes. c.in_ok-are_apart.ensures c.if-branch.true c.args.lines.now c.requires.named c.requires.outer
 
-pub returns : goal.returns
-returns c = λ yes.
+pub returns-then-branch-2 : goal.returns-then-branch-2
+returns-then-branch-2 c = λ yes.
     exact c.args.lines.now c.args.named.now c.args.outer.now.count c.args.outer.now.numbers.items c.in_ok-inner.inner.numbers.items
     c.requires.outer
     (inner_of c.args.lines.now c.args.named.now c.in_ok-lower.lower c.in_ok-inner.inner.numbers.items c.in_ok-lower.ensures c.requires.named
     c.in_ok-inner.ensures)
-    (subst (λ (xs : List ℕ). Agree c.args.named.now c.args.outer.now.numbers.items xs) c.deref.ensures.value (c.in_ok-exact.ensures yes))
+    (subst (λ (xs : List ℕ). Agree c.args.named.now c.args.outer.now.numbers.items xs) c.deref.ensures.value (c.in_ok-agree.ensures c.if-branch-2.true))

@@ -21,10 +21,10 @@ pub loop-done-init : goal.loop-done-init
 loop-done-init c = record {
   lines = c.in_ok-layers.ensures.lines;
   indexed = c.in_ok-layers.ensures.indexed;
-  built = built_hinted c.args.begun.frame.named c.args.begun.frame.flips.items c.args.begun.first.items c.in_ok-hints.hints.items
-      c.in_ok-layers.layers.edges.items c.in_ok-layers.ensures.edges c.in_ok-hints.ensures.within
-      (subst (λ (xs : List Edge). AreTold c.args.begun.frame.named c.args.begun.frame.flips.items xs c.in_ok-hints.hints.items)
-      c.deref.ensures.value c.in_ok-hints.ensures.told);
+  built = built_hinted c.args.begun.frame.named c.args.begun.frame.flips.items c.args.begun.first.items c.in_ok-hinted.hinted.edges.items
+      c.in_ok-layers.layers.edges.items c.in_ok-layers.ensures.edges c.in_ok-hinted.ensures.within
+      (subst (λ (xs : List Edge). AreTold c.args.begun.frame.named c.args.begun.frame.flips.items xs c.in_ok-hinted.hinted.edges.items)
+      c.deref.ensures.value c.in_ok-hinted.ensures.told);
   unmet = λ h. absurd (not_both (c.in_ok-meets.ensures.1 h) c.if-branch.false);
   done = c.in_ok-done.ensures;
 }
@@ -32,10 +32,10 @@ loop-done-init c = record {
 pub returns-then-branch : goal.returns-then-branch
 returns-then-branch c = record {
   edges = c.in_ok-layers.layers.edges.items;
-  built = built_hinted c.args.begun.frame.named c.args.begun.frame.flips.items c.args.begun.first.items c.in_ok-hints.hints.items
-      c.in_ok-layers.layers.edges.items c.in_ok-layers.ensures.edges c.in_ok-hints.ensures.within
-      (subst (λ (xs : List Edge). AreTold c.args.begun.frame.named c.args.begun.frame.flips.items xs c.in_ok-hints.hints.items)
-      c.deref.ensures.value c.in_ok-hints.ensures.told);
+  built = built_hinted c.args.begun.frame.named c.args.begun.frame.flips.items c.args.begun.first.items c.in_ok-hinted.hinted.edges.items
+      c.in_ok-layers.layers.edges.items c.in_ok-layers.ensures.edges c.in_ok-hinted.ensures.within
+      (subst (λ (xs : List Edge). AreTold c.args.begun.frame.named c.args.begun.frame.flips.items xs c.in_ok-hinted.hinted.edges.items)
+      c.deref.ensures.value c.in_ok-hinted.ensures.told);
   says = (λ h. c.in_ok-meets.ensures.0 c.if-branch.true, λ h. refl);
   whole = inl refl;
 }

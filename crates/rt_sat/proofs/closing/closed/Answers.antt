@@ -16,8 +16,8 @@ pub loop-done-init : goal.loop-done-init
 loop-done-init c = record {
   lines = c.in_ok-layers.ensures.lines;
   indexed = c.in_ok-layers.ensures.indexed;
-  built = built_hinted c.args.frame.now.named c.args.frame.now.flips.items c.args.lines.items c.in_ok-hints.hints.items c.in_ok-layers.layers.edges.items c.in_ok-layers.ensures.edges c.in_ok-hints.ensures.within
-      (subst (λ (xs : List Edge). AreTold c.args.frame.now.named c.args.frame.now.flips.items xs c.in_ok-hints.hints.items) c.deref.ensures.value c.in_ok-hints.ensures.told);
+  built = built_hinted c.args.frame.now.named c.args.frame.now.flips.items c.args.lines.items c.in_ok-hinted.hinted.edges.items c.in_ok-layers.layers.edges.items c.in_ok-layers.ensures.edges c.in_ok-hinted.ensures.within
+      (subst (λ (xs : List Edge). AreTold c.args.frame.now.named c.args.frame.now.flips.items xs c.in_ok-hinted.hinted.edges.items) c.deref.ensures.value c.in_ok-hinted.ensures.told);
   done = c.in_ok-done.ensures;
 }
 

@@ -1,9 +1,8 @@
-use Rattle.std.proofs.Common.{◌≡◌, ◌⊎◌, ◌+◌, ◌*◌, ◌<◌, Contains, get_or, sym, subst, ap, ◌∙◌, arith}
+use Rattle.std.proofs.Common.{◌≡◌, ◌⊎◌, ◌+◌, Contains, get_or, sym, subst, ap, ◌∙◌, arith}
 use Rattle.std.specs.Prelude.{false}
 use Rattle.std.proofs.lemmas.List.Elements.{Contains-get_or}
 use Rattle.rt_sat.specs.declared.gathering.End.{End}
 use Rattle.rt_sat.specs.declared.state.State.{State}
-use Rattle.rt_sat.specs.Counts.{digit_of}
 use Rattle.rt_sat.specs.Hints.{state_at, AreEnds, IsEnd}
 use Rattle.rt_sat.specs.Inside.Links.{noted_at, AreSources, AreTargets}
 use Rattle.rt_sat.proofs.Standing.{sources_more, targets_more}
@@ -30,6 +29,9 @@ loop-stand-preserved c =
             home = w.in-Some-home.home;
             flip = w.flag.result;
             matters = w.flag-in-Some-home.result;
+            pointer = w.is_pointer.result;
+            turned = w.turns.result;
+            leads_on = w.leads_on.result;
           } in
           let is : IsEnd known flips members into end = record {
             inside = omega (arith, digit_small c.args.contra, w.place.ensures, c.requires.kid);

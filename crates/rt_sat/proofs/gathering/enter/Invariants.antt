@@ -1,6 +1,5 @@
 use Rattle.std.proofs.Common.{◌≡◌}
-use Rattle.rt_grid.specs.Tables.{size_of, Holds, Made}
-use Rattle.rt_sat.specs.Hints.{SaysOr}
+use Rattle.rt_grid.specs.Tables.{size_of, Holds, Made, SaysOr}
 use Rattle.rt_sat.proofs.gathering.enter.Given as goal
 
 abbrev pub invariant-loop-level : goal.invariant-loop-level

@@ -6,6 +6,9 @@ use Rattle.rt_sat.proofs.hints.hints.Goals as goal
 pub kin-requires : goal.kin-requires
 kin-requires c = (length c.deref.result.now, c.in_ok-enter_lines.ensures.family (length c.deref.result.now) c.in_ok-family.ensures.family)
 
+pub dead-requires : goal.dead-requires
+dead-requires c = (length c.deref.result.now, c.in_ok-enter_lines.ensures.family (length c.deref.result.now) c.in_ok-family.ensures.family)
+
 pub spread-requires-clause-family : goal.spread-requires-clause-family
 spread-requires-clause-family c =
     subst (λ n. IsFamily n c.enter_lines.new.family) (ap length c.deref.ensures.value ∙ c.requires.nodes) (c.in_ok-enter_lines.ensures.family (length c.deref.result.now) c.in_ok-family.ensures.family)
