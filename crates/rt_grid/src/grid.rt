@@ -70,6 +70,23 @@ impl Grid {
         })
     }
 
+    /// The same table once more. The error is out of memory.
+    pub fn copy(&self, alloc: Global) -> Result<Grid, Memory>
+        ensures { IfOk result (λ copy. copy ≡ self.now) }
+    {
+        let rows = rows_of(alloc, &self.rows)?;
+        let steps = all_steps_of(alloc, &self.steps)?;
+        let changed = self.changed.to_vec(alloc)?;
+        let seen = self.seen.to_vec(alloc)?;
+        Ok(Grid {
+            rows,
+            steps,
+            changed,
+            seen,
+            clock: self.clock,
+        })
+    }
+
     /// How many places there are.
     pub fn len(&self) -> usize
         ensures { result ≡ size_of self.now }
@@ -267,6 +284,30 @@ fn no_steps(alloc: Global, size: usize) -> Result<Vec<Sequence<Step>>, Memory>
         steps.push(Sequence::new(alloc))?;
     }
     Ok(steps)
+}
+
+// The rows once more.
+fn rows_of(alloc: Global, rows: &[Sequence<u8>]) -> Result<Vec<Sequence<u8>>, Memory>
+    ensures { IfOk result (λ copies. copies.items ≡ rows.now) }
+{
+    let mut copies = Vec::with_capacity(alloc, rows.len())?;
+    for row in rows {
+        let copy = row.items().to_vec(alloc)?;
+        copies.push(Sequence::from_vec(copy))?;
+    }
+    Ok(copies)
+}
+
+// The steps from each place once more.
+fn all_steps_of(alloc: Global, steps: &[Sequence<Step>]) -> Result<Vec<Sequence<Step>>, Memory>
+    ensures { IfOk result (λ copies. copies.items ≡ steps.now) }
+{
+    let mut copies = Vec::with_capacity(alloc, steps.len())?;
+    for from in steps {
+        let copy = from.items().to_vec(alloc)?;
+        copies.push(Sequence::from_vec(copy))?;
+    }
+    Ok(copies)
 }
 
 // Whether a step leads to a row that changed since.

@@ -23,3 +23,4 @@ pub mod Rested
 pub mod Bounded
 pub mod Sided
 pub mod Told
+pub mod Stepping

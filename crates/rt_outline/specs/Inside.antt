@@ -4,3 +4,4 @@ pub mod Sweeps
 pub mod Resting
 pub mod Bounds
 pub mod Sides
+pub mod Stepping

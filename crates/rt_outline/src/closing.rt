@@ -15,8 +15,8 @@ const PASSES: u64 = 0xff_ffff_ffff;
 // Adds pushed arcs until ways of them lead wherever something is pushed from a way of arcs. A pass adds arcs of a node to the
 // nearest of these alone: where ways of pushed arcs lead there need be none.
 pub(crate) fn close(alloc: Global, frame: &mut Frame, stands: &[bool]) -> Result<(), Memory>
-    requires { IsFrame frame.old.origins.items frame.old.steps.entries frame.old.arcs.items frame.old.back.items }
-    ensures frame { OnOk result (IsFrame frame.new.origins.items frame.new.steps.entries frame.new.arcs.items frame.new.back.items) }
+    requires { IsFrame frame.old.origins.items frame.old.steps frame.old.arcs.items frame.old.back.items }
+    ensures frame { OnOk result (IsFrame frame.new.origins.items frame.new.steps frame.new.arcs.items frame.new.back.items) }
     ensures origins { OnOk result (frame.new.origins.items ≡ frame.old.origins.items) }
     ensures more { OnOk result (IsPushedMore frame.old.origins.items stands.now frame.old.arcs.items frame.new.arcs.items) }
     ensures closed { OnOk result (IsClosed frame.new.origins.items frame.new.arcs.items stands.now) }
@@ -32,8 +32,8 @@ pub(crate) fn close(alloc: Global, frame: &mut Frame, stands: &[bool]) -> Result
 
 // Adds what is pushed to the nearest nodes from each node, those first of which others are made. Whether there was any.
 fn pass(alloc: Global, frame: &mut Frame, stands: &[bool]) -> Result<bool, Memory>
-    requires frame { IsFrame frame.old.origins.items frame.old.steps.entries frame.old.arcs.items frame.old.back.items }
-    ensures frame { OnOk result (IsFrame frame.new.origins.items frame.new.steps.entries frame.new.arcs.items frame.new.back.items) }
+    requires frame { IsFrame frame.old.origins.items frame.old.steps frame.old.arcs.items frame.old.back.items }
+    ensures frame { OnOk result (IsFrame frame.new.origins.items frame.new.steps frame.new.arcs.items frame.new.back.items) }
     ensures origins { OnOk result (frame.new.origins.items ≡ frame.old.origins.items) }
     ensures more { OnOk result (IsPushedMore frame.old.origins.items stands.now frame.old.arcs.items frame.new.arcs.items) }
     ensures closed { IfOk result (λ added. added ≡ false → IsClosed frame.new.origins.items frame.new.arcs.items stands.now) }
@@ -57,14 +57,14 @@ fn push_node(
     room: &mut Room,
     node: u32,
 ) -> Result<bool, Memory>
-    requires frame { IsFrame frame.old.origins.items frame.old.steps.entries frame.old.arcs.items frame.old.back.items }
+    requires frame { IsFrame frame.old.origins.items frame.old.steps frame.old.arcs.items frame.old.back.items }
     requires node { node < length frame.old.origins.items }
-    ensures frame { OnOk result (IsFrame frame.new.origins.items frame.new.steps.entries frame.new.arcs.items frame.new.back.items) }
+    ensures frame { OnOk result (IsFrame frame.new.origins.items frame.new.steps frame.new.arcs.items frame.new.back.items) }
     ensures origins { OnOk result (frame.new.origins.items ≡ frame.old.origins.items) }
-    ensures steps { frame.new.steps.entries ≡ frame.old.steps.entries }
+    ensures steps { frame.new.steps ≡ frame.old.steps }
     ensures more { OnOk result (IsPushedMore frame.old.origins.items stands.now frame.old.arcs.items frame.new.arcs.items) }
     ensures done { IfOk result (λ added. added ≡ false → (frame.new.arcs.items ≡ frame.old.arcs.items) ×
-        IsDoneAt frame.old.origins.items frame.old.steps.entries frame.old.arcs.items stands.now node) }
+        IsDoneAt frame.old.origins.items frame.old.steps frame.old.arcs.items stands.now node) }
 {
     match frame.origins[node as usize] {
         Some(origin) => {
@@ -78,12 +78,12 @@ fn push_node(
 
 // Adds pushed arcs from a node.
 fn enter(frame: &mut Frame, node: u32, fresh: &[u32]) -> Result<(), Memory>
-    requires frame { IsFrame frame.old.origins.items frame.old.steps.entries frame.old.arcs.items frame.old.back.items }
+    requires frame { IsFrame frame.old.origins.items frame.old.steps frame.old.arcs.items frame.old.back.items }
     requires node { node < length frame.old.origins.items }
     requires within { (w : ℕ) → Contains fresh.now w → w < length frame.old.origins.items }
-    ensures frame { OnOk result (IsFrame frame.new.origins.items frame.new.steps.entries frame.new.arcs.items frame.new.back.items) }
+    ensures frame { OnOk result (IsFrame frame.new.origins.items frame.new.steps frame.new.arcs.items frame.new.back.items) }
     ensures origins { frame.new.origins.items ≡ frame.old.origins.items }
-    ensures steps { frame.new.steps.entries ≡ frame.old.steps.entries }
+    ensures steps { frame.new.steps ≡ frame.old.steps }
     ensures kept { OnOk result (AreKept frame.old.arcs.items frame.new.arcs.items) }
     ensures more { OnOk result (AreMore (λ v w. (v ≡ node) × Contains fresh.now w) frame.old.arcs.items frame.new.arcs.items) }
     ensures none { fresh.now ≡ [] → frame.new.arcs.items ≡ frame.old.arcs.items }

@@ -28,7 +28,7 @@ const ROUNDS: usize = 8;
 pub(crate) fn crossed(alloc: Global, lines: &[Line], named: &Named) -> Result<Option<Frame>, Memory>
     requires { AreNamed lines.now named.now }
     ensures frame { IfOk result (λ found. IfSome found (λ frame.
-        IsFrame frame.origins.items frame.steps.entries frame.arcs.items frame.back.items)) }
+        IsFrame frame.origins.items frame.steps frame.arcs.items frame.back.items)) }
     ensures outer { IfOk result (λ found. IfSome found (λ frame.
         AreOuterArcs lines.now named.now frame.origins.items frame.arcs.items)) }
 {
@@ -88,7 +88,7 @@ fn crossed_by(
     requires named { AreNamed lines.now named.now }
     requires flips { length sorts.now.flips.items ≡ length named.now }
     ensures frame { IfOk result (λ found. IfSome found (λ frame.
-        IsFrame frame.origins.items frame.steps.entries frame.arcs.items frame.back.items)) }
+        IsFrame frame.origins.items frame.steps frame.arcs.items frame.back.items)) }
     ensures crossed { IfOk result (λ found. IfSome found (λ frame. IsCrossed lines.now named.now sorts.now.flips.items stands.now
         frame.origins.items frame.arcs.items)) }
     ensures turning { IfOk result (λ found. IfSome found (λ frame. AreTurning frame.origins.items
@@ -111,7 +111,7 @@ fn if_turning(
     sorts: &Sorts,
     stands: &[bool],
 ) -> Result<Option<Frame>, Memory>
-    requires frame { IsFrame frame.origins.items frame.steps.entries frame.arcs.items frame.back.items }
+    requires frame { IsFrame frame.origins.items frame.steps frame.arcs.items frame.back.items }
     ensures same { IfOk result (λ found. IfSome found (λ same. same ≡ frame)) }
     ensures turning { IfOk result (λ found. IfSome found (λ same. AreTurning frame.origins.items
         (Leads frame.arcs.items stands.now true) sorts.now.classes.items sorts.now.flips.items sorts.now.marks.items
@@ -134,7 +134,7 @@ fn framed_with(
 ) -> Result<Frame, Memory>
     requires named { AreNamed lines.now named.now }
     requires flips { length sorts.now.flips.items ≡ length named.now }
-    ensures frame { IfOk result (λ frame. IsFrame frame.origins.items frame.steps.entries frame.arcs.items frame.back.items) }
+    ensures frame { IfOk result (λ frame. IsFrame frame.origins.items frame.steps frame.arcs.items frame.back.items) }
     ensures crossed { IfOk result (λ frame. IsCrossed lines.now named.now sorts.now.flips.items stands.now frame.origins.items
         frame.arcs.items) }
 {
@@ -149,8 +149,8 @@ fn framed_with(
 
 // Adds hubs, with an arc to each of their nodes, or from each.
 fn enter_hubs(alloc: Global, frame: &mut Frame, hubs: &[Hub]) -> Result<(), Memory>
-    requires { IsFrame frame.old.origins.items frame.old.steps.entries frame.old.arcs.items frame.old.back.items }
-    ensures frame { OnOk result (IsFrame frame.new.origins.items frame.new.steps.entries frame.new.arcs.items frame.new.back.items) }
+    requires { IsFrame frame.old.origins.items frame.old.steps frame.old.arcs.items frame.old.back.items }
+    ensures frame { OnOk result (IsFrame frame.new.origins.items frame.new.steps frame.new.arcs.items frame.new.back.items) }
     ensures more { OnOk result (IsGrownBy frame.old.origins.items frame.old.arcs.items frame.new.origins.items frame.new.arcs.items) }
 {
     for hub in hubs {
@@ -161,8 +161,8 @@ fn enter_hubs(alloc: Global, frame: &mut Frame, hubs: &[Hub]) -> Result<(), Memo
 
 // Adds a hub, with a load and a store if it lies below its nodes.
 fn enter_hub(alloc: Global, frame: &mut Frame, hub: &Hub) -> Result<(), Memory>
-    requires { IsFrame frame.old.origins.items frame.old.steps.entries frame.old.arcs.items frame.old.back.items }
-    ensures frame { OnOk result (IsFrame frame.new.origins.items frame.new.steps.entries frame.new.arcs.items frame.new.back.items) }
+    requires { IsFrame frame.old.origins.items frame.old.steps frame.old.arcs.items frame.old.back.items }
+    ensures frame { OnOk result (IsFrame frame.new.origins.items frame.new.steps frame.new.arcs.items frame.new.back.items) }
     ensures more { OnOk result (IsGrownBy frame.old.origins.items frame.old.arcs.items frame.new.origins.items frame.new.arcs.items) }
 {
     let node = frame.enter(alloc, None)?;
@@ -177,9 +177,9 @@ fn enter_hub(alloc: Global, frame: &mut Frame, hub: &Hub) -> Result<(), Memory>
 
 // Adds a pushed arc from a hub to another node, if there is that, or the other way.
 fn join(frame: &mut Frame, hub: u32, node: u32, is_lower: bool) -> Result<(), Memory>
-    requires frame { IsFrame frame.old.origins.items frame.old.steps.entries frame.old.arcs.items frame.old.back.items }
+    requires frame { IsFrame frame.old.origins.items frame.old.steps frame.old.arcs.items frame.old.back.items }
     requires hub { hub < length frame.old.origins.items }
-    ensures frame { OnOk result (IsFrame frame.new.origins.items frame.new.steps.entries frame.new.arcs.items frame.new.back.items) }
+    ensures frame { OnOk result (IsFrame frame.new.origins.items frame.new.steps frame.new.arcs.items frame.new.back.items) }
     ensures more { OnOk result (IsGrownBy frame.old.origins.items frame.old.arcs.items frame.new.origins.items frame.new.arcs.items) }
 {
     if node as usize >= frame.origins.len() {

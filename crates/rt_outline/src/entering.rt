@@ -16,10 +16,10 @@ use std::alloc::Global;
 // Adds the arcs of lines.
 pub(crate) fn enter_lines(named: &Named, lines: &[Line], frame: &mut Frame) -> Result<(), Memory>
     requires sides { (l : Given) (x : Variable) → Contains lines.now l → HasSide l x → Contains named.now x }
-    requires frame { IsFrame frame.old.origins.items frame.old.steps.entries frame.old.arcs.items frame.old.back.items }
+    requires frame { IsFrame frame.old.origins.items frame.old.steps frame.old.arcs.items frame.old.back.items }
     requires nodes { length named.now ≤ length frame.old.origins.items }
     requires none { AreLineArcs lines.now 0 named.now frame.old.arcs.items }
-    ensures frame { OnOk result (IsFrame frame.new.origins.items frame.new.steps.entries frame.new.arcs.items frame.new.back.items) }
+    ensures frame { OnOk result (IsFrame frame.new.origins.items frame.new.steps frame.new.arcs.items frame.new.back.items) }
     ensures origins { OnOk result (frame.new.origins.items ≡ frame.old.origins.items) }
     ensures arcs { OnOk result (AreLineArcs lines.now (length lines.now) named.now frame.new.arcs.items) }
     ensures kept { OnOk result (AreKept frame.old.arcs.items frame.new.arcs.items) }
@@ -35,10 +35,10 @@ pub(crate) fn enter_lines(named: &Named, lines: &[Line], frame: &mut Frame) -> R
 fn enter_line(named: &Named, lines: &[Line], frame: &mut Frame, i: usize) -> Result<(), Memory>
     requires sides { (l : Given) (x : Variable) → Contains lines.now l → HasSide l x → Contains named.now x }
     requires index { i < length lines.now }
-    requires frame { IsFrame frame.old.origins.items frame.old.steps.entries frame.old.arcs.items frame.old.back.items }
+    requires frame { IsFrame frame.old.origins.items frame.old.steps frame.old.arcs.items frame.old.back.items }
     requires nodes { length named.now ≤ length frame.old.origins.items }
     requires arcs { AreLineArcs lines.now i named.now frame.old.arcs.items }
-    ensures frame { OnOk result (IsFrame frame.new.origins.items frame.new.steps.entries frame.new.arcs.items frame.new.back.items) }
+    ensures frame { OnOk result (IsFrame frame.new.origins.items frame.new.steps frame.new.arcs.items frame.new.back.items) }
     ensures origins { OnOk result (frame.new.origins.items ≡ frame.old.origins.items) }
     ensures arcs { OnOk result (AreLineArcs lines.now (i + 1) named.now frame.new.arcs.items) }
     ensures kept { OnOk result (AreKept frame.old.arcs.items frame.new.arcs.items) }
@@ -63,8 +63,8 @@ fn enter_line(named: &Named, lines: &[Line], frame: &mut Frame, i: usize) -> Res
 
 // Adds an arc from the store to the load of each node that has both.
 pub(crate) fn enter_pointers(frame: &mut Frame) -> Result<(), Memory>
-    requires { IsFrame frame.old.origins.items frame.old.steps.entries frame.old.arcs.items frame.old.back.items }
-    ensures frame { OnOk result (IsFrame frame.new.origins.items frame.new.steps.entries frame.new.arcs.items frame.new.back.items) }
+    requires { IsFrame frame.old.origins.items frame.old.steps frame.old.arcs.items frame.old.back.items }
+    ensures frame { OnOk result (IsFrame frame.new.origins.items frame.new.steps frame.new.arcs.items frame.new.back.items) }
     ensures origins { OnOk result (frame.new.origins.items ≡ frame.old.origins.items) }
     ensures kept { OnOk result (AreKept frame.old.arcs.items frame.new.arcs.items) }
     ensures pointers { OnOk result (HavePointers frame.new.origins.items frame.new.arcs.items) }
@@ -78,8 +78,8 @@ pub(crate) fn enter_pointers(frame: &mut Frame) -> Result<(), Memory>
 
 // Adds the arc from the store to the load of a node, if it has both.
 fn enter_pointer(frame: &mut Frame, node: u32) -> Result<(), Memory>
-    requires { IsFrame frame.old.origins.items frame.old.steps.entries frame.old.arcs.items frame.old.back.items }
-    ensures frame { OnOk result (IsFrame frame.new.origins.items frame.new.steps.entries frame.new.arcs.items frame.new.back.items) }
+    requires { IsFrame frame.old.origins.items frame.old.steps frame.old.arcs.items frame.old.back.items }
+    ensures frame { OnOk result (IsFrame frame.new.origins.items frame.new.steps frame.new.arcs.items frame.new.back.items) }
     ensures origins { OnOk result (frame.new.origins.items ≡ frame.old.origins.items) }
     ensures kept { OnOk result (AreKept frame.old.arcs.items frame.new.arcs.items) }
     ensures pointers { OnOk result (HavePointersAt frame.new.origins.items frame.new.arcs.items node) }

@@ -6,7 +6,7 @@ ghost use Rattle.rt_outline.specs.Frames.{AreDistinct, AreOriginsOf, IsFrame, Is
 
 use crate::adding::add;
 use crate::arc::Arc;
-use indexmap::IndexMap;
+use crate::steps::Steps;
 use rt_base::{Memory, Sequence};
 use rt_lines::Label;
 use rt_named::{Named, Origin};
@@ -17,7 +17,7 @@ use std::alloc::{AllocError, Global};
 #[derive(Drop)]
 pub(crate) struct Frame {
     pub(crate) origins: Vec<Option<(u32, Label)>>,
-    pub(crate) steps: IndexMap<(u32, Label), u32>,
+    pub(crate) steps: Steps,
     pub(crate) arcs: Vec<Sequence<Arc>>,
     pub(crate) back: Vec<Sequence<Arc>>,
 }
@@ -26,13 +26,13 @@ impl Frame {
     // The nodes of named variables, without arcs.
     pub(crate) fn of(alloc: Global, named: &Named) -> Result<Frame, Memory>
         requires { AreDistinct named.now }
-        ensures frame { IfOk result (λ frame. IsFrame frame.origins.items frame.steps.entries frame.arcs.items frame.back.items) }
+        ensures frame { IfOk result (λ frame. IsFrame frame.origins.items frame.steps frame.arcs.items frame.back.items) }
         ensures origins { IfOk result (λ frame. AreOriginsOf named.now frame.origins.items) }
         ensures none { IfOk result (λ frame. (v w : ℕ) (line : Maybe ℕ) → HasArc frame.arcs.items v w line → ⊥) }
     {
         let mut frame = Frame {
             origins: Vec::new(alloc),
-            steps: IndexMap::new(alloc),
+            steps: Steps::new(alloc),
             arcs: Vec::new(alloc),
             back: Vec::new(alloc),
         };
@@ -48,10 +48,10 @@ impl Frame {
         alloc: Global,
         origin: Option<(u32, Label)>,
     ) -> Result<u32, Memory>
-        requires frame { IsFrame self.old.origins.items self.old.steps.entries self.old.arcs.items self.old.back.items }
+        requires frame { IsFrame self.old.origins.items self.old.steps self.old.arcs.items self.old.back.items }
         requires fresh { IsFresh self.old.origins.items origin }
         requires below { (p : ℕ) (l : Letter) → origin ≡ Some (p, l) → p < length self.old.origins.items }
-        ensures frame { OnOk result (IsFrame self.new.origins.items self.new.steps.entries self.new.arcs.items self.new.back.items) }
+        ensures frame { OnOk result (IsFrame self.new.origins.items self.new.steps self.new.arcs.items self.new.back.items) }
         ensures node { IfOk result (λ node. node ≡ length self.old.origins.items) }
         ensures origins { OnOk result (self.new.origins.items ≡ self.old.origins.items ++ origin ∷ []) }
         ensures arcs { OnOk result (self.new.arcs.items ≡ self.old.arcs.items ++ [] ∷ []) }
@@ -69,16 +69,16 @@ impl Frame {
 
     // The node with a letter more.
     pub(crate) fn step(&self, node: u32, label: Label) -> Option<u32>
-        ensures { result ≡ step_of self.now.steps.entries node label }
+        ensures { result ≡ step_of self.now.steps node label }
     {
-        self.steps.get(&(node, label)).copied()
+        self.steps.get(node, label)
     }
 
     // The node with a letter more, made where there is none.
     pub(crate) fn stepped(&mut self, alloc: Global, node: u32, label: Label) -> Result<u32, Memory>
-        requires frame { IsFrame self.old.origins.items self.old.steps.entries self.old.arcs.items self.old.back.items }
+        requires frame { IsFrame self.old.origins.items self.old.steps self.old.arcs.items self.old.back.items }
         requires node { node < length self.old.origins.items }
-        ensures frame { OnOk result (IsFrame self.new.origins.items self.new.steps.entries self.new.arcs.items self.new.back.items) }
+        ensures frame { OnOk result (IsFrame self.new.origins.items self.new.steps self.new.arcs.items self.new.back.items) }
         ensures made { IfOk result (λ next. IsMade self.new.origins.items next node label) }
         ensures more { OnOk result (IsStepped self.old.origins.items self.old.arcs.items self.new.origins.items self.new.arcs.items) }
     {
@@ -91,12 +91,12 @@ impl Frame {
 
     // Adds an arc.
     pub(crate) fn join(&mut self, from: u32, arc: Arc) -> Result<(), Memory>
-        requires frame { IsFrame self.old.origins.items self.old.steps.entries self.old.arcs.items self.old.back.items }
+        requires frame { IsFrame self.old.origins.items self.old.steps self.old.arcs.items self.old.back.items }
         requires from { from < length self.old.origins.items }
         requires to { arc.to < length self.old.origins.items }
-        ensures frame { OnOk result (IsFrame self.new.origins.items self.new.steps.entries self.new.arcs.items self.new.back.items) }
+        ensures frame { OnOk result (IsFrame self.new.origins.items self.new.steps self.new.arcs.items self.new.back.items) }
         ensures origins { self.new.origins.items ≡ self.old.origins.items }
-        ensures steps { self.new.steps.entries ≡ self.old.steps.entries }
+        ensures steps { self.new.steps ≡ self.old.steps }
         ensures added { OnOk result (IsAdded from arc self.old.arcs.items self.new.arcs.items) }
     {
         let turned = Arc {
@@ -110,18 +110,11 @@ impl Frame {
 }
 
 // Sets the step to a node, if it is made of another one.
-fn set(
-    steps: &mut IndexMap<(u32, Label), u32>,
-    origin: Option<(u32, Label)>,
-    node: u32,
-) -> Result<(), Memory>
-    ensures { OnOk result ((p : ℕ) (l : Letter) → IsSetAt origin node p l steps.old.entries steps.new.entries) }
+fn set(steps: &mut Steps, origin: Option<(u32, Label)>, node: u32) -> Result<(), Memory>
+    ensures { OnOk result ((p : ℕ) (l : Letter) → IsSetAt origin node p l steps.old steps.new) }
 {
     match origin {
-        Some(key) => {
-            steps.insert(key, node)?;
-            Ok(())
-        }
+        Some((from, label)) => steps.insert(from, label, node),
         None => Ok(()),
     }
 }

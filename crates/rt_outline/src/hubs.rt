@@ -15,9 +15,9 @@ use std::alloc::Global;
 
 // Adds load and store of each variable that can be read and written through.
 pub(crate) fn enter_accesses(alloc: Global, frame: &mut Frame, flips: &[bool]) -> Result<(), Memory>
-    requires frame { IsFrame frame.old.origins.items frame.old.steps.entries frame.old.arcs.items frame.old.back.items }
+    requires frame { IsFrame frame.old.origins.items frame.old.steps frame.old.arcs.items frame.old.back.items }
     requires flips { length flips.now ≤ length frame.old.origins.items }
-    ensures frame { OnOk result (IsFrame frame.new.origins.items frame.new.steps.entries frame.new.arcs.items frame.new.back.items) }
+    ensures frame { OnOk result (IsFrame frame.new.origins.items frame.new.steps frame.new.arcs.items frame.new.back.items) }
     ensures more { OnOk result (IsStepped frame.old.origins.items frame.old.arcs.items frame.new.origins.items frame.new.arcs.items) }
     ensures all { OnOk result ((n : ℕ) → slice_get flips.now n ≡ Some true → HasAccess frame.new.origins.items n) }
 {
@@ -31,9 +31,9 @@ pub(crate) fn enter_accesses(alloc: Global, frame: &mut Frame, flips: &[bool]) -
 
 // Adds load and store of a node.
 pub(crate) fn enter_access(alloc: Global, frame: &mut Frame, node: u32) -> Result<(), Memory>
-    requires frame { IsFrame frame.old.origins.items frame.old.steps.entries frame.old.arcs.items frame.old.back.items }
+    requires frame { IsFrame frame.old.origins.items frame.old.steps frame.old.arcs.items frame.old.back.items }
     requires node { node < length frame.old.origins.items }
-    ensures frame { OnOk result (IsFrame frame.new.origins.items frame.new.steps.entries frame.new.arcs.items frame.new.back.items) }
+    ensures frame { OnOk result (IsFrame frame.new.origins.items frame.new.steps frame.new.arcs.items frame.new.back.items) }
     ensures more { OnOk result (IsStepped frame.old.origins.items frame.old.arcs.items frame.new.origins.items frame.new.arcs.items) }
     ensures access { OnOk result (HasAccess frame.new.origins.items node) }
 {
@@ -50,11 +50,11 @@ pub(crate) fn enter_hubs(
     classes: &[Option<u32>],
     flips: &[bool],
 ) -> Result<(), Memory>
-    requires frame { IsFrame frame.old.origins.items frame.old.steps.entries frame.old.arcs.items frame.old.back.items }
+    requires frame { IsFrame frame.old.origins.items frame.old.steps frame.old.arcs.items frame.old.back.items }
     requires flips { length flips.now ≤ length frame.old.origins.items }
     requires classes { length classes.now ≡ length flips.now }
     requires below { (n p : ℕ) (l : Letter) → n < length flips.now → IsMade frame.old.origins.items n p l → p < n }
-    ensures frame { OnOk result (IsFrame frame.new.origins.items frame.new.steps.entries frame.new.arcs.items frame.new.back.items) }
+    ensures frame { OnOk result (IsFrame frame.new.origins.items frame.new.steps frame.new.arcs.items frame.new.back.items) }
     ensures more { OnOk result (IsGrownBy frame.old.origins.items frame.old.arcs.items frame.new.origins.items frame.new.arcs.items) }
     ensures hubs { OnOk result (HaveHubs frame.new.origins.items frame.new.arcs.items classes.now flips.now) }
 {
@@ -76,13 +76,13 @@ fn enter_below(
     hubs: &mut IndexMap<(u32, Label), u32>,
     node: u32,
 ) -> Result<(), Memory>
-    requires frame { IsFrame frame.old.origins.items frame.old.steps.entries frame.old.arcs.items frame.old.back.items }
+    requires frame { IsFrame frame.old.origins.items frame.old.steps frame.old.arcs.items frame.old.back.items }
     requires flips { length flips.now ≤ length frame.old.origins.items }
     requires classes { length classes.now ≡ length flips.now }
     requires below { (n p : ℕ) (l : Letter) → n < length flips.now → IsMade frame.old.origins.items n p l → p < n }
     requires node { node < length flips.now }
     requires hubs { AreHubs frame.old.origins.items hubs.old.entries }
-    ensures frame { OnOk result (IsFrame frame.new.origins.items frame.new.steps.entries frame.new.arcs.items frame.new.back.items) }
+    ensures frame { OnOk result (IsFrame frame.new.origins.items frame.new.steps frame.new.arcs.items frame.new.back.items) }
     ensures more { OnOk result (IsGrownBy frame.old.origins.items frame.old.arcs.items frame.new.origins.items frame.new.arcs.items) }
     ensures hubs { OnOk result (AreHubs frame.new.origins.items hubs.new.entries) }
     ensures kept { OnOk result (AreHubsKept hubs.old.entries hubs.new.entries) }
@@ -143,9 +143,9 @@ fn hub_of(
     hubs: &mut IndexMap<(u32, Label), u32>,
     key: (u32, Label),
 ) -> Result<u32, Memory>
-    requires frame { IsFrame frame.old.origins.items frame.old.steps.entries frame.old.arcs.items frame.old.back.items }
+    requires frame { IsFrame frame.old.origins.items frame.old.steps frame.old.arcs.items frame.old.back.items }
     requires hubs { AreHubs frame.old.origins.items hubs.old.entries }
-    ensures frame { OnOk result (IsFrame frame.new.origins.items frame.new.steps.entries frame.new.arcs.items frame.new.back.items) }
+    ensures frame { OnOk result (IsFrame frame.new.origins.items frame.new.steps frame.new.arcs.items frame.new.back.items) }
     ensures more { OnOk result (IsStepped frame.old.origins.items frame.old.arcs.items frame.new.origins.items frame.new.arcs.items) }
     ensures hubs { OnOk result (AreHubs frame.new.origins.items hubs.new.entries) }
     ensures kept { OnOk result (AreHubsKept hubs.old.entries hubs.new.entries) }

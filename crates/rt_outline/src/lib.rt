@@ -23,6 +23,7 @@ mod resting;
 mod seeking;
 mod sorting;
 mod spreading;
+mod steps;
 mod sweeping;
 mod turning;
 mod upper;

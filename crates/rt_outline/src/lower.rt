@@ -42,7 +42,7 @@ impl Model for Lower {
     ghost view = { λ t. record { lines = t.lines.items; named = t.named } };
 
     ghost invariant = { λ t. IsInner t.lines.items t.named t.frame.arcs.items t.stands.items ×
-        IsFrame t.frame.origins.items t.frame.steps.entries t.frame.arcs.items t.frame.back.items ×
+        IsFrame t.frame.origins.items t.frame.steps t.frame.arcs.items t.frame.back.items ×
         (length t.frame.origins.items ≡ length t.named) };
 }
 

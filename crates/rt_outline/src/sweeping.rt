@@ -42,12 +42,12 @@ pub(crate) fn ends(
     node: u32,
     origin: (u32, Label),
 ) -> Result<Vec<u32>, Memory>
-    requires frame { IsFrame frame.now.origins.items frame.now.steps.entries frame.now.arcs.items frame.now.back.items }
+    requires frame { IsFrame frame.now.origins.items frame.now.steps frame.now.arcs.items frame.now.back.items }
     requires made { IsMade frame.now.origins.items node origin.0 origin.1 }
     ensures pushed { IfOk result (λ fresh. (w : ℕ) → Contains fresh.items w →
         IsPushed frame.now.origins.items (Leads frame.now.arcs.items stands.now true) node w) }
     ensures done { IfOk result (λ fresh. fresh.items ≡ [] →
-        IsDoneAt frame.now.origins.items frame.now.steps.entries frame.now.arcs.items stands.now node) }
+        IsDoneAt frame.now.origins.items frame.now.steps frame.now.arcs.items stands.now node) }
 {
     let arcs = side(frame, origin.1);
     sweep(frame, arcs, stands, origin, room)?;
@@ -73,10 +73,10 @@ fn sweep(
     origin: (u32, Label),
     room: &mut Room,
 ) -> Result<(), Memory>
-    ensures swept { OnOk result (IsSwept (Leads arcs.now stands.now true) (end_of frame.now.steps.entries origin.0 origin.1)
+    ensures swept { OnOk result (IsSwept (Leads arcs.now stands.now true) (end_of frame.now.steps origin.0 origin.1)
         (Contains room.new.ends) origin.0 room.new.found) }
     ensures ends { OnOk result ((w : ℕ) → Contains room.new.ends w →
-        IsEnd (Leads arcs.now stands.now true) frame.now.steps.entries origin.0 origin.1 w) }
+        IsEnd (Leads arcs.now stands.now true) frame.now.steps origin.0 origin.1 w) }
 {
     room.ends.clear();
     room.found.clear();
@@ -99,10 +99,10 @@ fn visit(
     next: u32,
     room: &mut Room,
 ) -> Result<(), Memory>
-    ensures found { OnOk result (IsLeft (λ (w : ℕ). (end_of frame.now.steps.entries origin.0 origin.1 next ≡ None) ×
+    ensures found { OnOk result (IsLeft (λ (w : ℕ). (end_of frame.now.steps origin.0 origin.1 next ≡ None) ×
         Leads arcs.now stands.now true next w)
         room.old.found room.new.found) }
-    ensures ends { OnOk result (IsLeft (λ (w : ℕ). end_of frame.now.steps.entries origin.0 origin.1 next ≡ Some w)
+    ensures ends { OnOk result (IsLeft (λ (w : ℕ). end_of frame.now.steps origin.0 origin.1 next ≡ Some w)
         room.old.ends room.new.ends) }
 {
     match end(frame, origin, next) {
@@ -119,7 +119,7 @@ fn visit(
 
 // Where a search ends: at what is behind the letter of a node, unless it began there.
 fn end(frame: &Frame, origin: (u32, Label), node: u32) -> Option<u32>
-    ensures { result ≡ end_of frame.now.steps.entries origin.0 origin.1 node }
+    ensures { result ≡ end_of frame.now.steps origin.0 origin.1 node }
 {
     if node == origin.0 {
         return None;

@@ -38,7 +38,7 @@ pub(crate) fn are_turning(
     sorts: &Sorts,
     stands: &[bool],
 ) -> Result<bool, Memory>
-    requires frame { IsFrame frame.now.origins.items frame.now.steps.entries frame.now.arcs.items frame.now.back.items }
+    requires frame { IsFrame frame.now.origins.items frame.now.steps frame.now.arcs.items frame.now.back.items }
     ensures { IfOk result (λ yes. yes ≡ true → AreTurning frame.now.origins.items (Leads frame.now.arcs.items stands.now true)
         sorts.now.classes.items sorts.now.flips.items sorts.now.marks.items (length sorts.now.classes.items)) }
 {
@@ -55,7 +55,7 @@ pub(crate) fn are_turning(
 
 // All numbers with a class that are made of another one are less.
 fn count(frame: &Frame, sorts: &Sorts) -> u32
-    requires frame { IsFrame frame.now.origins.items frame.now.steps.entries frame.now.arcs.items frame.now.back.items }
+    requires frame { IsFrame frame.now.origins.items frame.now.steps frame.now.arcs.items frame.now.back.items }
     ensures { (v p : ℕ) (l : Letter) → v < length sorts.now.classes.items → IsMade frame.now.origins.items v p l → v < result }
 {
     sorts.classes.len().min(frame.origins.len()) as u32
@@ -96,7 +96,7 @@ fn is_told(
     stands: &[bool],
     node: u32,
 ) -> Result<bool, Memory>
-    requires frame { IsFrame frame.now.origins.items frame.now.steps.entries frame.now.arcs.items frame.now.back.items }
+    requires frame { IsFrame frame.now.origins.items frame.now.steps frame.now.arcs.items frame.now.back.items }
     ensures { IfOk result (λ yes. yes ≡ true → IsToldAt frame.now.origins.items (Leads frame.now.arcs.items stands.now true)
         sorts.now.classes.items sorts.now.flips.items sorts.now.marks.items (length sorts.now.classes.items) node) }
 {
@@ -128,7 +128,7 @@ fn is_told_by_sides(
     label: Label,
     class: u32,
 ) -> Result<bool, Memory>
-    requires frame { IsFrame frame.now.origins.items frame.now.steps.entries frame.now.arcs.items frame.now.back.items }
+    requires frame { IsFrame frame.now.origins.items frame.now.steps frame.now.arcs.items frame.now.back.items }
     ensures { IfOk result (λ yes. yes ≡ true → AreToldTo frame.now.origins.items (Leads frame.now.arcs.items stands.now true)
         sorts.now.classes.items sorts.now.flips.items node parent class label (length sorts.now.classes.items)) }
 {
@@ -158,7 +158,7 @@ fn sides_of(
     parent: u32,
     access: bool,
 ) -> Result<Sides, Memory>
-    requires frame { IsFrame frame.now.origins.items frame.now.steps.entries frame.now.arcs.items frame.now.back.items }
+    requires frame { IsFrame frame.now.origins.items frame.now.steps frame.now.arcs.items frame.now.back.items }
     ensures { IfOk result (λ sides. AreSides frame.now.origins.items (Leads frame.now.arcs.items stands.now true) access
         node parent sides) }
 {
@@ -182,7 +182,7 @@ fn with_below(
     node: u32,
     access: bool,
 ) -> Result<Found, Memory>
-    requires frame { IsFrame frame.now.origins.items frame.now.steps.entries frame.now.arcs.items frame.now.back.items }
+    requires frame { IsFrame frame.now.origins.items frame.now.steps frame.now.arcs.items frame.now.back.items }
     ensures { IfOk result (λ found. (w : ℕ) → Contains found w ↔
         HaveBelow frame.now.origins.items (Leads frame.now.arcs.items stands.now true) access node w) }
 {
@@ -196,7 +196,7 @@ fn with_below(
 
 // Those of the nodes that have a load and a store, if they need them.
 fn accessed(alloc: Global, frame: &Frame, nodes: &Found, access: bool) -> Result<Found, Memory>
-    requires frame { IsFrame frame.now.origins.items frame.now.steps.entries frame.now.arcs.items frame.now.back.items }
+    requires frame { IsFrame frame.now.origins.items frame.now.steps frame.now.arcs.items frame.now.back.items }
     ensures { IfOk result (λ found. (w : ℕ) → Contains found w ↔
         (Contains nodes.now w × (access ≡ true → HasAccess frame.now.origins.items w))) }
 {
@@ -211,7 +211,7 @@ fn accessed(alloc: Global, frame: &Frame, nodes: &Found, access: bool) -> Result
 
 // Whether a node has a load and a store.
 fn has_access(frame: &Frame, node: u32) -> bool
-    requires frame { IsFrame frame.now.origins.items frame.now.steps.entries frame.now.arcs.items frame.now.back.items }
+    requires frame { IsFrame frame.now.origins.items frame.now.steps frame.now.arcs.items frame.now.back.items }
     ensures { IsTrue result ↔ HasAccess frame.now.origins.items node }
 {
     frame.step(node, Label::Load).is_some() && frame.step(node, Label::Store).is_some()
@@ -219,7 +219,7 @@ fn has_access(frame: &Frame, node: u32) -> bool
 
 // The nodes that have a node above them and one.
 fn with_above(alloc: Global, frame: &Frame, stands: &[bool], node: u32) -> Result<Found, Memory>
-    requires frame { IsFrame frame.now.origins.items frame.now.steps.entries frame.now.arcs.items frame.now.back.items }
+    requires frame { IsFrame frame.now.origins.items frame.now.steps frame.now.arcs.items frame.now.back.items }
     ensures { IfOk result (λ found. (w : ℕ) → Contains found w ↔
         HaveAbove (Leads frame.now.arcs.items stands.now true) node w) }
 {
@@ -241,7 +241,7 @@ fn is_told_with_all(
     label: Label,
     class: u32,
 ) -> bool
-    requires frame { IsFrame frame.now.origins.items frame.now.steps.entries frame.now.arcs.items frame.now.back.items }
+    requires frame { IsFrame frame.now.origins.items frame.now.steps frame.now.arcs.items frame.now.back.items }
     requires sides { IfSome sides (λ s. AreSides frame.now.origins.items (Leads frame.now.arcs.items stands.now true)
         (flag_at sorts.now.flips.items node) node parent s.now) }
     ensures { result ≡ true → AreToldTo frame.now.origins.items (Leads frame.now.arcs.items stands.now true)
@@ -282,7 +282,7 @@ fn is_told_with(
     class: u32,
     other: u32,
 ) -> bool
-    requires frame { IsFrame frame.now.origins.items frame.now.steps.entries frame.now.arcs.items frame.now.back.items }
+    requires frame { IsFrame frame.now.origins.items frame.now.steps frame.now.arcs.items frame.now.back.items }
     requires sides { IfSome sides (λ s. AreSides frame.now.origins.items (Leads frame.now.arcs.items stands.now true)
         (flag_at sorts.now.flips.items node) node parent s.now) }
     ensures { result ≡ true → (q : ℕ) (m : Letter) → IsMade frame.now.origins.items other q m →
@@ -321,7 +321,7 @@ pub(crate) fn is_pointer(label: Label) -> bool
 // Whether pushed arcs lead from a node to both, which has a load and a store if it needs them, and pushed arcs from both to a
 // node.
 fn has_both(frame: &Frame, node: u32, other: u32, access: bool) -> bool
-    requires frame { IsFrame frame.now.origins.items frame.now.steps.entries frame.now.arcs.items frame.now.back.items }
+    requires frame { IsFrame frame.now.origins.items frame.now.steps frame.now.arcs.items frame.now.back.items }
     ensures { result ≡ true → (stands : List Bool) →
         HaveBoth frame.now.origins.items (Leads frame.now.arcs.items stands true) access node other }
 {
@@ -331,7 +331,7 @@ fn has_both(frame: &Frame, node: u32, other: u32, access: bool) -> bool
 
 // Whether pushed arcs lead from two nodes to one, which has a load and a store if it needs them.
 fn has_hub(frame: &Frame, arcs: &[Sequence<Arc>], node: u32, other: u32, access: bool) -> bool
-    requires frame { IsFrame frame.now.origins.items frame.now.steps.entries frame.now.arcs.items frame.now.back.items }
+    requires frame { IsFrame frame.now.origins.items frame.now.steps frame.now.arcs.items frame.now.back.items }
     ensures { result ≡ true → (h : ℕ) × (access ≡ true → HasAccess frame.now.origins.items h) ×
         HasArc arcs.now node h None × HasArc arcs.now other h None }
 {
@@ -345,7 +345,7 @@ fn has_hub(frame: &Frame, arcs: &[Sequence<Arc>], node: u32, other: u32, access:
 
 // Whether an arc is pushed, and one leads from another node to the same one, which has a load and a store if it needs them.
 fn is_shared(frame: &Frame, arcs: &[Sequence<Arc>], arc: Arc, other: u32, access: bool) -> bool
-    requires frame { IsFrame frame.now.origins.items frame.now.steps.entries frame.now.arcs.items frame.now.back.items }
+    requires frame { IsFrame frame.now.origins.items frame.now.steps frame.now.arcs.items frame.now.back.items }
     ensures { result ≡ true → (arc.line ≡ None) × (access ≡ true → HasAccess frame.now.origins.items arc.to) ×
         HasArc arcs.now other arc.to None }
 {

@@ -56,7 +56,7 @@ impl Model for Upper {
 
     ghost invariant = { λ t. IsOuter t.lines.items t.named t.frame.arcs.items ×
         AreLineArcs t.lines.items (length t.lines.items) t.named t.frame.arcs.items ×
-        IsFrame t.frame.origins.items t.frame.steps.entries t.frame.arcs.items t.frame.back.items ×
+        IsFrame t.frame.origins.items t.frame.steps t.frame.arcs.items t.frame.back.items ×
         (length t.named ≤ length t.frame.origins.items) ×
         AreBounds LowerBound t.lines.items (length t.lines.items) t.named t.lows.items ×
         AreBounds upper_bound t.lines.items (length t.lines.items) t.named t.ups.items };
@@ -97,7 +97,7 @@ impl Upper {
         frame: Frame,
     ) -> Result<Upper, Memory>
         requires named { AreNamed lines.now named }
-        requires frame { IsFrame frame.origins.items frame.steps.entries frame.arcs.items frame.back.items }
+        requires frame { IsFrame frame.origins.items frame.steps frame.arcs.items frame.back.items }
         requires outer { AreOuterArcs lines.now named frame.origins.items frame.arcs.items }
         ensures { IfOk result (λ upper. upper ≡ record { lines = lines.now; named = named }) }
     {
@@ -250,7 +250,7 @@ impl Upper {
 // Nodes of the variables and hubs, with the arcs of the lines and of hubs, closed under what is pushed from ways of them.
 fn framed(alloc: Global, lines: &[Line], named: &Named) -> Result<Frame, Memory>
     requires { AreNamed lines.now named.now }
-    ensures frame { IfOk result (λ frame. IsFrame frame.origins.items frame.steps.entries frame.arcs.items frame.back.items) }
+    ensures frame { IfOk result (λ frame. IsFrame frame.origins.items frame.steps frame.arcs.items frame.back.items) }
     ensures outer { IfOk result (λ frame. AreOuterArcs lines.now named.now frame.origins.items frame.arcs.items) }
 {
     let mut frame = hubbed(alloc, lines, named)?;
@@ -264,7 +264,7 @@ fn framed(alloc: Global, lines: &[Line], named: &Named) -> Result<Frame, Memory>
 // Nodes of the variables and hubs by the shape of the lines, with the arcs of hubs.
 fn hubbed(alloc: Global, lines: &[Line], named: &Named) -> Result<Frame, Memory>
     requires { AreNamed lines.now named.now }
-    ensures frame { IfOk result (λ frame. IsFrame frame.origins.items frame.steps.entries frame.arcs.items frame.back.items) }
+    ensures frame { IfOk result (λ frame. IsFrame frame.origins.items frame.steps frame.arcs.items frame.back.items) }
     ensures hubs { IfOk result (λ frame. IsHubbed lines.now named.now frame.origins.items frame.arcs.items) }
 {
     let shape = rt_shape::of(alloc, lines)?;
@@ -284,7 +284,7 @@ fn with_hubs(
     requires distinct { AreDistinct named.now }
     requires classes { length classes.now ≡ length named.now }
     requires flips { length flips.now ≡ length classes.now }
-    ensures frame { IfOk result (λ frame. IsFrame frame.origins.items frame.steps.entries frame.arcs.items frame.back.items) }
+    ensures frame { IfOk result (λ frame. IsFrame frame.origins.items frame.steps frame.arcs.items frame.back.items) }
     ensures hubs { IfOk result (λ frame. HasHubs named.now classes.now flips.now frame.origins.items frame.arcs.items) }
 {
     let mut frame = Frame::of(alloc, named)?;

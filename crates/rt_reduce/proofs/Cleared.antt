@@ -27,7 +27,7 @@ standing_has (k ∷ lines) (true ∷ flags) (suc i) l at is = Contains-there k (
 standing_has (k ∷ lines) (false ∷ flags) (suc i) l at is = standing_has lines flags i l at is
 
 -- the other flags are set
-set_at : (count i j : ℕ) (stands : List Bool) → stands ≡ set (replicate count true) i false → j ≢ i → j < count →
+pub set_at : (count i j : ℕ) (stands : List Bool) → stands ≡ set (replicate count true) i false → j ≢ i → j < count →
     get_or stands j false ≡ true
 set_at count i j stands e ne h =
     ap (λ fs. get_or fs j false) e ∙ get_or-set_other (replicate count true) i j false false ne ∙ get_or-replicate count j true false h

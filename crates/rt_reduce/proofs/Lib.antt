@@ -1,7 +1,6 @@
 pub mod Places
 pub mod Leaving
 pub mod Firsts
-pub mod Confined
 pub mod Keys
 pub mod Falling
 pub mod Keeping
@@ -25,3 +24,7 @@ pub mod Fated
 pub mod Cleared
 pub mod Exact
 pub mod Settled
+pub mod Parted
+pub mod Grounded
+pub mod Apart
+pub mod Inners

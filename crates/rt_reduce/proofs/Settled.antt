@@ -83,3 +83,6 @@ module _ (order : Below) (lines : List Line) (fates now : List Fate) (each : len
         fated.going i l at (goes i e (everywhere i)) left (λ j m f s. has j m f (still j s (everywhere j))) before all;
     stand = λ j s. get_or-replicate (length lines) j true false (within j s);
   }
+
+  pub still_staying : (j : ℕ) → fate_at fates j ≡ Stays → fate_at now j ≡ Stays
+  still_staying j s = still j s (everywhere j)

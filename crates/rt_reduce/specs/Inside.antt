@@ -6,3 +6,4 @@ pub mod Dropping
 pub mod Merging
 pub mod Compared
 pub mod Settling
+pub mod Parting

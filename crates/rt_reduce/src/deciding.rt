@@ -8,27 +8,30 @@ ghost use Rattle.rt_lines.specs.Orders.{Below};
 ghost use Rattle.rt_rules.specs.Rules.{Derivable, HasSide};
 ghost use Rattle.rt_outline.specs.Lines.{standing};
 ghost use Rattle.rt_witness.specs.Witnesses.{IsLeft, IsWitnesses};
-ghost use Rattle.rt_reduce.specs.Inside.Deciding.{IsAskable, IsInnerFor, IsUpperWith, IsWaysFor, Tells};
+ghost use Rattle.rt_reduce.specs.Inside.Deciding.{IsAskable, IsGroundFor, IsInnerFor, IsUpperWith, IsWaysFor, Tells};
 
-use crate::confining::{FEW, told_confined};
 use crate::derivable::derives_line;
 use crate::early::{decided, is_told};
+use crate::inner::Inner;
 use crate::merging::push_sides;
 use crate::opened::seen;
 use rt_base::Memory;
 use rt_lines::{Dtv, Line, Order};
-use rt_outline::{Led, Lower, Upper};
-use rt_sure::Ways;
+use rt_outline::{Led, Upper};
+use rt_sure::{Ground, Ways};
 use rt_witness::Witnesses;
 use std::alloc::Global;
 use std::slice;
+
+// Of so few lines all are saturated as soon.
+const FEW: usize = 1000;
 
 // Whether the line is derivable from the lines left, where arcs from outside and which lines name which variables leave it
 // open: if it is a bound, by ways or arcs from inside that were made before, else by what is left. Where there are ways, many
 // lines were left open, and arcs from outside of what is left seldom say more.
 pub(crate) fn is_derivable_open(
     alloc: Global,
-    inner: Option<&Lower>,
+    inner: Option<&Inner>,
     ways: Option<&Ways>,
     witnesses: &Witnesses,
     stands: &[bool],
@@ -86,32 +89,50 @@ fn told_anew(alloc: Global, left: &[Line], order: &Order, line: &Line) -> Result
     }
 }
 
-// What arcs from outside of the lines left alone say of a line.
+// What arcs from outside of the lines left alone say of a line, narrower ones first where it's worth while.
 fn told_alone(alloc: Global, left: &[Line], order: &Order, line: &Line) -> Result<Led, Memory>
+    requires constants { All (HasConstantsBelow order.now.count) left.now }
+    requires constant { HasConstantsBelow order.now.count line.now }
+    ensures { IfOk result (Tells order.now left.now line.now) }
+{
+    match told_narrow(alloc, left, order, line)? {
+        Led::Yes => Ok(Led::Yes),
+        Led::No => Ok(Led::No),
+        Led::Open => told_wide(alloc, left, order, line),
+    }
+}
+
+// What all arcs from outside say of a line.
+fn told_wide(alloc: Global, left: &[Line], order: &Order, line: &Line) -> Result<Led, Memory>
     requires constants { All (HasConstantsBelow order.now.count) left.now }
     requires constant { HasConstantsBelow order.now.count line.now }
     ensures { IfOk result (Tells order.now left.now line.now) }
 {
     let outer = upper_with(alloc, left, line)?;
     let led = told_of_all(alloc, &outer, left, order, line)?;
-    match led {
-        Led::Yes | Led::No => Ok(led),
-        Led::Open => told_narrow(alloc, left, order, line),
-    }
+    Ok(led)
 }
 
-// What narrower arcs say of a line, if there are so many lines that it's worth while.
+// What narrower arcs say of a `<=` line, if there are so many lines that it's worth while.
 fn told_narrow(alloc: Global, left: &[Line], order: &Order, line: &Line) -> Result<Led, Memory>
     requires constants { All (HasConstantsBelow order.now.count) left.now }
     requires constant { HasConstantsBelow order.now.count line.now }
     ensures { IfOk result (Tells order.now left.now line.now) }
 {
-    if left.len() < FEW {
+    if left.len() < FEW || !is_subtype(line) {
         return Ok(Led::Open);
     }
     match narrow_with(alloc, left, line)? {
         Some(outer) => told_of_all(alloc, &outer, left, order, line),
         None => Ok(Led::Open),
+    }
+}
+
+// Whether the line is a `<=` line.
+fn is_subtype(line: &Line) -> bool {
+    match line {
+        Line::Sub(_, _) => true,
+        Line::Var(_) | Line::Same(_, _) | Line::Low(_, _) | Line::Up(_, _) => false,
     }
 }
 
@@ -153,20 +174,22 @@ fn narrow_with(alloc: Global, lines: &[Line], line: &Line) -> Result<Option<Uppe
     Ok(outer)
 }
 
-// Whether the line is derivable from the lines that stand, as far as their sides and arcs from outside say, and those of them
-// that may matter for it, of which more are taken where that is worth while. It needs no list of all of these lines.
+// Whether the line at a place is derivable from the lines that stand, as far as their sides, arcs from outside, and what lines that
+// stay say with those that stand. It needs no list of all of these lines.
 pub(crate) fn told(
     alloc: Global,
     outer: Option<&Upper>,
+    ground: Option<&Ground>,
     witnesses: &Witnesses,
     stands: &[bool],
     order: &Order,
     line: &Line,
-    wide: bool,
+    place: usize,
 ) -> Result<Led, Memory>
     requires outer { IfSome outer (λ t. IsAskable order.now stands.now line.now t.now) }
     requires constant { HasConstantsBelow order.now.count line.now }
     ensures { IfOk result (λ led. (left : List Given) → IfSome outer.entry (λ t. left ≡ standing t.now.lines stands.now) →
+        IfSome ground.entry (λ g. IsGroundFor order.now left stands.now line.now place g.now) →
         (lines : List Given) → IsWitnesses lines witnesses.now → IsLeft lines stands.now left →
         Tells order.now left line.now led) }
 {
@@ -179,8 +202,27 @@ pub(crate) fn told(
     let led = told_by(alloc, outer, stands, order, line)?;
     match led {
         Led::Yes | Led::No => Ok(led),
-        Led::Open => told_confined(alloc, outer, stands, order, line, wide),
+        Led::Open => told_beside(alloc, ground, stands, place),
     }
+}
+
+// What lines that stay say of the line at a place, with those that stand: yes, or nothing.
+fn told_beside(
+    alloc: Global,
+    ground: Option<&Ground>,
+    stands: &[bool],
+    place: usize,
+) -> Result<Led, Memory>
+    ensures { IfOk result (λ led. (order : Below) (left : List Given) (l : Given) →
+        IfSome ground.entry (λ g. IsGroundFor order left stands.now l place g.now) → Tells order left l led) }
+{
+    let Some(ground) = ground else {
+        return Ok(Led::Open);
+    };
+    if ground.is_derived(alloc, stands, place)? {
+        return Ok(Led::Yes);
+    }
+    Ok(Led::Open)
 }
 
 // Whether the line says that a variable is there, and a line that stands names it.

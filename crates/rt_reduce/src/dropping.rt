@@ -1,5 +1,5 @@
 // Lines that others derive, dropped from the end.
-ghost use Rattle.std.specs.Prelude.{◌≡◌, ◌+◌, ◌<◌, ◌≤◌, ◌↔◌, [], List, All, Contains, IsTrue, true, false, OnOk, IfOk, IfSome};
+ghost use Rattle.std.specs.Prelude.{◌≡◌, ℕ, ◌+◌, ◌<◌, ◌≤◌, ◌↔◌, [], List, All, Contains, IsTrue, true, false, OnOk, IfOk, IfSome};
 ghost use Rattle.std.specs.Prelude.{MatchBool, length, replicate, slice_index_or};
 ghost use Rattle.std.specs.List.{remove_range};
 ghost use Rattle.rt_lines.specs.declared.line.Line.{Line as Given};
@@ -7,31 +7,38 @@ ghost use Rattle.rt_lines.specs.Lines.{HasConstantsBelow};
 ghost use Rattle.rt_reduction.specs.Drops.{Drops};
 ghost use Rattle.rt_reduction.specs.Emits.{is_flow as is_flow_line};
 ghost use Rattle.rt_witness.specs.Witnesses.{IsWitnesses};
-ghost use Rattle.rt_reduce.specs.Inside.Deciding.{AreStanding, AreWitnessed, IsInnerFor, IsLowerWith, IsOwnOuter, IsWaysFor};
+ghost use Rattle.rt_reduce.specs.Inside.Deciding.{AreStanding, AreWitnessed, IsGroundAt, IsInnerFor, IsLowerWith, IsOwnGround, IsOwnOuter};
+ghost use Rattle.rt_reduce.specs.Inside.Deciding.{IsWaysFor};
 ghost use Rattle.rt_sure.specs.Fates.{fate_at};
-ghost use Rattle.rt_sure.specs.declared.fate.Fate.TheVariants.{Stays as Staying};
+ghost use Rattle.rt_sure.specs.declared.fate.Fate.TheVariants.{Open as Unknown, Stays as Staying};
 ghost use Rattle.rt_reduce.specs.Inside.Dropping.{AreFated, AreTold, Decides, IsFatedAt, IsKeptOrGone, IsMoved, IsSpared, IsToldAt};
 
 use crate::confining::among;
 use crate::copying::copies;
 use crate::deciding::{is_derivable_open, is_spare, told};
+use crate::inner::Inner;
+use crate::parting::with_parted;
 use crate::staying::{staying, staying_beside};
 use rt_base::{Memory, Sequence};
 use rt_lines::{Line, Lines, Order};
-use rt_outline::{Led, Lower, Upper};
-use rt_sure::{Fate, Ways};
+use rt_outline::{Led, Upper};
+use rt_sure::{Fate, Fated, Ground, Ways};
 use rt_witness::Witnesses;
 use std::alloc::Global;
 
 // From so many `<=` lines on of which nothing is known it pays to saturate all lines once.
-const MANY: usize = 12;
+const MANY: usize = 50;
+
+// From so many bounds on of which nothing is known it pays to saturate all lines once.
+const SEVERAL: usize = 4;
 
 /// What stays of the lines when, from the last to the first, each line goes that the lines before it and those that stayed
 /// behind it derive with the order of constants. One of which `rt_earlier` says that the lines before it derive it goes at
-/// once. Arcs from outside of all lines say beforehand which of them stay, however many of the others go, and `rt_sure` which
-/// others go. Where many `<=` lines are left of which nothing is known, ways of all lines, which are saturated once, say which
-/// of them stay, and decide bounds. Of the rest arcs from outside and from inside say, or what is left is saturated. The error
-/// is out of memory.
+/// once. Arcs from outside of all lines, and what joins their sides, say beforehand which of them stay, however many of the
+/// others go, and `rt_sure` which others go. Where many `<=` lines are left of which nothing is known, or several bounds that
+/// neither arcs from inside nor a table tell of, ways of all lines, which are saturated once, say which of them stay, and
+/// decide bounds. Of the rest `rt_sure`'s table says, with the lines that stand, arcs from outside and from inside, or what is
+/// left is saturated. The error is out of memory.
 pub fn drop_derivable(alloc: Global, lines: &[Line], order: &Order) -> Result<Lines, Memory>
     requires { All (HasConstantsBelow order.now.count) lines.now }
     ensures drops { IfOk result (λ left. Drops order.now [] lines.now left) }
@@ -39,44 +46,108 @@ pub fn drop_derivable(alloc: Global, lines: &[Line], order: &Order) -> Result<Li
 {
     let told = rt_earlier::told(alloc, lines)?;
     let outer = outer_of(alloc, lines)?;
-    let fates = fates_of(alloc, outer.as_ref(), lines, order)?;
-    let ways = ways_beside(alloc, lines, &fates)?;
-    let left = drop_by(
-        alloc,
-        lines,
-        outer.as_ref(),
-        ways.as_ref(),
-        &told,
-        fates,
-        order,
-    )?;
+    let fated = fates_of(alloc, outer.as_ref(), lines, order)?;
+    let left = drop_fated(alloc, lines, outer.as_ref(), &told, &fated, order)?;
     Ok(Sequence::from_vec(left))
 }
 
-// What is left when lines go, where arcs from outside of all lines and ways of them may be given, and which of them follow from
-// those before them is, and what is known without the ways of what becomes of them.
+// What is left when lines go, where arcs from outside of all lines may be given, and which of them follow from those before them
+// is, and what is known of what becomes of them.
+fn drop_fated(
+    alloc: Global,
+    lines: &[Line],
+    outer: Option<&Upper>,
+    told: &[bool],
+    fated: &Fated,
+    order: &Order,
+) -> Result<Vec<Line>, Memory>
+    requires outer { IfSome outer (λ t. IsOwnOuter lines.now t.now) }
+    requires each { length lines.now ≤ length told.now }
+    requires told { AreTold lines.now told.now }
+    requires long { length fated.now.fates.items ≡ length lines.now }
+    requires fated { AreFated order.now lines.now (replicate (length lines.now) true) fated.now.fates.items }
+    requires ground { IfSome fated.now.ground (IsOwnGround lines.now fated.now.fates.items) }
+    requires constants { All (HasConstantsBelow order.now.count) lines.now }
+    ensures drops { IfOk result (λ left. Drops order.now [] lines.now left.items) }
+    ensures stood { IfOk result (λ left. (l : Given) → Contains left.items l → Contains lines.now l) }
+{
+    let inner = inner_beside(alloc, lines, &fated.fates, order)?;
+    let left = drop_by(
+        alloc,
+        lines,
+        outer,
+        inner.as_ref(),
+        fated.ground.as_ref(),
+        told,
+        &fated.fates,
+        order,
+    )?;
+    Ok(left)
+}
+
+// The same, where arcs from inside of the lines may be given, and what lines that stay say.
 fn drop_by(
     alloc: Global,
     lines: &[Line],
     outer: Option<&Upper>,
-    ways: Option<&Ways>,
+    inner: Option<&Inner>,
+    ground: Option<&Ground>,
     told: &[bool],
-    fates: Vec<Fate>,
+    fates: &[Fate],
     order: &Order,
 ) -> Result<Vec<Line>, Memory>
     requires outer { IfSome outer (λ t. IsOwnOuter lines.now t.now) }
-    requires ways { IfSome ways (λ t. IsOwnOuter lines.now t.now) }
+    requires inner { IfSome inner (λ t. IsLowerWith lines.now [] t.now) }
+    requires ground { IfSome ground (λ g. IsOwnGround lines.now fates.now g.now) }
     requires each { length lines.now ≤ length told.now }
     requires told { AreTold lines.now told.now }
-    requires long { length fates.items ≡ length lines.now }
-    requires fated { AreFated order.now lines.now (replicate (length lines.now) true) fates.items }
+    requires long { length fates.now ≡ length lines.now }
+    requires fated { AreFated order.now lines.now (replicate (length lines.now) true) fates.now }
+    requires constants { All (HasConstantsBelow order.now.count) lines.now }
+    ensures drops { IfOk result (λ left. Drops order.now [] lines.now left.items) }
+    ensures stood { IfOk result (λ left. (l : Given) → Contains left.items l → Contains lines.now l) }
+{
+    let ways = ways_beside(alloc, lines, fates, inner, order)?;
+    let left = drop_beside(
+        alloc,
+        lines,
+        outer,
+        inner,
+        ways.as_ref(),
+        ground,
+        told,
+        fates,
+        order,
+    )?;
+    Ok(left)
+}
+
+// The same, where ways of the lines may be given.
+fn drop_beside(
+    alloc: Global,
+    lines: &[Line],
+    outer: Option<&Upper>,
+    inner: Option<&Inner>,
+    ways: Option<&Ways>,
+    ground: Option<&Ground>,
+    told: &[bool],
+    fates: &[Fate],
+    order: &Order,
+) -> Result<Vec<Line>, Memory>
+    requires outer { IfSome outer (λ t. IsOwnOuter lines.now t.now) }
+    requires inner { IfSome inner (λ t. IsLowerWith lines.now [] t.now) }
+    requires ways { IfSome ways (λ t. IsOwnOuter lines.now t.now) }
+    requires ground { IfSome ground (λ g. IsOwnGround lines.now fates.now g.now) }
+    requires each { length lines.now ≤ length told.now }
+    requires told { AreTold lines.now told.now }
+    requires long { length fates.now ≡ length lines.now }
+    requires fated { AreFated order.now lines.now (replicate (length lines.now) true) fates.now }
     requires constants { All (HasConstantsBelow order.now.count) lines.now }
     ensures drops { IfOk result (λ left. Drops order.now [] lines.now left.items) }
     ensures stood { IfOk result (λ left. (l : Given) → Contains left.items l → Contains lines.now l) }
 {
     let now = settled(alloc, ways, lines, fates, order)?;
-    let inner = inner_beside(alloc, lines, ways, &now)?;
-    let left = drop_on(alloc, lines, outer, inner.as_ref(), ways, told, &now, order)?;
+    let left = drop_on(alloc, lines, outer, inner, ways, ground, told, &now, order)?;
     Ok(left)
 }
 
@@ -86,28 +157,58 @@ fn fates_of(
     outer: Option<&Upper>,
     lines: &[Line],
     order: &Order,
-) -> Result<Vec<Fate>, Memory>
+) -> Result<Fated, Memory>
     requires outer { IfSome outer (λ t. IsOwnOuter lines.now t.now) }
     requires constants { All (HasConstantsBelow order.now.count) lines.now }
-    ensures each { IfOk result (λ fates. length fates.items ≡ length lines.now) }
-    ensures fated { IfOk result (λ fates. AreFated order.now lines.now (replicate (length lines.now) true) fates.items) }
+    ensures each { IfOk result (λ fated. length fated.fates.items ≡ length lines.now) }
+    ensures fated { IfOk result (λ fated.
+        AreFated order.now lines.now (replicate (length lines.now) true) fated.fates.items) }
+    ensures ground { IfOk result (λ fated. IfSome fated.ground (IsOwnGround lines.now fated.fates.items)) }
 {
-    let stays = staying(alloc, outer, lines, order)?;
+    let near = staying(alloc, outer, lines, order)?;
+    let stays = with_parted(alloc, lines, &near)?;
     let among = among(alloc, outer, lines, &stays)?;
-    let fates = rt_sure::fates(alloc, lines, &stays, &among)?;
-    Ok(fates)
+    let fated = rt_sure::fates(alloc, lines, &stays, &among)?;
+    Ok(fated)
 }
 
-// The ways between the variables that the lines name, if there are many `<=` lines of which nothing is known.
-fn ways_beside(alloc: Global, lines: &[Line], fates: &[Fate]) -> Result<Option<Ways>, Memory>
+// The ways between the variables that the lines name, if nothing is known of many `<=` lines, or of several bounds.
+fn ways_beside(
+    alloc: Global,
+    lines: &[Line],
+    fates: &[Fate],
+    inner: Option<&Inner>,
+    order: &Order,
+) -> Result<Option<Ways>, Memory>
+    requires inner { IfSome inner (λ t. IsLowerWith lines.now [] t.now) }
+    requires constants { All (HasConstantsBelow order.now.count) lines.now }
     ensures { IfOk result (λ ways. IfSome ways (λ t. IsOwnOuter lines.now t)) }
 {
-    if open_count(lines, fates) < MANY {
+    if open_count(lines, fates) < MANY
+        && bound_count(alloc, lines, fates, inner, order)? < SEVERAL
+    {
         return Ok(None);
     }
     let copies = copies(alloc, lines)?;
     let ways = Ways::of(alloc, copies, &[])?;
     Ok(Some(ways))
+}
+
+// How many bounds there are of which nothing is known, where arcs from inside may be given.
+fn bound_count(
+    alloc: Global,
+    lines: &[Line],
+    fates: &[Fate],
+    inner: Option<&Inner>,
+    order: &Order,
+) -> Result<usize, Memory>
+    requires inner { IfSome inner (λ t. IsLowerWith lines.now [] t.now) }
+    requires constants { All (HasConstantsBelow order.now.count) lines.now }
+{
+    match inner {
+        Some(inner) => inner.open_count(alloc, lines, fates, order),
+        None => Ok(0),
+    }
 }
 
 // How many `<=` lines there are of which nothing is known.
@@ -134,34 +235,37 @@ fn settled(
     alloc: Global,
     ways: Option<&Ways>,
     lines: &[Line],
-    fates: Vec<Fate>,
+    fates: &[Fate],
     order: &Order,
 ) -> Result<Vec<Fate>, Memory>
     requires ways { IfSome ways (λ t. IsOwnOuter lines.now t.now) }
-    requires each { length fates.items ≡ length lines.now }
-    requires fated { AreFated order.now lines.now (replicate (length lines.now) true) fates.items }
-    ensures { IfOk result (λ now. AreFated order.now lines.now (replicate (length lines.now) true) now.items) }
+    requires each { length fates.now ≡ length lines.now }
+    requires fated { AreFated order.now lines.now (replicate (length lines.now) true) fates.now }
+    ensures fated { IfOk result (λ now. AreFated order.now lines.now (replicate (length lines.now) true) now.items) }
+    ensures kept { IfOk result (λ now. (i : ℕ) → fate_at fates.now i ≡ Staying → fate_at now.items i ≡ Staying) }
 {
     let Some(ways) = ways else {
-        return Ok(fates);
+        let now = fates.to_vec(alloc)?;
+        return Ok(now);
     };
-    let now = staying_beside(alloc, ways, lines, &fates, order)?;
+    let now = staying_beside(alloc, ways, lines, fates, order)?;
     Ok(now)
 }
 
-// Arcs from inside of the lines, if there is a bound among them of which nothing is known and no ways decide bounds.
+// Arcs from inside of the lines, if there is a bound among them of which nothing is known.
 fn inner_beside(
     alloc: Global,
     lines: &[Line],
-    ways: Option<&Ways>,
     fates: &[Fate],
-) -> Result<Option<Lower>, Memory>
+    order: &Order,
+) -> Result<Option<Inner>, Memory>
+    requires { All (HasConstantsBelow order.now.count) lines.now }
     ensures { IfOk result (λ inner. IfSome inner (λ t. IsLowerWith lines.now [] t)) }
 {
-    if ways.is_some() || !has_open_bound(lines, fates) {
+    if !has_open_bound(lines, fates) {
         return Ok(None);
     }
-    let inner = Lower::of(alloc, lines, &[])?;
+    let inner = Inner::of(alloc, lines, fates, order)?;
     Ok(Some(inner))
 }
 
@@ -188,8 +292,9 @@ fn drop_on(
     alloc: Global,
     lines: &[Line],
     outer: Option<&Upper>,
-    inner: Option<&Lower>,
+    inner: Option<&Inner>,
     ways: Option<&Ways>,
+    ground: Option<&Ground>,
     told: &[bool],
     fates: &[Fate],
     order: &Order,
@@ -197,6 +302,7 @@ fn drop_on(
     requires outer { IfSome outer (λ t. IsOwnOuter lines.now t.now) }
     requires inner { IfSome inner (λ t. IsLowerWith lines.now [] t.now) }
     requires ways { IfSome ways (λ t. IsOwnOuter lines.now t.now) }
+    requires ground { IfSome ground (λ g. IsOwnGround lines.now fates.now g.now) }
     requires each { length lines.now ≤ length told.now }
     requires told { AreTold lines.now told.now }
     requires fated { AreFated order.now lines.now (replicate (length lines.now) true) fates.now }
@@ -206,7 +312,7 @@ fn drop_on(
 {
     let witnesses = Witnesses::of(alloc, lines)?;
     let left = drop_from(
-        alloc, lines, outer, inner, ways, told, fates, &witnesses, order,
+        alloc, lines, outer, inner, ways, ground, told, fates, &witnesses, order,
     )?;
     Ok(left)
 }
@@ -218,8 +324,9 @@ fn drop_from(
     alloc: Global,
     lines: &[Line],
     outer: Option<&Upper>,
-    inner: Option<&Lower>,
+    inner: Option<&Inner>,
     ways: Option<&Ways>,
+    ground: Option<&Ground>,
     told: &[bool],
     fates: &[Fate],
     witnesses: &Witnesses,
@@ -228,6 +335,7 @@ fn drop_from(
     requires outer { IfSome outer (λ t. IsOwnOuter lines.now t.now) }
     requires inner { IfSome inner (λ t. IsLowerWith lines.now [] t.now) }
     requires ways { IfSome ways (λ t. IsOwnOuter lines.now t.now) }
+    requires ground { IfSome ground (λ g. IsOwnGround lines.now fates.now g.now) }
     requires each { length lines.now ≤ length told.now }
     requires told { AreTold lines.now told.now }
     requires fated { AreFated order.now lines.now (replicate (length lines.now) true) fates.now }
@@ -248,6 +356,7 @@ fn drop_from(
             outer,
             inner,
             ways,
+            ground,
             told[place],
             fate_of(fates, place),
             witnesses,
@@ -263,7 +372,7 @@ fn drop_from(
 }
 
 // What becomes of the line at the place, as far as it is known.
-fn fate_of(fates: &[Fate], place: usize) -> Fate
+pub(crate) fn fate_of(fates: &[Fate], place: usize) -> Fate
     ensures { result ≡ fate_at fates.now place }
 {
     match fates.get(place) {
@@ -311,8 +420,9 @@ pub(crate) fn is_flow(line: &Line) -> bool
 fn drop_before(
     alloc: Global,
     outer: Option<&Upper>,
-    inner: Option<&Lower>,
+    inner: Option<&Inner>,
     ways: Option<&Ways>,
+    ground: Option<&Ground>,
     told: bool,
     fate: Fate,
     witnesses: &Witnesses,
@@ -328,6 +438,8 @@ fn drop_before(
     requires standing { IfSome outer (λ t. AreStanding (remove_range left.old.items (place + 1) next) stands.old.items (place + 1) t.now) }
     requires inner { IfSome inner (λ t. IsInnerFor order.now (remove_range left.old.items (place + 1) next) t.now) }
     requires ways { IfSome ways (λ t. IsWaysFor order.now (remove_range left.old.items (place + 1) next) t.now) }
+    requires ground { IfSome ground (λ g.
+        IsGroundAt order.now fate (remove_range left.old.items (place + 1) next) stands.old.items place g.now) }
     requires told { IsToldAt told (remove_range left.old.items (place + 1) next) place }
     requires fated { IsFatedAt order.now fate (remove_range left.old.items (place + 1) next) place }
     requires stood { slice_index_or stands.old.items place false ≡ true }
@@ -355,7 +467,7 @@ fn drop_before(
     }
     take_out(left, place + 1, next);
     drop_at(
-        alloc, outer, inner, ways, witnesses, stands, left, order, place,
+        alloc, outer, inner, ways, ground, witnesses, stands, left, order, place,
     )?;
     Ok(place)
 }
@@ -388,8 +500,9 @@ fn goes(witnesses: &Witnesses, stands: &mut Vec<bool>, line: &Line, place: usize
 fn drop_at(
     alloc: Global,
     outer: Option<&Upper>,
-    inner: Option<&Lower>,
+    inner: Option<&Inner>,
     ways: Option<&Ways>,
+    ground: Option<&Ground>,
     witnesses: &Witnesses,
     stands: &mut Vec<bool>,
     left: &mut Vec<Line>,
@@ -402,6 +515,7 @@ fn drop_at(
     requires standing { IfSome outer (λ t. AreStanding left.old.items stands.old.items (place + 1) t.now) }
     requires inner { IfSome inner (λ t. IsInnerFor order.now left.old.items t.now) }
     requires ways { IfSome ways (λ t. IsWaysFor order.now left.old.items t.now) }
+    requires ground { IfSome ground (λ g. IsGroundAt order.now Unknown left.old.items stands.old.items place g.now) }
     requires witnesses { (lines : List Given) × IsWitnesses lines witnesses.now
         × AreWitnessed lines left.old.items stands.old.items (place + 1) }
     ensures lines { OnOk result (IsKeptOrGone left.old.items place left.new.items) }
@@ -412,11 +526,12 @@ fn drop_at(
     match told(
         alloc,
         outer,
+        ground,
         witnesses,
         stands,
         order,
         &left[place],
-        ways.is_some(),
+        place,
     )? {
         Led::No => {
             stands[place] = true;

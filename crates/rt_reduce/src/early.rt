@@ -11,9 +11,10 @@ ghost use Rattle.rt_reduce.specs.Inside.Deciding.{IsInnerFor, IsWaysFor};
 use crate::bounds::{lows, ups};
 use crate::deciding::told_named;
 use crate::derivable::exists;
+use crate::inner::Inner;
 use rt_base::Memory;
 use rt_lines::{Dtv, Line, Order};
-use rt_outline::{Led, Lower};
+use rt_outline::Led;
 use rt_sure::Ways;
 use rt_witness::Witnesses;
 use std::alloc::Global;
@@ -114,7 +115,7 @@ fn is_up(
 // No bound has an arc, so a bound itself may be among those.
 pub(crate) fn is_told(
     alloc: Global,
-    inner: Option<&Lower>,
+    inner: Option<&Inner>,
     witnesses: &Witnesses,
     stands: &[bool],
     left: &[Line],
@@ -164,7 +165,7 @@ fn is_there(
 // Whether the constant is a lower bound of the variable, as far as arcs say that lead from those of other lower bounds.
 fn has_low(
     alloc: Global,
-    inner: &Lower,
+    inner: &Inner,
     witnesses: &Witnesses,
     stands: &[bool],
     left: &[Line],
@@ -191,7 +192,7 @@ fn has_low(
 // Whether the constant is an upper bound of the variable, as far as arcs say that lead to those of other upper bounds.
 fn has_up(
     alloc: Global,
-    inner: &Lower,
+    inner: &Inner,
     witnesses: &Witnesses,
     stands: &[bool],
     left: &[Line],

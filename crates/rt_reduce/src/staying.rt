@@ -1,9 +1,11 @@
 // Lines that stay, however many of the others go.
-ghost use Rattle.std.specs.Prelude.{◌≡◌, ◌<◌, List, Bool, All, IfOk, IfSome, OnOk, false, true, length, replicate, slice_index_or};
+ghost use Rattle.std.specs.Prelude.{◌≡◌, ◌<◌, ℕ, List, Bool, All, IfOk, IfSome, OnOk, false, true, length, replicate, slice_index_or};
 ghost use Rattle.rt_lines.specs.Lines.{HasConstantsBelow};
 ghost use Rattle.rt_outline.specs.Lines.{standing};
 ghost use Rattle.rt_reduce.specs.Inside.Deciding.{IsOwnOuter};
 ghost use Rattle.rt_reduce.specs.Inside.Dropping.{AreFated, AreStaying, IsSettled, IsStaying};
+ghost use Rattle.rt_sure.specs.Fates.{fate_at};
+ghost use Rattle.rt_sure.specs.declared.fate.Fate.TheVariants.{Stays};
 
 use crate::deciding::told_by;
 use rt_base::Memory;
@@ -74,7 +76,8 @@ pub(crate) fn staying_beside(
     requires own { IsOwnOuter lines.now ways.now }
     requires each { length fates.now ≡ length lines.now }
     requires fated { AreFated order.now lines.now (replicate (length lines.now) true) fates.now }
-    ensures { IfOk result (λ now. AreFated order.now lines.now (replicate (length lines.now) true) now.items) }
+    ensures fated { IfOk result (λ now. AreFated order.now lines.now (replicate (length lines.now) true) now.items) }
+    ensures kept { IfOk result (λ now. (i : ℕ) → fate_at fates.now i ≡ Stays → fate_at now.items i ≡ Stays) }
 {
     let mut stands = vec![in alloc; true; lines.len()]?;
     let mut now = Vec::with_capacity(alloc, fates.len())?;

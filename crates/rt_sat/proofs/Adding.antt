@@ -3,7 +3,7 @@ use Rattle.std.proofs.Common.{◌≡◌, ℕ, ◌<◌, ◌⊎◌, inl, inr, Bool
 use Rattle.std.specs.Prelude.{nat_eq, slice_get}
 use Rattle.std.specs.Option.{is_some, MatchOption}
 use Rattle.std.proofs.lemmas.List.{get_or_default, get_or_read}
-use Rattle.std.proofs.lemmas.List.Elements.{Contains-append_cases, Contains-append_left, Contains-append_right, Contains-push_cases}
+use Rattle.std.proofs.lemmas.List.Elements.{Contains-append_cases, Contains-append_left, Contains-append_right}
 use Rattle.std.proofs.lemmas.Option.{get_or_from_slice_get, slice_get_within}
 use Rattle.rt_base.proofs.Numbers.{nat_same}
 use Rattle.rt_lines.specs.declared.label.Label.TheVariants.{Load, Store}
@@ -174,26 +174,33 @@ module _ (order : Below) (lines more : List Line) where
     | inr d ↦ bridge_more (record { order = order; lines = more }) both (Named (is_among known)) der_right (λ x y h. Contains-append_right lines more (Sub (dv x) (dv y)) h) (b e d)
   ]
 
--- a line more, with what its edges tell
-pub tells_more : (lines : List Line) (line : Line) (old new : Grown) (edges : List Edge) → Tells lines old → ((x : Dtv) → HasSide line x → Contains (named_of old) x) → AreLineEdges (line ∷ []) (named_of old) edges → new.frame ≡ old.frame →
+-- lines more, with what their edges tell
+pub tells_lines : (lines those : List Line) (old new : Grown) (edges : List Edge) → Tells lines old → ((l : Line) (x : Dtv) → Contains those l → HasSide l x → Contains (named_of old) x) → AreLineEdges those (named_of old) edges → new.frame ≡ old.frame →
     IsFamily (length (named_of old)) new.family → new.kin ≡ old.kin → AreGroups new.family new.kin.groups.items →
     ((more : List Edge) → ((e : Edge) → Contains edges e → Contains more e) → AreLinked (named_of old) old.frame.flips.items more old.kin.links → IsToldFamily (named_of old) old.frame.flips.items more old.family → IsToldFamily (named_of old) old.frame.flips.items more new.family) →
-    Tells (lines ++ line ∷ []) new
-tells_more lines line old new edges tells named are same family kin groups told =
+    Tells (lines ++ those) new
+tells_lines lines those old new edges tells named are same family kin groups told =
     let known : List Dtv = named_of old in
     let flips : List Bool = old.frame.flips.items in
     let linked : AreLinked known flips (tells.edges ++ edges) old.kin.links = links_more known flips tells.edges (tells.edges ++ edges) (Contains-append_left tells.edges edges) old.kin.links tells.linked in
-    subst (λ f. Tells (lines ++ line ∷ []) (record { frame = f; family = new.family; kin = new.kin })) (sym same) (record {
+    subst (λ f. Tells (lines ++ those) (record { frame = f; family = new.family; kin = new.kin })) (sym same) (record {
       edges = tells.edges ++ edges;
       distinct = tells.distinct;
-      frame = λ order. frame_more order lines (line ∷ []) known flips (tells.frame order);
-      sides = λ x y c. (elim (Contains-push_cases lines line (Sub x y) c) [
+      frame = λ order. frame_more order lines those known flips (tells.frame order);
+      sides = λ x y c. (elim (Contains-append_cases lines those (Sub x y) c) [
         | inl d ↦ tells.sides x y d
-        | inr e ↦ (named x (subst (λ (l : Line). HasSide l x) (sym e) (inl refl)), named y (subst (λ (l : Line). HasSide l y) (sym e) (inr refl)))
+        | inr d ↦ (named (Sub x y) x d (inl refl), named (Sub x y) y d (inr refl))
       ]);
-      sound = λ order. sound_more order lines (line ∷ []) known tells.edges edges (tells.sound order) (lines_sound (record { order = order; lines = line ∷ [] }) known edges are);
+      sound = λ order. sound_more order lines those known tells.edges edges (tells.sound order) (lines_sound (record { order = order; lines = those }) known edges are);
       family = family;
       groups = groups;
       linked = subst (λ (k : Kin). AreLinked known flips (tells.edges ++ edges) k.links) (sym kin) linked;
       told = told (tells.edges ++ edges) (Contains-append_right tells.edges edges) linked (family_more known flips tells.edges (tells.edges ++ edges) (Contains-append_left tells.edges edges) old.family tells.told);
     })
+
+-- a side of the only line
+pub sides_one : (known : List Dtv) (line : Line) → ((x : Dtv) → HasSide line x → Contains known x) → (l : Line) (x : Dtv) → Contains (line ∷ []) l → HasSide l x → Contains known x
+sides_one known line named l x c h = elim (Contains-cons_cases line [] l c) [
+  | inl e ↦ named x (subst (λ (l : Line). HasSide l x) (sym e) h)
+  | inr d ↦ absurd (Contains-none l d)
+]

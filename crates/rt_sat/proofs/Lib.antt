@@ -30,6 +30,7 @@ pub mod Weighed
 pub mod Flagging
 pub mod Completing
 pub mod Adding
+pub mod Copying
 mod Homes
 mod Turning
 mod Standing

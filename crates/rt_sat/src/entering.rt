@@ -25,7 +25,7 @@ pub(crate) fn line_edges(alloc: Global, named: &Named, lines: &[Line]) -> Result
 }
 
 // Puts the edges of a line behind others.
-fn enter_line(
+pub(crate) fn enter_line(
     alloc: Global,
     named: &Named,
     edges: &mut Vec<Edge>,

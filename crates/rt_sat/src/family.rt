@@ -56,6 +56,22 @@ impl Family {
         })
     }
 
+    // The same once more. The error is out of memory.
+    pub(crate) fn copy(&self, alloc: Global) -> Result<Family, Memory>
+        ensures members { IfOk result (AreSameMembers self.now) }
+        ensures grids { IfOk result (λ copy. copy.grids.items ≡ self.now.grids.items) }
+        ensures homes { IfOk result (λ copy. copy.homes.items ≡ self.now.homes.items) }
+    {
+        let members = members_copied(alloc, &self.members)?;
+        let grids = grids_copied(alloc, &self.grids)?;
+        let homes = self.homes.to_vec(alloc)?;
+        Ok(Family {
+            members,
+            grids,
+            homes,
+        })
+    }
+
     // Where a state stands, if its variable is a member of a class.
     pub(crate) fn home(&self, state: State) -> Option<Home>
         requires { (count : ℕ) × IsFamily count self.now }
@@ -164,6 +180,29 @@ fn members(
         }
     }
     Ok(members)
+}
+
+// The members of each class once more.
+fn members_copied(alloc: Global, members: &[Sequence<u32>]) -> Result<Vec<Sequence<u32>>, Memory>
+    ensures { IfOk result (λ copies. copies.items ≡ members.now) }
+{
+    let mut copies = Vec::with_capacity(alloc, members.len())?;
+    for class in members {
+        let copy = class.items().to_vec(alloc)?;
+        copies.push(Sequence::from_vec(copy))?;
+    }
+    Ok(copies)
+}
+
+// The grids once more.
+fn grids_copied(alloc: Global, grids: &[Grid]) -> Result<Vec<Grid>, Memory>
+    ensures { IfOk result (λ copies. copies.items ≡ grids.now) }
+{
+    let mut copies = Vec::with_capacity(alloc, grids.len())?;
+    for grid in grids {
+        copies.push(grid.copy(alloc)?)?;
+    }
+    Ok(copies)
 }
 
 // How many classes there are.

@@ -1,5 +1,5 @@
 // Pushes from ways that tables of bytes give.
-ghost use Rattle.std.specs.Prelude.{◌≡◌, ◌⊎◌, ◌+◌, ◌%◌, ◌<◌, ◌≤◌, ℕ, Bool, List, Contains, Some, None, IfOk, IfSome, OnOk};
+ghost use Rattle.std.specs.Prelude.{◌≡◌, ◌⊎◌, ◌<◌, ◌≤◌, ℕ, Bool, List, Contains, Some, None, IfOk, IfSome, OnOk};
 ghost use Rattle.std.specs.Prelude.{length};
 ghost use Rattle.rt_grid.specs.declared.grid.Step.{Step as Pace};
 ghost use Rattle.rt_grid.specs.Tables.{size_of, Holds, Made, SaysOr, SaysWith};
@@ -9,18 +9,18 @@ ghost use Rattle.rt_sat.specs.declared.family.Family.{Family as Classes};
 ghost use Rattle.rt_sat.specs.declared.gathering.End.{End as Stop};
 ghost use Rattle.rt_sat.specs.declared.state.State.{State as Place};
 ghost use Rattle.rt_sat.specs.declared.state.Edge.{Edge as Arrow};
-ghost use Rattle.rt_sat.specs.Counts.{digit_of};
 ghost use Rattle.rt_sat.specs.Inside.Links.{noted_at, AreBefore, AreBehind, AreEndsFrom, AreEndsOf, AreLinked, AreSources, AreTargets, AreTied};
-ghost use Rattle.rt_sat.specs.Hints.{bit_of, grid_of, members_of, state_at, AreEnds, AreGroups, AreInClass, AreInRows, AreKids};
+ghost use Rattle.rt_sat.specs.Hints.{grid_of, members_of, state_at, AreEnds, AreGroups, AreInClass, AreInRows, AreKids};
 ghost use Rattle.rt_sat.specs.Hints.{AreSameMembers, AreToldSteps, IsEnd, IsFamily, IsGroup, IsHome, IsInRows, IsTold, IsToldFamily};
 ghost use Rattle.rt_sat.specs.Hints.{IsToldRow};
-ghost use Rattle.rt_sat.specs.Numbered.{sign_of, AreDistinct};
-ghost use Rattle.rt_sat.specs.Pushes.{IsChildOf, PushBy};
+ghost use Rattle.rt_sat.specs.Numbered.{AreDistinct};
+ghost use Rattle.rt_sat.specs.Pushes.{IsChildOf};
 
 use crate::family::{Family, Home, place};
 use crate::links::{Links, states_at};
 use crate::pushing::{Frame, flag, is_pointer, sign, turns};
 use crate::state::State;
+use crate::stepping::{Spot, gathered, spots};
 use rt_base::{Memory, Sequence};
 use rt_grid::{Grid, NONE, Step};
 use rt_lines::Label;
@@ -67,27 +67,27 @@ pub(crate) struct Kin {
 
 // The state of a variable with a letter more than a member's state, to which what is known of the latter is pushed.
 #[derive(Clone, Copy)]
-struct End {
+pub(crate) struct End {
     // The place of the parent's state in its class.
-    place: usize,
-    parent: State,
-    child: State,
+    pub(crate) place: usize,
+    pub(crate) parent: State,
+    pub(crate) child: State,
     // The letter that the child has more.
-    letter: Label,
+    pub(crate) letter: Label,
     // The child, if it stands in the family that is pushed to, else a state that stands there and leads to it or from it.
-    stand: State,
+    pub(crate) stand: State,
     // Where that stands.
-    home: Home,
+    pub(crate) home: Home,
     // Whether the parent can be read and written through.
-    flip: bool,
+    pub(crate) flip: bool,
     // Whether counts above nought matter at the child.
-    matters: bool,
+    pub(crate) matters: bool,
     // Whether the letter is that of a pointer.
-    pointer: bool,
+    pub(crate) pointer: bool,
     // Whether the rest behind the child, with its letter, turns the order round.
-    turned: bool,
+    pub(crate) turned: bool,
     // Whether something leads on from where it stands but what is pushed to the group's others.
-    leads_on: bool,
+    pub(crate) leads_on: bool,
 }
 
 // Pushes within a family, until nothing is added.
@@ -344,9 +344,10 @@ fn push_ends(
         AreSources known flips lines sources.now → AreTargets known flips lines targets.now →
         IsToldFamily known flips lines family.old → IsToldFamily known flips lines family.new) }
 {
+    let spots = spots(alloc, targets)?;
     for source in sources {
         if family.grids[class].has_changed(source.place, since) {
-            push_within(alloc, targets, source, family, class, next)?;
+            push_within(alloc, targets, &spots, source, family, class, next)?;
         }
     }
     Ok(())
@@ -356,6 +357,7 @@ fn push_ends(
 fn push_within(
     alloc: Global,
     targets: &[End],
+    spots: &[Spot],
     source: &End,
     family: &mut Family,
     class: usize,
@@ -374,7 +376,7 @@ fn push_within(
         AreTied known flips lines source.now targets.now → IsToldFamily known flips lines family.old →
         IsToldFamily known flips lines family.new) }
 {
-    let found = found_at(alloc, targets, source, family, class, family)?;
+    let found = found_at(alloc, targets, spots, source, family, class, family)?;
     let leads_on = source.leads_on || lead_on(targets);
     if put(alloc, family, source.home, &found, leads_on)? {
         next[source.home.class] = true;
@@ -410,8 +412,9 @@ pub(crate) fn push_apart(
 {
     let members = family.members[group.class].items();
     let ends = ends(alloc, frame, members, group.kids.items(), &[], &[], into)?;
+    let spots = spots(alloc, &ends)?;
     for source in &ends {
-        let found = found_at(alloc, &ends, source, family, group.class, into)?;
+        let found = found_at(alloc, &ends, &spots, source, family, group.class, into)?;
         put(alloc, into, source.home, &found, true)?;
     }
     Ok(())
@@ -422,6 +425,7 @@ pub(crate) fn push_apart(
 fn found_at(
     alloc: Global,
     targets: &[End],
+    spots: &[Spot],
     source: &End,
     family: &Family,
     class: usize,
@@ -440,7 +444,7 @@ fn found_at(
 {
     let row = family.grids[class].row(source.place);
     let known = into.grids[source.home.class].row(source.home.index);
-    let found = gathered(alloc, targets, row, source, known)?;
+    let found = gathered(alloc, targets, spots, row, source, known)?;
     Ok(found)
 }
 
@@ -611,131 +615,6 @@ pub(crate) fn child_of(frame: &Frame, parent: State, number: u32) -> Option<(Sta
             Some((state, letter))
         }
         Origin::Bare(_) => None,
-    }
-}
-
-// The steps that are pushed from the row of an end's parent to others, as far as they are less than what is known.
-fn gathered(
-    alloc: Global,
-    targets: &[End],
-    row: &[u8],
-    source: &End,
-    known: &[u8],
-) -> Result<Vec<Step>, Memory>
-    requires { AreInRows row.now source.now.home.class known.now targets.now }
-    ensures inside { IfOk result (λ found. (s : Pace) → Contains found.items s → s.to < length known.now) }
-    ensures told { IfOk result (λ found. (known : List Variable) (flips : List Bool) (lines : List Arrow) (members : List ℕ)
-        (into : Classes) → AreEndsFrom known flips members into source.now targets.now →
-        AreTied known flips lines source.now targets.now →
-        IsToldRow known flips lines source.now.parent members row.now →
-        AreToldSteps known flips lines source.now.stand into source.now.home.class found.items) }
-{
-    let mut found = Vec::new(alloc);
-    for target in targets {
-        if let Some(step) = pushed_step(row, source, target, known) {
-            found.push(step)?;
-        }
-    }
-    Ok(found)
-}
-
-// The step that is pushed from the count of ways between the parents of ends, if it is less than what is known.
-fn pushed_step(row: &[u8], source: &End, target: &End, known: &[u8]) -> Option<Step>
-    requires { IsInRows row.now source.now.home.class known.now target.now }
-    ensures inside { IfSome result (λ s. s.to < length known.now) }
-    ensures told { IfSome result (λ s. (known : List Variable) (flips : List Bool) (lines : List Arrow) (members : List ℕ)
-        (into : Classes) → IsEnd known flips members into source.now → IsEnd known flips members into target.now →
-        IsTold known flips lines source.now.stand source.now.child 0 →
-        IsTold known flips lines target.now.child target.now.stand 0 →
-        IsToldRow known flips lines source.now.parent members row.now →
-        IsTold known flips lines source.now.stand (state_at (members_of into source.now.home.class) s.to) s.count) }
-{
-    let way = row[target.place];
-    if way == NONE || target.home.class != source.home.class {
-        return None;
-    }
-    let least = known[target.home.index];
-    if least == 0 {
-        return None;
-    }
-    if is_spare(source, target, way, least) {
-        return None;
-    }
-    let count = between(
-        source.flip,
-        source.letter,
-        target.letter,
-        way,
-        source.child.contra,
-        target.child.contra,
-    )?;
-    if count >= least || (count > 0 && !source.matters) {
-        return None;
-    }
-    Some(Step {
-        to: target.home.index,
-        count,
-    })
-}
-
-// Whether what is pushed from a count between the parents of ends is no less than what is known, as flags tell soon. Effort alone
-// rests on it.
-fn is_spare(source: &End, target: &End, way: u8, least: u8) -> bool
-    requires { way < 255 }
-{
-    if way >= least && !(source.flip && source.pointer && target.pointer) {
-        return true;
-    }
-    let differ = source.child.contra != target.child.contra;
-    way >= least && half(way, source.turned, target.turned, differ) >= least
-}
-
-// The least count that one between two parents gives between children with these letters and signs.
-pub(crate) fn between(
-    flip: bool,
-    first: Label,
-    second: Label,
-    count: u8,
-    a: bool,
-    b: bool,
-) -> Option<u8>
-    requires { count < 255 }
-    ensures push { IfSome result (λ k. PushBy flip first second count (sign_of a) (sign_of b) k) }
-    ensures least { (k : ℕ) → PushBy flip first second count (sign_of a) (sign_of b) k →
-        (n : ℕ) × (result ≡ Some n) × (n ≤ k) }
-{
-    if flip && is_pointer(first) && is_pointer(second) {
-        let left = first.variance().times(sign(a));
-        let right = second.variance().times(sign(b));
-        let half = half(count, turns(left), turns(right), a != b);
-        if first == second && count < half {
-            return Some(count);
-        }
-        return Some(half);
-    }
-    if first == second { Some(count) } else { None }
-}
-
-// The least count of a half push.
-fn half(count: u8, left: bool, right: bool, differ: bool) -> u8
-    requires { count < 255 }
-    ensures enough { count + bit_of left ≤ result + result + bit_of right }
-    ensures parity { (result + digit_of differ) % 2 ≡ 0 }
-    ensures least { (other : ℕ) → count + bit_of left ≤ other + other + bit_of right → (other + digit_of differ) % 2 ≡ 0 →
-        result ≤ other }
-{
-    let more = if left {
-        u16::from(count)
-    } else {
-        u16::from(count) + 1
-    };
-    let rest = if right { more } else { more.saturating_sub(1) };
-    let half = rest.div_ceil(2);
-    let odd = half % 2 == 1;
-    if odd == differ {
-        half as u8
-    } else {
-        (half + 1) as u8
     }
 }
 

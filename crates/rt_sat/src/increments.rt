@@ -1,8 +1,9 @@
 // What lines say, in tables of bytes to which lines can be added.
-ghost use Rattle.std.specs.Prelude.{◌≡◌, ℕ, List, Contains, Some, true, length, slice_get, IfOk, OnOk};
+ghost use Rattle.std.specs.Prelude.{◌≡◌, ◌++◌, ℕ, Bool, List, Contains, Some, true, length, slice_get, IfOk, OnOk};
+ghost use Rattle.rt_sat.specs.declared.increments.Snapshot.{Snapshot as Earlier};
 ghost use Rattle.rt_sat.specs.declared.state.Edge.{Edge as Arrow};
 ghost use Rattle.rt_sat.specs.Inside.Links.{AreLinked};
-ghost use Rattle.rt_sat.specs.Hints.{AreGroups, IsFamily, IsTold, IsToldFamily};
+ghost use Rattle.rt_sat.specs.Hints.{AreGroups, AreSameMembers, IsFamily, IsTold, IsToldFamily};
 ghost use Rattle.rt_sat.specs.Numbered.{AreDistinct};
 ghost use Rattle.rt_lines.specs.declared.line.Line.{Line as Given};
 ghost use Rattle.rt_lines.specs.declared.line.Line.TheVariants.{Sub as Subtype};
@@ -11,10 +12,10 @@ ghost use Rattle.rt_lines.specs.declared.variable.Dtv.{Dtv as Variable};
 ghost use Rattle.rt_named.specs.Naming.{named as named_by};
 ghost use Rattle.rt_rules.specs.Rules.{Derivable, HasSide};
 ghost use Rattle.rt_shape.specs.Shapes.{IsShapeOf};
-ghost use Rattle.rt_sat.specs.Increments.{named_of, IsAdded, Tells};
+ghost use Rattle.rt_sat.specs.Increments.{named_of, AreEdgesAmong, IsAdded, IsWith, Tells, Told};
 ghost use Rattle.rt_sat.specs.Tables.{place, AreThere};
 
-use crate::entering::line_edges;
+use crate::entering::{enter_line, line_edges};
 use crate::family::Family;
 use crate::gathering::{Kin, clocks, spread, spread_from};
 use crate::hints::{dead, enter_lines, inner, kin, revive, set};
@@ -35,6 +36,12 @@ pub struct GrowingTable {
     frame: Frame,
     family: Family,
     kin: Kin,
+}
+
+/// What a table said at a time.
+#[derive(Drop)]
+pub struct Snapshot {
+    family: Family,
 }
 
 impl GrowingTable {
@@ -85,26 +92,7 @@ impl GrowingTable {
             slice_get (named_of self.now) lower ≡ Some x → slice_get (named_of self.now) upper ≡ Some y →
             Derivable order lines (Subtype x y) }
     {
-        self.has_way(forth(lower), forth(upper))
-    }
-
-    // Whether a way of count nought is found from one state to another.
-    fn has_way(&self, from: State, to: State) -> bool
-        requires { (count : ℕ) × IsFamily count self.now.family }
-        ensures { result ≡ true → (lines : List Arrow) →
-            IsToldFamily self.now.frame.named self.now.frame.flips.items lines self.now.family →
-            IsTold self.now.frame.named self.now.frame.flips.items lines from to 0 }
-    {
-        let Some(left) = self.family.home(from) else {
-            return false;
-        };
-        let Some(right) = self.family.home(to) else {
-            return false;
-        };
-        if left.class != right.class {
-            return false;
-        }
-        self.family.grids[left.class].row(left.index)[right.index] == 0
+        has_way(&self.family, forth(lower), forth(upper))
     }
 
     /// Adds a line, if its sides are named: of ways between other variables nothing is found. The error is out of memory.
@@ -112,12 +100,14 @@ impl GrowingTable {
         requires { (lines : List Given) × Tells lines self.old }
         ensures named { OnOk result (named_of self.new ≡ named_of self.old) }
         ensures added { OnOk result ((lines : List Given) → Tells lines self.old → IsAdded lines line.now self.new) }
+        ensures then { OnOk result ((lines : List Given) (snapshot : Earlier) → Told lines snapshot self.old →
+            Told lines snapshot self.new) }
     {
         if !self.has_sides(line) {
             return Ok(());
         }
         let edges = line_edges(alloc, &self.frame.named, slice::from_ref(line))?;
-        self.enter(alloc, &edges)?;
+        enter(alloc, &self.frame, &self.kin, &mut self.family, &edges)?;
         Ok(())
     }
 
@@ -133,39 +123,124 @@ impl GrowingTable {
         true
     }
 
-    // Adds what edges of lines, and what is pushed from ways along them, say.
-    fn enter(&mut self, alloc: Global, edges: &[Edge]) -> Result<(), Memory>
-        requires distinct { AreDistinct self.old.frame.named }
-        requires family { IsFamily (length self.old.frame.named) self.old.family }
-        requires groups { AreGroups self.old.family self.old.kin.groups.items }
-        ensures frame { OnOk result (self.new.frame ≡ self.old.frame) }
-        ensures family { OnOk result (IsFamily (length self.old.frame.named) self.new.family) }
-        ensures kin { OnOk result (self.new.kin ≡ self.old.kin) }
-        ensures groups { OnOk result (AreGroups self.new.family self.new.kin.groups.items) }
-        ensures told { OnOk result ((lines : List Arrow) → ((e : Arrow) → Contains edges.now e → Contains lines e) →
-            AreLinked self.old.frame.named self.old.frame.flips.items lines self.old.kin.links →
-            IsToldFamily self.old.frame.named self.old.frame.flips.items lines self.old.family →
-            IsToldFamily self.old.frame.named self.old.frame.flips.items lines self.new.family) }
+    /// What the table says. The error is out of memory.
+    pub fn snapshot(&self, alloc: Global) -> Result<Snapshot, Memory>
+        ensures { IfOk result (λ snapshot. (lines : List Given) → Tells lines self.now → Told lines snapshot self.now) }
     {
-        let since = clocks(alloc, &self.family)?;
-        enter_lines(alloc, &mut self.family, edges)?;
-        let due = self.due(alloc, edges)?;
-        spread_from(alloc, &self.frame, &self.kin, &mut self.family, due, since)
+        let family = self.family.copy(alloc)?;
+        Ok(Snapshot { family })
     }
 
-    // A flag for each class, set for those of the edges' starts.
-    fn due(&self, alloc: Global, edges: &[Edge]) -> Result<Vec<bool>, Memory>
-        requires { (count : ℕ) × IsFamily count self.now.family }
-        ensures { IfOk result (λ due. length due.items ≡ length self.now.family.members.items) }
+    /// Whether it is found that the first variable lies below the second by what the table said at a time and by more lines,
+    /// of which those are left out whose sides aren't named. Where it isn't, nothing is said. The error is out of memory.
+    pub fn had_with(
+        &self,
+        alloc: Global,
+        snapshot: &Snapshot,
+        lines: &[Line],
+        x: &Dtv,
+        y: &Dtv,
+    ) -> Result<bool, Memory>
+        requires { (told : List Given) × Told told snapshot.now self.now }
+        ensures { IfOk result (λ yes. yes ≡ true → (order : Below) (told : List Given) → Told told snapshot.now self.now →
+            Derivable order (told ++ lines.now) (Subtype x.now y.now)) }
     {
-        let mut due = vec![in alloc; false; self.family.members.len()]?;
-        for edge in edges {
-            if let Some(home) = self.family.home(edge.from) {
-                due[home.class] = true;
+        let Some(lower) = self.frame.named.index(x) else {
+            return Ok(false);
+        };
+        let Some(upper) = self.frame.named.index(y) else {
+            return Ok(false);
+        };
+        let then = self.then_with(alloc, snapshot, lines)?;
+        Ok(has_way(&then.family, forth(lower), forth(upper)))
+    }
+
+    // What the table said at a time, with what lines say whose sides are named. The error is out of memory.
+    fn then_with(
+        &self,
+        alloc: Global,
+        snapshot: &Snapshot,
+        lines: &[Line],
+    ) -> Result<Snapshot, Memory>
+        requires { (told : List Given) × Told told snapshot.now self.now }
+        ensures family { IfOk result (λ then. IsFamily (length (named_of self.now)) then.family) }
+        ensures told { IfOk result (λ then. (told : List Given) → Told told snapshot.now self.now →
+            IsWith told lines.now then self.now) }
+    {
+        let edges = self.edges_of(alloc, lines)?;
+        let mut family = snapshot.family.copy(alloc)?;
+        enter(alloc, &self.frame, &self.kin, &mut family, &edges)?;
+        Ok(Snapshot { family })
+    }
+
+    // The edges of those lines whose sides are named.
+    fn edges_of(&self, alloc: Global, lines: &[Line]) -> Result<Vec<Edge>, Memory>
+        ensures { IfOk result (λ edges. AreEdgesAmong lines.now (named_of self.now) edges.items) }
+    {
+        let mut edges = Vec::new(alloc);
+        for line in lines {
+            if self.has_sides(line) {
+                enter_line(alloc, &self.frame.named, &mut edges, line)?;
             }
         }
-        Ok(due)
+        Ok(edges)
     }
+}
+
+// Whether a way of count nought is found from one state to another.
+fn has_way(family: &Family, from: State, to: State) -> bool
+    requires { (count : ℕ) × IsFamily count family.now }
+    ensures { result ≡ true → (known : List Variable) (flips : List Bool) (lines : List Arrow) →
+        IsToldFamily known flips lines family.now → IsTold known flips lines from to 0 }
+{
+    let Some(left) = family.home(from) else {
+        return false;
+    };
+    let Some(right) = family.home(to) else {
+        return false;
+    };
+    if left.class != right.class {
+        return false;
+    }
+    family.grids[left.class].row(left.index)[right.index] == 0
+}
+
+// Adds to a family what edges of lines, and what is pushed from ways along them, say.
+fn enter(
+    alloc: Global,
+    frame: &Frame,
+    kin: &Kin,
+    family: &mut Family,
+    edges: &[Edge],
+) -> Result<(), Memory>
+    requires distinct { AreDistinct frame.now.named }
+    requires family { IsFamily (length frame.now.named) family.old }
+    requires groups { AreGroups family.old kin.now.groups.items }
+    ensures same { OnOk result (AreSameMembers family.old family.new) }
+    ensures family { OnOk result (IsFamily (length frame.now.named) family.new) }
+    ensures told { OnOk result ((lines : List Arrow) → ((e : Arrow) → Contains edges.now e → Contains lines e) →
+        AreLinked frame.now.named frame.now.flips.items lines kin.now.links →
+        IsToldFamily frame.now.named frame.now.flips.items lines family.old →
+        IsToldFamily frame.now.named frame.now.flips.items lines family.new) }
+{
+    let since = clocks(alloc, family)?;
+    enter_lines(alloc, family, edges)?;
+    let due = due(alloc, family, edges)?;
+    spread_from(alloc, frame, kin, family, due, since)
+}
+
+// A flag for each class, set for those of the edges' starts.
+fn due(alloc: Global, family: &Family, edges: &[Edge]) -> Result<Vec<bool>, Memory>
+    requires { (count : ℕ) × IsFamily count family.now }
+    ensures { IfOk result (λ due. length due.items ≡ length family.now.members.items) }
+{
+    let mut due = vec![in alloc; false; family.members.len()]?;
+    for edge in edges {
+        if let Some(home) = family.home(edge.from) {
+            due[home.class] = true;
+        }
+    }
+    Ok(due)
 }
 
 // The state of a variable that keeps the order.

@@ -1,7 +1,7 @@
 pub mod Around
 pub mod Between
 pub mod Entered
-pub mod Fated
+pub mod Fating
 pub mod Grown
 pub mod Inside
 pub mod Leading

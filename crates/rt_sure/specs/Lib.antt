@@ -1,4 +1,5 @@
 pub mod Arcs
 pub mod Fates
+pub mod Grounds
 pub mod Shapes
 pub mod Inside

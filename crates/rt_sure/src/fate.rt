@@ -1,22 +1,22 @@
 // What becomes of lines.
-ghost use Rattle.std.specs.Prelude.{◌≡◌, ◌≤◌, ℕ, List, Some, ◌↔◌, true, IfOk, OnOk};
+ghost use Rattle.std.specs.Prelude.{◌≡◌, ◌≤◌, ℕ, List, Some, ◌↔◌, true, IfOk, IfSome, OnOk};
 ghost use Rattle.std.specs.Prelude.{length, slice_index_or};
 ghost use Rattle.rt_lines.specs.declared.line.Line.{Line as Given};
 ghost use Rattle.rt_lines.specs.Orders.{Below};
 ghost use Rattle.rt_rules.specs.Rules.{Derivable};
-ghost use Rattle.rt_shape.specs.Shapes.{IsShapeOf};
-ghost use Rattle.rt_sat.specs.Increments.{IsAdded, Tells};
-ghost use Rattle.rt_sat.specs.Tables.{AreThere};
+ghost use Rattle.rt_sat.specs.declared.increments.Snapshot.{Snapshot as Earlier};
+ghost use Rattle.rt_sat.specs.Increments.{IsAdded, Tells, Told};
 ghost use Rattle.rt_sure.specs.Fates.{fate_at, flag_at, AreGoing, DoStay};
-ghost use Rattle.rt_sure.specs.Inside.Shapes.{IsSubtype};
+ghost use Rattle.rt_sure.specs.Inside.Grounds.{IsTold};
+ghost use Rattle.rt_sure.specs.Inside.Shapes.{AreJoined, IsSubtype};
 ghost use Rattle.rt_sure.specs.declared.fate.Fate.TheVariants.{Stays as Staying, Goes as Going};
 
+use crate::ground::Ground;
 use crate::shapes::{is_below, joined, shaped_among};
-use crate::shortening::shortened;
+use crate::tables::table_of;
 use rt_base::Memory;
 use rt_lines::{Dtv, Line};
 use rt_sat::GrowingTable;
-use rt_shape::Shape;
 use std::alloc::Global;
 
 /// What becomes of a line, whatever becomes of others.
@@ -30,26 +30,35 @@ pub enum Fate {
     Open,
 }
 
+/// What becomes of lines, and what is known of the ground on which it was said.
+#[derive(Drop)]
+pub struct Fated {
+    /// What becomes of each of the lines.
+    pub fates: Vec<Fate>,
+    /// What lines that stay say, if there are `<=` lines that aren't known to stay.
+    pub ground: Option<Ground>,
+}
+
 /// What becomes of the first lines, where the flags say which of them stay, one for each. Only `<=` lines go: such a line goes, if
 /// its shape follows from those that stay and those before it, and if it follows from these and the shapes of all. Of the `<=`
-/// lines that stay those alone are looked at that are among some; nothing is promised of how many lines go. The error is out of
-/// memory.
-pub fn fates(
-    alloc: Global,
-    lines: &[Line],
-    stays: &[bool],
-    among: &[bool],
-) -> Result<Vec<Fate>, Memory>
+/// lines that stay those alone are looked at that are among some; nothing is promised of how many lines go. With them comes what
+/// can be asked of the others. The error is out of memory.
+pub fn fates(alloc: Global, lines: &[Line], stays: &[bool], among: &[bool]) -> Result<Fated, Memory>
     requires within { length stays.now ≤ length lines.now }
-    ensures each { IfOk result (λ fates. length fates.items ≡ length stays.now) }
-    ensures staying { IfOk result (λ fates. DoStay stays.now fates.items) }
-    ensures going { IfOk result (λ fates. (order : Below) → AreGoing order lines.now fates.items) }
+    ensures each { IfOk result (λ fated. length fated.fates.items ≡ length stays.now) }
+    ensures staying { IfOk result (λ fated. DoStay stays.now fated.fates.items) }
+    ensures going { IfOk result (λ fated. (order : Below) → AreGoing order lines.now fated.fates.items) }
+    ensures ground { IfOk result (λ fated. IfSome fated.ground (λ g. (g.lines ≡ lines.now) × (g.stays ≡ stays.now))) }
 {
     if !has_open(lines, stays) {
-        return known(alloc, stays);
+        let fates = known(alloc, stays)?;
+        return Ok(Fated {
+            fates,
+            ground: None,
+        });
     }
-    let fates = with_going(alloc, lines, stays, among)?;
-    Ok(fates)
+    let fated = with_going(alloc, lines, stays, among)?;
+    Ok(fated)
 }
 
 // Whether one of the first lines is a `<=` line that isn't flagged.
@@ -91,22 +100,60 @@ fn with_going(
     lines: &[Line],
     stays: &[bool],
     among: &[bool],
+) -> Result<Fated, Memory>
+    requires within { length stays.now ≤ length lines.now }
+    ensures each { IfOk result (λ fated. length fated.fates.items ≡ length stays.now) }
+    ensures staying { IfOk result (λ fated. DoStay stays.now fated.fates.items) }
+    ensures going { IfOk result (λ fated. (order : Below) → AreGoing order lines.now fated.fates.items) }
+    ensures ground { IfOk result (λ fated. IfSome fated.ground (λ g. (g.lines ≡ lines.now) × (g.stays ≡ stays.now))) }
+{
+    let joined = joined(alloc, lines, stays)?;
+    let mut growing = grown(alloc, lines, stays, among)?;
+    let base = growing.snapshot(alloc)?;
+    let fates = one_by_one(alloc, &mut growing, lines, stays, &joined)?;
+    let ground = Ground::of(alloc, growing, base, lines, stays, joined)?;
+    Ok(Fated {
+        fates,
+        ground: Some(ground),
+    })
+}
+
+// What lines that stay say, and the shapes of others, in a table to which those can be added that don't stay.
+fn grown(
+    alloc: Global,
+    lines: &[Line],
+    stays: &[bool],
+    among: &[bool],
+) -> Result<GrowingTable, Memory>
+    requires { length stays.now ≤ length lines.now }
+    ensures { IfOk result (λ growing. IsTold lines.now stays.now 0 growing) }
+{
+    let shaped = shaped_among(alloc, lines, stays, among)?;
+    let sides = open_sides(alloc, lines, stays)?;
+    let growing = table_of(alloc, &shaped, &sides)?;
+    Ok(growing)
+}
+
+// What becomes of the first lines, which are added to the table one by one if they don't stay.
+fn one_by_one(
+    alloc: Global,
+    growing: &mut GrowingTable,
+    lines: &[Line],
+    stays: &[bool],
+    joined: &[bool],
 ) -> Result<Vec<Fate>, Memory>
     requires within { length stays.now ≤ length lines.now }
+    requires long { length stays.now ≤ length joined.now }
+    requires joined { AreJoined lines.now stays.now joined.now }
+    requires told { IsTold lines.now stays.now 0 growing.old }
     ensures each { IfOk result (λ fates. length fates.items ≡ length stays.now) }
     ensures staying { IfOk result (λ fates. DoStay stays.now fates.items) }
     ensures going { IfOk result (λ fates. (order : Below) → AreGoing order lines.now fates.items) }
+    ensures then { OnOk result ((told : List Given) (base : Earlier) → Told told base growing.old → Told told base growing.new) }
 {
-    let joined = joined(alloc, lines, stays)?;
-    let shaped = shaped_among(alloc, lines, stays, among)?;
-    let sides = open_sides(alloc, lines, stays)?;
-    let short = shortened(alloc, &shaped, &sides)?;
-    let shape = rt_shape::of(alloc, &short)?;
-    let extra = existing(alloc, &shape, &sides)?;
-    let mut growing = GrowingTable::of(alloc, &short, &shape, &extra)?;
     let mut fates = Vec::with_capacity(alloc, stays.len())?;
     for i in 0..stays.len() {
-        let fate = going(alloc, &mut growing, &lines[i], stays[i], joined[i])?;
+        let fate = going(alloc, growing, &lines[i], stays[i], joined[i])?;
         fates.push(fate)?;
     }
     Ok(fates)
@@ -128,28 +175,6 @@ fn open_sides(alloc: Global, lines: &[Line], stays: &[bool]) -> Result<Vec<Dtv>,
     Ok(sides)
 }
 
-// Those of the variables that exist by the lines of a shape.
-fn existing(alloc: Global, shape: &Shape, sides: &[Dtv]) -> Result<Vec<Dtv>, Memory>
-    ensures { IfOk result (λ existing. (lines : List Given) → IsShapeOf lines shape.now → AreThere lines existing.items) }
-{
-    let mut existing = Vec::new(alloc);
-    for x in sides {
-        add_existing(shape, &mut existing, x)?;
-    }
-    Ok(existing)
-}
-
-// Adds the variable, if it exists.
-fn add_existing(shape: &Shape, existing: &mut Vec<Dtv>, x: &Dtv) -> Result<(), Memory>
-    ensures { OnOk result ((lines : List Given) → IsShapeOf lines shape.now → AreThere lines existing.old.items →
-        AreThere lines existing.new.items) }
-{
-    if shape.node(x).is_some() {
-        existing.push(x.copy()?)?;
-    }
-    Ok(())
-}
-
 // What becomes of a line where it is known whether it stays, and whether its shape follows from those that stay and those before
 // it, and the table says of these and of the shapes of all. A `<=` line that doesn't stay is added to the table, if this doesn't
 // have it.
@@ -165,6 +190,7 @@ fn going(
     ensures goes { IfOk result (λ fate. fate ≡ Going → (joined ≡ true) × IsSubtype line.now ×
         ((order : Below) (told : List Given) → Tells told growing.old → Derivable order told line.now)) }
     ensures added { OnOk result ((told : List Given) → Tells told growing.old → IsAdded told line.now growing.new) }
+    ensures then { OnOk result ((told : List Given) (base : Earlier) → Told told base growing.old → Told told base growing.new) }
 {
     if stays {
         return Ok(Fate::Stays);

@@ -6,11 +6,13 @@
 
 mod describing;
 mod fate;
+mod ground;
 mod shapes;
 mod shortening;
+mod tables;
 mod ways;
 
-pub use fate::{Fate, fates};
-pub use shapes::shape_of;
-pub use shortening::shortened;
+pub use fate::{Fate, Fated, fates};
+pub use ground::Ground;
+pub use tables::table_of;
 pub use ways::Ways;

@@ -1,6 +1,6 @@
 // Lines that stay, and what is told of the shapes of others.
 ghost use Rattle.std.specs.Prelude.{◌≡◌, ◌≤◌, IfOk, IsTrue, ◌↔◌, drop, length};
-ghost use Rattle.rt_sure.specs.Fates.{AreSure};
+ghost use Rattle.rt_sure.specs.Fates.{flag_at, AreSure};
 ghost use Rattle.rt_sure.specs.Inside.Shapes.{AreFewer, AreJoined, AreShaped, IsSubtype};
 ghost use Rattle.rt_sure.specs.Shapes.{shape_of};
 
@@ -61,7 +61,7 @@ fn without_others(
 {
     let mut given = stays.to_vec(alloc)?;
     for i in 0..stays.len() {
-        if is_below(&lines[i]) && !is_among(among, i) {
+        if is_below(&lines[i]) && !is_set(among, i) {
             given[i] = false;
         }
     }
@@ -69,8 +69,10 @@ fn without_others(
 }
 
 // Whether there is a flag at the index, and it is set.
-fn is_among(among: &[bool], i: usize) -> bool {
-    match among.get(i) {
+pub(crate) fn is_set(flags: &[bool], i: usize) -> bool
+    ensures { result ≡ flag_at flags.now i }
+{
+    match flags.get(i) {
         Some(flag) => *flag,
         None => false,
     }

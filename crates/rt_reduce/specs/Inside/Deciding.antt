@@ -1,5 +1,5 @@
 -- What is told of a line without saturating the others.
-use Rattle.std.specs.Prelude.{◌≡◌, ◌⊎◌, ℕ, ◌<◌, List, [], All, Bool, true, false, Contains, slice_index_or}
+use Rattle.std.specs.Prelude.{◌≡◌, ℕ, ◌<◌, ◌+◌, List, [], ◌∷◌, All, Bool, true, false, Some, Contains, slice_get, slice_index_or}
 use Rattle.rt_lines.specs.declared.variable.Dtv.{Dtv}
 use Rattle.rt_lines.specs.declared.line.Line.{Line}
 use Rattle.rt_lines.specs.declared.line.Line.TheVariants.{Low, Up}
@@ -10,7 +10,10 @@ use Rattle.rt_named.specs.Naming.{named as named_by}
 use Rattle.rt_outline.specs.declared.led.Led.{Led}
 use Rattle.rt_outline.specs.declared.led.Led.TheVariants.{No, Yes}
 use Rattle.rt_outline.specs.Lines.{Lined, standing}
-use Rattle.rt_sure.specs.Shapes.{shape_of}
+use Rattle.rt_sure.specs.declared.fate.Fate.{Fate}
+use Rattle.rt_sure.specs.declared.fate.Fate.TheVariants.{Stays}
+use Rattle.rt_sure.specs.Fates.{fate_at, DerivesAll, HasBefore}
+use Rattle.rt_sure.specs.Grounds.{Grounded, HasFlagged}
 
 -- arcs of lines between the variables that they name
 abbrev pub IsOwnOuter : List Line → Lined → Type 0
@@ -65,9 +68,27 @@ pub record Tells (order : Below) (lines : List Line) (line : Line) (led : Led) :
   pub no : led ≡ No → Derivable order lines line → ⊥
   pub yes : led ≡ Yes → Derivable order lines line
 
--- each of the lines is one of those left, or the shape of one
-abbrev pub AreConfined : List Line → List Line → Type 0
-AreConfined left confined = (m : Line) → Contains confined m → (l : Line) × Contains left l × ((m ≡ l) ⊎ (m ≡ shape_of l))
+-- what is left has the lines of the ground that stay, those before a place, and those that stand, and with the line at the place it
+-- derives all
+pub record IsGroundFor (order : Below) (left : List Line) (stands : List Bool) (line : Line) (place : ℕ) (ground : Grounded) : Type 0 where
+  pub here : slice_get ground.lines place ≡ Some line
+  pub staying : HasFlagged ground.lines ground.stays left
+  pub before : HasBefore ground.lines place left
+  pub stand : HasFlagged ground.lines stands left
+  pub derived : DerivesAll order (line ∷ left) ground.lines
+
+-- what is left are those of the lines of the ground that stand, among them those that stay and all before a place, and it derives all;
+-- of the line at the place this says that it stays where it is known
+pub record IsGroundAt (order : Below) (fate : Fate) (left : List Line) (stands : List Bool) (place : ℕ) (ground : Grounded) : Type 0 where
+  pub stand : AreWitnessed ground.lines left stands (place + 1)
+  pub staying : (i : ℕ) → slice_index_or ground.stays i false ≡ true → slice_index_or stands i false ≡ true
+  pub known : slice_index_or ground.stays place false ≡ true → fate ≡ Stays
+  pub made : IsInnerFor order left (record { lines = ground.lines; named = named_by ground.lines [] })
+
+-- the ground of lines, of which those that stay are known to
+pub record IsOwnGround (lines : List Line) (fates : List Fate) (ground : Grounded) : Type 0 where
+  pub own : ground.lines ≡ lines
+  pub staying : (i : ℕ) → slice_index_or ground.stays i false ≡ true → fate_at fates i ≡ Stays
 
 -- the variables of lower bounds at or above a constant
 pub record AreAbove (order : Below) (lines : List Line) (k : ℕ) (variables : List Dtv) : Type 0 where

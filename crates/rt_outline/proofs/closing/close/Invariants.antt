@@ -4,7 +4,7 @@ use Rattle.rt_outline.proofs.closing.close.Given as goal
 
 abbrev pub invariant-loop-round : goal.invariant-loop-round
 invariant-loop-round l = record {
-  frame : IsFrame l.frame.origins.items l.frame.steps.entries l.frame.arcs.items l.frame.back.items;
+  frame : IsFrame l.frame.origins.items l.frame.steps l.frame.arcs.items l.frame.back.items;
   origins : l.frame.origins.items ≡ l.fn.frame.origins.items;
   more : IsPushedMore l.fn.frame.origins.items l.stands l.fn.frame.arcs.items l.frame.arcs.items;
 }

@@ -22,12 +22,12 @@ loop-node-preserved c = record {
       (subst (λ os. IsPushedMore os c.args.stands.now c.loop-node.frame.arcs.items c.push_node.new.frame.arcs.items) c.loop-node.invariant.origins c.in_ok-push_node.ensures.more);
   done = λ e. (elim c.if-branch.branch [
     | then-branch w ↦ absurd (let f = w.added-is in cc)
-    | else-branch w ↦ pass_next c.args.frame.now.origins.items c.loop-node.frame.origins.items c.args.frame.now.steps.entries c.loop-node.frame.steps.entries c.args.frame.now.arcs.items c.loop-node.frame.arcs.items c.push_node.new.frame.arcs.items c.args.stands.now c.loop-node.node
+    | else-branch w ↦ pass_next c.args.frame.now.origins.items c.loop-node.frame.origins.items c.args.frame.now.steps c.loop-node.frame.steps c.args.frame.now.arcs.items c.loop-node.frame.arcs.items c.push_node.new.frame.arcs.items c.args.stands.now c.loop-node.node
         c.loop-node.invariant.origins c.loop-node.invariant.steps (c.loop-node.invariant.done (sym w.added-is ∙ e)) (c.in_ok-push_node.ensures.done w.if-branch.false)
   ]);
 }
 
 pub returns-clause-closed : goal.returns-clause-closed
 returns-clause-closed c = λ e. (let h : length c.args.frame.now.origins.items ≤ c.loop-node.node = omega arith in
-    pass_whole c.args.frame.now.origins.items c.loop-node.frame.origins.items c.args.frame.now.steps.entries c.loop-node.frame.steps.entries c.args.frame.now.arcs.items c.loop-node.frame.arcs.items c.loop-node.frame.back.items c.args.stands.now c.loop-node.node
+    pass_whole c.args.frame.now.origins.items c.loop-node.frame.origins.items c.args.frame.now.steps c.loop-node.frame.steps c.args.frame.now.arcs.items c.loop-node.frame.arcs.items c.loop-node.frame.back.items c.args.stands.now c.loop-node.node
     c.loop-node.invariant.origins c.loop-node.invariant.steps h c.loop-node.invariant.frame (c.loop-node.invariant.done e))

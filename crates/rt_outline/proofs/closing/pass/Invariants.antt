@@ -5,9 +5,9 @@ use Rattle.rt_outline.proofs.closing.pass.Given as goal
 
 abbrev pub invariant-loop-node : goal.invariant-loop-node
 invariant-loop-node l = record {
-  frame : IsFrame l.frame.origins.items l.frame.steps.entries l.frame.arcs.items l.frame.back.items;
+  frame : IsFrame l.frame.origins.items l.frame.steps l.frame.arcs.items l.frame.back.items;
   origins : l.frame.origins.items ≡ l.fn.frame.origins.items;
-  steps : l.frame.steps.entries ≡ l.fn.frame.steps.entries;
+  steps : l.frame.steps ≡ l.fn.frame.steps;
   more : IsPushedMore l.fn.frame.origins.items l.stands l.fn.frame.arcs.items l.frame.arcs.items;
-  done : l.added ≡ false → (l.frame.arcs.items ≡ l.fn.frame.arcs.items) × ((v : ℕ) → v < l.node → IsDoneAt l.fn.frame.origins.items l.fn.frame.steps.entries l.fn.frame.arcs.items l.stands v);
+  done : l.added ≡ false → (l.frame.arcs.items ≡ l.fn.frame.arcs.items) × ((v : ℕ) → v < l.node → IsDoneAt l.fn.frame.origins.items l.fn.frame.steps l.fn.frame.arcs.items l.stands v);
 }

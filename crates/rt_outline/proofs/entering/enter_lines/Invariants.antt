@@ -5,7 +5,7 @@ use Rattle.rt_outline.proofs.entering.enter_lines.Given as goal
 
 abbrev pub invariant-loop-i : goal.invariant-loop-i
 invariant-loop-i l = record {
-  frame : IsFrame l.frame.origins.items l.frame.steps.entries l.frame.arcs.items l.frame.back.items;
+  frame : IsFrame l.frame.origins.items l.frame.steps l.frame.arcs.items l.frame.back.items;
   origins : l.frame.origins.items ≡ l.fn.frame.origins.items;
   arcs : AreLineArcs l.lines l.i l.named l.frame.arcs.items;
   kept : AreKept l.fn.frame.arcs.items l.frame.arcs.items;

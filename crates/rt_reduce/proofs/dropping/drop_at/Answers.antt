@@ -9,6 +9,7 @@ use Rattle.rt_outline.specs.Lines.{standing}
 use Rattle.rt_reduce.specs.Inside.Deciding.{IsInnerFor, IsOuterFor, IsWaysFor, Tells}
 use Rattle.rt_witness.specs.Witnesses.{IsLeft}
 use Rattle.rt_reduce.proofs.Flags.{left_gone, outer_for, standing_gone}
+use Rattle.rt_reduce.proofs.Grounded.{grounds}
 use Rattle.rt_reduce.proofs.Made.{inner_out, ways_out}
 use Rattle.rt_reduce.proofs.Places.{All-removed}
 use Rattle.rt_reduce.proofs.dropping.drop_at.Goals as goal
@@ -71,6 +72,8 @@ returns-in-No-clause-decides c = λ l e.
     (IfSome_then c.args.outer c.requires.standing (λ t at.
     subst (λ (fs : List Bool). remove left c.args.place ≡ standing t.now.lines fs) (sym c.deref.ensures.value)
     (standing_gone left stands c.args.place t.now at).left_are))
+    (grounds left stands c.args.place c.index.result.now c.args.order.now c.args.ground c.deref.result.now c.deref.ensures.value
+    c.requires.within c.index.ensures c.requires.ground)
     lines is flags
     in
     let same : l ≡ c.index.result.now =
@@ -92,6 +95,8 @@ returns-in-Yes-clause-decides c = λ l e.
     (IfSome_then c.args.outer c.requires.standing (λ t at.
     subst (λ (fs : List Bool). remove left c.args.place ≡ standing t.now.lines fs) (sym c.deref.ensures.value)
     (standing_gone left stands c.args.place t.now at).left_are))
+    (grounds left stands c.args.place c.index.result.now c.args.order.now c.args.ground c.deref.result.now c.deref.ensures.value
+    c.requires.within c.index.ensures c.requires.ground)
     lines is flags
     in
     let same : l ≡ c.index.result.now =

@@ -1,12 +1,14 @@
-use Rattle.std.proofs.Common.{◌≡◌, ◌+◌, ◌<◌, List, length, inl, inr, refl, rules, sym, subst, ◌∙◌, arith}
+use Rattle.std.proofs.Common.{◌≡◌, ◌+◌, ◌<◌, List, Bool, length, inl, inr, refl, rules, sym, subst, ◌∙◌, arith}
 use Rattle.std.specs.List.{remove, remove_range}
 use Rattle.std.proofs.lemmas.List.{get_or_default}
-use Rattle.std.proofs.lemmas.Option.{slice_get_read}
+use Rattle.std.proofs.lemmas.Option.{slice_get_read, IfSome_then}
 use Rattle.rt_lines.specs.declared.line.Line.{Line}
 use Rattle.rt_rules.specs.Rules.{Derivable}
-use Rattle.rt_sure.specs.declared.fate.Fate.TheVariants.{Goes, Stays}
+use Rattle.rt_sure.specs.declared.fate.Fate.TheVariants.{Goes, Open, Stays}
+use Rattle.rt_reduce.specs.Inside.Deciding.{IsGroundAt}
 use Rattle.rt_reduce.specs.Inside.Dropping.{Decides, IsToldAt}
 use Rattle.rt_reduce.proofs.Flags.{left_gone, set_again}
+use Rattle.rt_reduce.proofs.Grounded.{ground_open}
 use Rattle.rt_reduce.proofs.Holes.{above_hole, before_hole, hole_wider, no_hole}
 use Rattle.rt_reduce.proofs.Told.{told_gone}
 use Rattle.rt_reduce.proofs.dropping.drop_before.Goals as goal
@@ -96,3 +98,15 @@ returns-clause-decides c =
     (sym (no_hole c.drop_at.new.left.items c.args.place))
     (subst (λ (ls : List Line). Decides c.args.order.now ls c.args.place c.drop_at.new.left.items)
     c.take_out-2.ensures c.in_ok-drop_at.ensures.decides)
+
+pub drop_at-requires-clause-ground : goal.drop_at-requires-clause-ground
+drop_at-requires-clause-ground c =
+    let order = c.args.order.now in
+    let place = c.args.place in
+    let stands = c.args.stands.now.items in
+    let left : List Line = remove_range c.args.left.now.items (place + 1) c.args.next in
+    let other : c.args.fate ≡ Stays → ⊥ = search rules in
+    IfSome_then c.args.ground c.requires.ground (λ g is.
+    subst (λ (fs : List Bool). IsGroundAt order Open c.take_out-2.new.left.items fs place g.now) (sym c.if-goes.ensures)
+    (subst (λ (ls : List Line). IsGroundAt order Open ls stands place g.now) (sym c.take_out-2.ensures)
+    (ground_open order c.args.fate left stands place g.now other is)))

@@ -10,6 +10,7 @@ use Rattle.rt_reduce.specs.Inside.Deciding.{AreStanding, AreWitnessed, IsInnerFo
 use Rattle.rt_reduce.specs.Inside.Dropping.{AreFated, AreLeft, Decides, IsKeptOrGone, IsMoved, IsToldAt}
 use Rattle.rt_reduce.proofs.Fated.{fated_here, fated_next, first_made, named_lines}
 use Rattle.rt_reduce.proofs.Flags.{first_standing, first_witnessed, moved_long, moved_standing}
+use Rattle.rt_reduce.proofs.Grounded.{ground_here}
 use Rattle.rt_reduce.proofs.Holes.{no_hole}
 use Rattle.rt_reduce.proofs.Made.{first_inner, first_ways, inner_stays, ways_stay}
 use Rattle.rt_reduce.proofs.Leaving.{AreLeft-all, AreLeft-next, AreLeft-none, left_below, left_long, left_stood}
@@ -101,6 +102,21 @@ drop_before-requires-clause-ways c =
     let e : place ≡ (place - 1) + 1 = omega arith in
     IfSome_then c.args.ways c.loop-place.invariant.ways
     (λ t are. subst (λ n. IsWaysFor c.args.order.now (remove_range c.loop-place.left.items n c.loop-place.next) t.now) e are)
+
+pub drop_before-requires-clause-ground : goal.drop_before-requires-clause-ground
+drop_before-requires-clause-ground c =
+    let place = c.loop-place.place in
+    let e : place ≡ (place - 1) + 1 = omega arith in
+    let order = c.args.order.now in
+    let lines = c.args.lines.now in
+    let left : ℕ → List Line = λ n. remove_range c.loop-place.left.items n c.loop-place.next in
+    let stands = c.loop-place.stands.items in
+    let fates = c.args.fates.now in
+    let inv = c.loop-place.invariant in
+    IfSome_then c.args.ground c.requires.ground (λ g own.
+    ground_here order lines (left ((place - 1) + 1)) stands (place - 1) fates g.now own inv.fated
+    (subst (λ n. AreWitnessed lines (left n) stands n) e inv.witnessed)
+    (subst (λ n. IsInnerFor order (left n) (named_lines lines)) e inv.made) c.fate_of.result c.fate_of.ensures)
 
 pub drop_before-requires-clause-told : goal.drop_before-requires-clause-told
 drop_before-requires-clause-told c =

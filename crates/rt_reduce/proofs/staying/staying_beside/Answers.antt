@@ -1,5 +1,5 @@
 use Rattle.std.proofs.Common.{◌≡◌, ◌+◌, [], ◌∷◌, length, length-append, ap, ◌∙◌, arith}
-use Rattle.rt_reduce.proofs.Settled.{all_settled, more_settled}
+use Rattle.rt_reduce.proofs.Settled.{all_settled, more_settled, still_staying}
 use Rattle.rt_reduce.proofs.staying.staying_beside.Goals as goal
 
 pub loop-i-preserved : goal.loop-i-preserved
@@ -14,11 +14,20 @@ loop-i-preserved c =
           c.loop-i.invariant.each c.loop-i-test.true c.in_ok-fate.ensures.fate c.loop-i.invariant.settled;
     }
 
-pub returns : goal.returns
-returns c =
+pub returns-clause-fated : goal.returns-clause-fated
+returns-clause-fated c =
     let lines = c.args.lines.now in
     let fates = c.args.fates.now in
     let now = c.loop-i.now.items in
     let all : c.loop-i.i ≡ length fates = omega arith in
     all_settled c.args.order.now lines fates now c.requires.each (c.loop-i.invariant.each ∙ all)
+    (λ j h. c.loop-i.invariant.settled j (omega (arith, h, all))) c.requires.fated
+
+pub returns-clause-kept : goal.returns-clause-kept
+returns-clause-kept c =
+    let lines = c.args.lines.now in
+    let fates = c.args.fates.now in
+    let now = c.loop-i.now.items in
+    let all : c.loop-i.i ≡ length fates = omega arith in
+    still_staying c.args.order.now lines fates now c.requires.each (c.loop-i.invariant.each ∙ all)
     (λ j h. c.loop-i.invariant.settled j (omega (arith, h, all))) c.requires.fated

@@ -18,8 +18,8 @@ found_at-requires-clause-ends c =
     let flips = c.args.frame.now.flips.items in
     let class = c.args.group.now.class in
     let members : c.items-members.result.now ≡ members_of c.args.family.now class = list_read c.args.family.now.members.items class c.items-members.result.now c.index.result.now c.requires.group.class c.items-members.ensures c.index.ensures in
-    let all : AreEnds known flips (members_of c.args.family.now class) c.loop-source.into c.deref.result.now = ends_kept known flips (members_of c.args.family.now class) c.items-members.result.now (length known) c.args.into.now c.loop-source.into c.in_ok-ends.ends.items c.deref.result.now
-    members c.deref.ensures.value c.loop-source.invariant.same c.requires.into c.loop-source.invariant.family c.in_ok-ends.ensures.ends in
+    let all : AreEnds known flips (members_of c.args.family.now class) c.loop-source.into c.deref-in-loop-source.result.now = ends_kept known flips (members_of c.args.family.now class) c.items-members.result.now (length known) c.args.into.now c.loop-source.into c.in_ok-ends.ends.items c.deref-in-loop-source.result.now
+    members c.deref-in-loop-source.ensures.value c.loop-source.invariant.same c.requires.into c.loop-source.invariant.family c.in_ok-ends.ensures.ends in
     let are : AreEnds known flips (members_of c.args.family.now class) c.loop-source.into c.deref-source-items.result.now = ends_kept known flips (members_of c.args.family.now class) c.items-members.result.now (length known) c.args.into.now c.loop-source.into c.in_ok-ends.ends.items c.deref-source-items.result.now
     members c.deref-source-items.ensures.value c.loop-source.invariant.same c.requires.into c.loop-source.invariant.family c.in_ok-ends.ensures.ends in
     let end = get_or c.deref-source-items.result.now c.loop-source.source-index no_end in
@@ -51,7 +51,7 @@ put-requires-clause-place c =
     at.home.place
 
 pub put-requires-clause-found : goal.put-requires-clause-found
-put-requires-clause-found c = λ s h. c.in_ok-found.ensures.inside s (subst (λ xs. Contains xs s) c.deref-in-loop-source.ensures.value h)
+put-requires-clause-found c = λ s h. c.in_ok-found.ensures.inside s (subst (λ xs. Contains xs s) c.deref-in-loop-source-3.ensures.value h)
 
 pub loop-source-preserved : goal.loop-source-preserved
 loop-source-preserved c =
@@ -63,16 +63,16 @@ loop-source-preserved c =
     members c.deref-source-items.ensures.value c.loop-source.invariant.same c.requires.into c.loop-source.invariant.family c.in_ok-ends.ensures.ends in
     let end = get_or c.deref-source-items.result.now c.loop-source.source-index no_end in
     let at : IsEnd known flips (members_of c.args.family.now class) c.loop-source.into end = are end (Contains-get_or c.deref-source-items.result.now c.loop-source.source-index no_end c.loop-source-test.true) in
-    let all : AreEnds known flips (members_of c.args.family.now class) c.loop-source.into c.deref.result.now = ends_kept known flips (members_of c.args.family.now class) c.items-members.result.now (length known) c.args.into.now c.loop-source.into c.in_ok-ends.ends.items c.deref.result.now
-    members c.deref.ensures.value c.loop-source.invariant.same c.requires.into c.loop-source.invariant.family c.in_ok-ends.ensures.ends in
-    let tied : (lines : List Edge) → AreTied known flips lines end c.deref.result.now = λ lines. (
+    let all : AreEnds known flips (members_of c.args.family.now class) c.loop-source.into c.deref-in-loop-source.result.now = ends_kept known flips (members_of c.args.family.now class) c.items-members.result.now (length known) c.args.into.now c.loop-source.into c.in_ok-ends.ends.items c.deref-in-loop-source.result.now
+    members c.deref-in-loop-source.ensures.value c.loop-source.invariant.same c.requires.into c.loop-source.invariant.family c.in_ok-ends.ensures.ends in
+    let tied : (lines : List Edge) → AreTied known flips lines end c.deref-in-loop-source.result.now = λ lines. (
       c.in_ok-ends.ensures.before lines (λ at s h. absurd (Contains-none s h)) end
           (subst (λ xs. Contains xs end) c.deref-source-items.ensures.value (Contains-get_or c.deref-source-items.result.now c.loop-source.source-index no_end c.loop-source-test.true)),
-      subst (AreTargets known flips lines) (sym c.deref.ensures.value) (c.in_ok-ends.ensures.behind lines (λ at s h. absurd (Contains-none s h))),
+      subst (AreTargets known flips lines) (sym c.deref-in-loop-source.ensures.value) (c.in_ok-ends.ensures.behind lines (λ at s h. absurd (Contains-none s h))),
     ) in
     record {
       same = c.in_ok-put.ensures.same ∙ c.loop-source.invariant.same;
       family = c.in_ok-put.ensures.family (length known) c.loop-source.invariant.family;
       told = λ lines own before. c.in_ok-put.ensures.told known flips lines end.stand at.home
-          (λ s h. c.in_ok-found.ensures.told known flips lines (at, all) (tied lines) own s (subst (λ xs. Contains xs s) c.deref-in-loop-source.ensures.value h)) (c.loop-source.invariant.told lines own before);
+          (λ s h. c.in_ok-found.ensures.told known flips lines (at, all) (tied lines) own s (subst (λ xs. Contains xs s) c.deref-in-loop-source-3.ensures.value h)) (c.loop-source.invariant.told lines own before);
     }

@@ -1,7 +1,7 @@
 use Rattle.std.proofs.Common.{◌≡◌, length, ap, sym, subst, ◌∙◌, arith}
 use Rattle.rt_sure.specs.declared.fate.Fate.TheVariants.{Goes, Open}
 use Rattle.rt_sure.specs.Fates.{fate_at}
-use Rattle.rt_sure.proofs.Fated.{DoStayTo, more_long, more_same, none_more, whole_same}
+use Rattle.rt_sure.proofs.Fating.{DoStayTo, more_long, more_same, none_more, whole_same}
 use Rattle.rt_sure.proofs.fate.known.Goals as goal
 
 pub loop-i-init : goal.loop-i-init

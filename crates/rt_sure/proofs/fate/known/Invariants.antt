@@ -1,7 +1,7 @@
 use Rattle.std.proofs.Common.{◌≡◌, ℕ, length}
 use Rattle.rt_sure.specs.declared.fate.Fate.TheVariants.{Goes}
 use Rattle.rt_sure.specs.Fates.{fate_at}
-use Rattle.rt_sure.proofs.Fated.{DoStayTo}
+use Rattle.rt_sure.proofs.Fating.{DoStayTo}
 use Rattle.rt_sure.proofs.fate.known.Given as goal
 
 abbrev pub invariant-loop-i : goal.invariant-loop-i

@@ -12,4 +12,4 @@ returns c = λ found order lines x y tells lower upper.
     let flips = c.args.self.now.frame.flips.items in
     told_below order lines c.args.self.now tells x y c.args.lower c.args.upper lower upper
     (subst (λ (s : State). IsTold known flips tells.edges s (place c.args.upper) 0) c.forth.ensures
-    (subst (λ (s : State). IsTold known flips tells.edges c.forth.result s 0) c.forth-2.ensures (c.has_way.ensures found tells.edges tells.told)))
+    (subst (λ (s : State). IsTold known flips tells.edges c.forth.result s 0) c.forth-2.ensures (c.has_way.ensures found known flips tells.edges tells.told)))

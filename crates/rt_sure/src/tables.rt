@@ -1,0 +1,47 @@
+// What lines say of some variables, in tables of bytes.
+ghost use Rattle.std.specs.Prelude.{List, IfOk, OnOk};
+ghost use Rattle.rt_lines.specs.declared.line.Line.{Line as Given};
+ghost use Rattle.rt_sat.specs.Tables.{AreThere};
+ghost use Rattle.rt_shape.specs.Shapes.{IsShapeOf};
+ghost use Rattle.rt_sure.specs.Grounds.{IsTableOf};
+
+use crate::shortening::shortened;
+use rt_base::Memory;
+use rt_lines::{Dtv, Line};
+use rt_sat::GrowingTable;
+use rt_shape::Shape;
+use std::alloc::Global;
+
+/// What lines say, with a place for those of some variables that exist: a table of the bases that `<=` lines and these variables
+/// name. Nothing is promised of how much it finds. The error is out of memory.
+pub fn table_of(alloc: Global, lines: &[Line], sides: &[Dtv]) -> Result<GrowingTable, Memory>
+    ensures { IfOk result (IsTableOf lines.now) }
+{
+    let short = shortened(alloc, lines, sides)?;
+    let shape = rt_shape::of(alloc, &short)?;
+    let extra = existing(alloc, &shape, sides)?;
+    let growing = GrowingTable::of(alloc, &short, &shape, &extra)?;
+    Ok(growing)
+}
+
+// Those of the variables that exist by the lines of a shape.
+fn existing(alloc: Global, shape: &Shape, sides: &[Dtv]) -> Result<Vec<Dtv>, Memory>
+    ensures { IfOk result (λ existing. (lines : List Given) → IsShapeOf lines shape.now → AreThere lines existing.items) }
+{
+    let mut existing = Vec::new(alloc);
+    for x in sides {
+        add_existing(shape, &mut existing, x)?;
+    }
+    Ok(existing)
+}
+
+// Adds the variable, if it exists.
+fn add_existing(shape: &Shape, existing: &mut Vec<Dtv>, x: &Dtv) -> Result<(), Memory>
+    ensures { OnOk result ((lines : List Given) → IsShapeOf lines shape.now → AreThere lines existing.old.items →
+        AreThere lines existing.new.items) }
+{
+    if shape.node(x).is_some() {
+        existing.push(x.copy()?)?;
+    }
+    Ok(())
+}
