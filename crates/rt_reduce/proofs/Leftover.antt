@@ -98,7 +98,7 @@ none_more found lines i l less is none out (k, c, h) = by (more_cases lines i l 
     by (inr e) = out (subst (HasMissing found) (sym e) h)
 
 -- whether simplifying changes anything
-lines_decide : (a b : Line) → Decides (line_eq a b) (a ≡ b)
+pub lines_decide : (a b : Line) → Decides (line_eq a b) (a ≡ b)
 lines_decide a b = (line_equal a b, λ e. subst (λ m. line_eq a m ≡ true) e (line_self a))
 
 pub simplified_or : (same : Bool) (left lines : List Line) → same ≡ pointwise line_eq left lines → Simplifies left lines

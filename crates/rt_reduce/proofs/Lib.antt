@@ -28,3 +28,5 @@ pub mod Parted
 pub mod Grounded
 pub mod Apart
 pub mod Inners
+pub mod Handed
+pub mod Rejoined

@@ -7,3 +7,4 @@ pub mod Merging
 pub mod Compared
 pub mod Settling
 pub mod Parting
+pub mod Handing

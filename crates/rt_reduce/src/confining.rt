@@ -10,7 +10,7 @@ use std::alloc::Global;
 const FAR: u8 = 6;
 
 // Whether there is a flag at the index, and it is set.
-fn is_set(flags: &[bool], i: usize) -> bool
+pub(crate) fn is_set(flags: &[bool], i: usize) -> bool
     ensures { result ≡ slice_index_or flags.now i false }
 {
     match flags.get(i) {

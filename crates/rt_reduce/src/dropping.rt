@@ -9,13 +9,15 @@ ghost use Rattle.rt_reduction.specs.Emits.{is_flow as is_flow_line};
 ghost use Rattle.rt_witness.specs.Witnesses.{IsWitnesses};
 ghost use Rattle.rt_reduce.specs.Inside.Deciding.{AreStanding, AreWitnessed, IsGroundAt, IsInnerFor, IsLowerWith, IsOwnGround, IsOwnOuter};
 ghost use Rattle.rt_reduce.specs.Inside.Deciding.{IsWaysFor};
+ghost use Rattle.rt_reduce.specs.Inside.Handing.{AreNeeded};
 ghost use Rattle.rt_sure.specs.Fates.{fate_at};
 ghost use Rattle.rt_sure.specs.declared.fate.Fate.TheVariants.{Open as Unknown, Stays as Staying};
-ghost use Rattle.rt_reduce.specs.Inside.Dropping.{AreFated, AreTold, Decides, IsFatedAt, IsKeptOrGone, IsMoved, IsSpared, IsToldAt};
+ghost use Rattle.rt_reduce.specs.Inside.Dropping.{AreFated, AreLeft, AreStaying, AreTold, Decides, IsFatedAt, IsKeptOrGone, IsMoved, IsSpared, IsToldAt};
 
-use crate::confining::among;
+use crate::confining::{among, is_set};
 use crate::copying::copies;
 use crate::deciding::{is_derivable_open, is_spare, told};
+use crate::handing::handed;
 use crate::inner::Inner;
 use crate::parting::with_parted;
 use crate::staying::{staying, staying_beside};
@@ -44,11 +46,112 @@ pub fn drop_derivable(alloc: Global, lines: &[Line], order: &Order) -> Result<Li
     ensures drops { IfOk result (λ left. Drops order.now [] lines.now left) }
     ensures stood { IfOk result (λ left. (l : Given) → Contains left l → Contains lines.now l) }
 {
-    let told = rt_earlier::told(alloc, lines)?;
-    let outer = outer_of(alloc, lines)?;
-    let fated = fates_of(alloc, outer.as_ref(), lines, order)?;
-    let left = drop_fated(alloc, lines, outer.as_ref(), &told, &fated, order)?;
+    drop_known(alloc, lines, &[], order)
+}
+
+// The same, where lines that stood before are given, of which none follows from the others.
+pub(crate) fn drop_known(
+    alloc: Global,
+    lines: &[Line],
+    before: &[Line],
+    order: &Order,
+) -> Result<Lines, Memory>
+    requires needed { AreNeeded order.now before.now }
+    requires below { All (HasConstantsBelow order.now.count) before.now }
+    requires constants { All (HasConstantsBelow order.now.count) lines.now }
+    ensures drops { IfOk result (λ left. Drops order.now [] lines.now left) }
+    ensures stood { IfOk result (λ left. (l : Given) → Contains left l → Contains lines.now l) }
+{
+    let first = shape_place(lines);
+    let shaped = drop_shapes(alloc, lines, order, first)?;
+    let left = drop_flow(alloc, &shaped, before, order, first)?;
     Ok(Sequence::from_vec(left))
+}
+
+// Where the lines begin behind which there is no `<=` line and no bound.
+fn shape_place(lines: &[Line]) -> usize
+    ensures { result ≤ length lines.now }
+{
+    let mut place = lines.len();
+    while place > 0 && !is_flow(&lines[place - 1]) {
+        place -= 1;
+    }
+    place
+}
+
+// What is left when lines from a place on go.
+fn drop_shapes(
+    alloc: Global,
+    lines: &[Line],
+    order: &Order,
+    first: usize,
+) -> Result<Vec<Line>, Memory>
+    requires first { first ≤ length lines.now }
+    requires constants { All (HasConstantsBelow order.now.count) lines.now }
+    ensures left { IfOk result (λ left. AreLeft order.now lines.now first left.items) }
+    ensures stood { IfOk result (λ left. (l : Given) → Contains left.items l → Contains lines.now l) }
+{
+    let told = rt_earlier::told(alloc, lines)?;
+    let witnesses = Witnesses::of(alloc, lines)?;
+    let left = drop_from(
+        alloc,
+        lines,
+        None,
+        None,
+        None,
+        None,
+        &told,
+        &[],
+        &witnesses,
+        order,
+        first,
+    )?;
+    Ok(left)
+}
+
+// What is left when lines before a place go, where those from the place on stay.
+fn drop_flow(
+    alloc: Global,
+    lines: &[Line],
+    before: &[Line],
+    order: &Order,
+    first: usize,
+) -> Result<Vec<Line>, Memory>
+    requires left { (all : List Given) × AreLeft order.now all first lines.now }
+    requires needed { AreNeeded order.now before.now }
+    requires below { All (HasConstantsBelow order.now.count) before.now }
+    requires constants { All (HasConstantsBelow order.now.count) lines.now }
+    ensures drops { IfOk result (λ left. Drops order.now [] lines.now left.items) }
+    ensures stood { IfOk result (λ left. (l : Given) → Contains left.items l → Contains lines.now l) }
+{
+    let known = known(alloc, lines, before, order, first)?;
+    let told = vec![in alloc; false; lines.len()]?;
+    let outer = outer_of(alloc, lines, &known)?;
+    let fated = fates_of(alloc, outer.as_ref(), lines, &known, order)?;
+    let left = drop_fated(alloc, lines, outer.as_ref(), &told, &fated, order)?;
+    Ok(left)
+}
+
+// For each of the lines whether it is known to stay: those from a place on do, and those that lines say which stood before.
+fn known(
+    alloc: Global,
+    lines: &[Line],
+    before: &[Line],
+    order: &Order,
+    first: usize,
+) -> Result<Vec<bool>, Memory>
+    requires left { (all : List Given) × AreLeft order.now all first lines.now }
+    requires needed { AreNeeded order.now before.now }
+    requires below { All (HasConstantsBelow order.now.count) before.now }
+    requires constants { All (HasConstantsBelow order.now.count) lines.now }
+    ensures each { IfOk result (λ known. length known.items ≡ length lines.now) }
+    ensures staying { IfOk result (λ known. AreStaying order.now lines.now known.items) }
+{
+    let mut known = handed(alloc, lines, before, order)?;
+    for i in first..known.len() {
+        known[i] = true;
+    }
+    Ok(known)
 }
 
 // What is left when lines go, where arcs from outside of all lines may be given, and which of them follow from those before them
@@ -156,16 +259,19 @@ fn fates_of(
     alloc: Global,
     outer: Option<&Upper>,
     lines: &[Line],
+    known: &[bool],
     order: &Order,
 ) -> Result<Fated, Memory>
     requires outer { IfSome outer (λ t. IsOwnOuter lines.now t.now) }
+    requires each { length known.now ≡ length lines.now }
+    requires known { AreStaying order.now lines.now known.now }
     requires constants { All (HasConstantsBelow order.now.count) lines.now }
     ensures each { IfOk result (λ fated. length fated.fates.items ≡ length lines.now) }
     ensures fated { IfOk result (λ fated.
         AreFated order.now lines.now (replicate (length lines.now) true) fated.fates.items) }
     ensures ground { IfOk result (λ fated. IfSome fated.ground (IsOwnGround lines.now fated.fates.items)) }
 {
-    let near = staying(alloc, outer, lines, order)?;
+    let near = staying(alloc, outer, lines, known, order)?;
     let stays = with_parted(alloc, lines, &near)?;
     let among = among(alloc, outer, lines, &stays)?;
     let fated = rt_sure::fates(alloc, lines, &stays, &among)?;
@@ -312,7 +418,7 @@ fn drop_on(
 {
     let witnesses = Witnesses::of(alloc, lines)?;
     let left = drop_from(
-        alloc, lines, outer, inner, ways, ground, told, fates, &witnesses, order,
+        alloc, lines, outer, inner, ways, ground, told, fates, &witnesses, order, 0,
     )?;
     Ok(left)
 }
@@ -331,7 +437,9 @@ fn drop_from(
     fates: &[Fate],
     witnesses: &Witnesses,
     order: &Order,
+    first: usize,
 ) -> Result<Vec<Line>, Memory>
+    requires first { first ≤ length lines.now }
     requires outer { IfSome outer (λ t. IsOwnOuter lines.now t.now) }
     requires inner { IfSome inner (λ t. IsLowerWith lines.now [] t.now) }
     requires ways { IfSome ways (λ t. IsOwnOuter lines.now t.now) }
@@ -341,7 +449,7 @@ fn drop_from(
     requires fated { AreFated order.now lines.now (replicate (length lines.now) true) fates.now }
     requires witnesses { IsWitnesses lines.now witnesses.now }
     requires constants { All (HasConstantsBelow order.now.count) lines.now }
-    ensures drops { IfOk result (λ left. Drops order.now [] lines.now left.items) }
+    ensures left { IfOk result (λ left. AreLeft order.now lines.now first left.items) }
     ensures stood { IfOk result (λ left. (l : Given) → Contains left.items l → Contains lines.now l) }
 {
     let mut stands = vec![in alloc; true; lines.len()]?;
@@ -349,7 +457,7 @@ fn drop_from(
     let mut place = lines.len();
     // The lines from the place to this one went, and weren't taken out yet.
     let mut next = place;
-    while place > 0 {
+    while place > first {
         place -= 1;
         next = drop_before(
             alloc,
@@ -381,23 +489,21 @@ pub(crate) fn fate_of(fates: &[Fate], place: usize) -> Fate
     }
 }
 
-// Arcs from outside of the lines, if there is a `<=` line or a bound among them.
-fn outer_of(alloc: Global, lines: &[Line]) -> Result<Option<Upper>, Memory>
+// Arcs from outside of the lines, if there is a `<=` line or a bound among them that isn't known to stay.
+fn outer_of(alloc: Global, lines: &[Line], known: &[bool]) -> Result<Option<Upper>, Memory>
     ensures { IfOk result (λ outer. IfSome outer (IsOwnOuter lines.now)) }
 {
-    if !has_flow(lines) {
+    if !has_open_flow(lines, known) {
         return Ok(None);
     }
     let outer = Upper::of(alloc, lines, &[])?;
     Ok(Some(outer))
 }
 
-// Whether there is a `<=` line or a bound among the lines.
-fn has_flow(lines: &[Line]) -> bool
-    ensures { IsTrue result ↔ ((l : Given) × Contains lines.now l × IsTrue (is_flow_line l)) }
-{
-    for line in lines {
-        if is_flow(line) {
+// Whether there is a `<=` line or a bound among the lines that isn't flagged.
+fn has_open_flow(lines: &[Line], known: &[bool]) -> bool {
+    for i in 0..lines.len() {
+        if is_flow(&lines[i]) && !is_set(known, i) {
             return true;
         }
     }

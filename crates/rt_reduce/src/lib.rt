@@ -13,6 +13,7 @@ mod deciding;
 mod derivable;
 mod dropping;
 mod early;
+mod handing;
 mod inner;
 mod merging;
 mod opened;

@@ -6,7 +6,8 @@ ghost use Rattle.rt_reduction.specs.Emits.{AreOfScheme};
 ghost use Rattle.rt_reduction.specs.Rounds.{IsReducedForm, Reduces};
 ghost use Rattle.rt_reduce.specs.Rounds.{IsStart};
 
-use crate::rounds::round;
+use crate::copying::copies;
+use crate::rounds::round_after;
 use crate::settling::is_settled;
 use rt_base::Memory;
 use rt_lines::{Lines, Order};
@@ -47,9 +48,10 @@ fn go_round(alloc: Global, lines: Lines, order: &Order) -> Result<Lines, Memory>
     requires constants { All (HasConstantsBelow order.now.count) lines }
     ensures { IfOk result (λ form. Reduces order.now form (tidied lines)) }
 {
-    let mut now = round(alloc, lines, order)?;
+    let mut now = round_after(alloc, lines, &[], order)?;
     while !is_settled(alloc, now.items())? {
-        now = round(alloc, now, order)?;
+        let before = copies(alloc, now.items())?;
+        now = round_after(alloc, now, &before, order)?;
     }
     Ok(now)
 }

@@ -4,13 +4,14 @@ ghost use Rattle.rt_lines.specs.Lines.{HasConstantsBelow};
 ghost use Rattle.rt_polar.specs.Tidied.{tidied};
 ghost use Rattle.rt_reduction.specs.Emits.{AreOfScheme};
 ghost use Rattle.rt_reduction.specs.Rounds.{IsRound};
+ghost use Rattle.rt_reduce.specs.Inside.Handing.{AreNeeded};
 ghost use Rattle.rt_reduce.specs.Rounds.{IsBegun};
 
-use crate::dropping::drop_derivable;
+use crate::dropping::drop_known;
 use crate::merging::merge_equal;
 use rt_base::Memory;
 use rt_emit::emit_shape;
-use rt_lines::{Lines, Order};
+use rt_lines::{Line, Lines, Order};
 use rt_polar::tidy;
 use rt_simplify::prepare;
 use std::alloc::Global;
@@ -26,10 +27,30 @@ pub fn round(alloc: Global, lines: Lines, order: &Order) -> Result<Lines, Memory
     ensures scheme { IfOk result (λ after. AreOfScheme after) }
     ensures constants { IfOk result (λ after. All (HasConstantsBelow order.now.count) after) }
 {
+    round_after(alloc, lines, &[], order)
+}
+
+// The same, where lines that stood before are given, of which none follows from the others.
+pub(crate) fn round_after(
+    alloc: Global,
+    lines: Lines,
+    before: &[Line],
+    order: &Order,
+) -> Result<Lines, Memory>
+    requires scheme { AreOfScheme lines }
+    requires constants { All (HasConstantsBelow order.now.count) lines }
+    requires needed { AreNeeded order.now before.now }
+    requires below { All (HasConstantsBelow order.now.count) before.now }
+    ensures round { IfOk result (λ after. IsRound order.now (tidied lines) after) }
+    ensures begun { IfOk result (IsBegun (tidied lines)) }
+    ensures scheme { IfOk result (λ after. AreOfScheme after) }
+    ensures constants { IfOk result (λ after. All (HasConstantsBelow order.now.count) after) }
+    ensures needed { IfOk result (λ after. AreNeeded order.now after) }
+{
     let start = tidy(alloc, lines)?;
     let simple = prepare(alloc, start)?;
     let emitted = emit_shape(alloc, simple.items())?;
     let merged = merge_equal(alloc, emitted.items(), order)?;
-    let after = drop_derivable(alloc, merged.items(), order)?;
+    let after = drop_known(alloc, merged.items(), before, order)?;
     Ok(after)
 }

@@ -14,27 +14,30 @@ use rt_outline::{Led, Upper};
 use rt_sure::{Fate, Ways};
 use std::alloc::Global;
 
-// For each of the lines whether it stays, as far as arcs from outside of them say, if there are such: whether the others, however
-// many of them stand, don't derive it.
+// For each of the lines whether it stays, as far as it is known, or arcs from outside of them say, if there are such: whether the
+// others, however many of them stand, don't derive it.
 pub(crate) fn staying(
     alloc: Global,
     outer: Option<&Upper>,
     lines: &[Line],
+    known: &[bool],
     order: &Order,
 ) -> Result<Vec<bool>, Memory>
     requires outer { IfSome outer (λ t. IsOwnOuter lines.now t.now) }
+    requires long { length known.now ≡ length lines.now }
+    requires known { AreStaying order.now lines.now known.now }
     requires constants { All (HasConstantsBelow order.now.count) lines.now }
     ensures each { IfOk result (λ stays. length stays.items ≡ length lines.now) }
     ensures staying { IfOk result (λ stays. AreStaying order.now lines.now stays.items) }
 {
     let Some(outer) = outer else {
-        let none = vec![in alloc; false; lines.len()]?;
-        return Ok(none);
+        let known = known.to_vec(alloc)?;
+        return Ok(known);
     };
     let mut stands = vec![in alloc; true; lines.len()]?;
     let mut stays = Vec::with_capacity(alloc, lines.len())?;
     for i in 0..lines.len() {
-        let yes = is_staying(alloc, outer, lines, &mut stands, order, i)?;
+        let yes = known[i] || is_staying(alloc, outer, lines, &mut stands, order, i)?;
         stays.push(yes)?;
     }
     Ok(stays)

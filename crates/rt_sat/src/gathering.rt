@@ -20,7 +20,7 @@ use crate::family::{Family, Home, place};
 use crate::links::{Links, states_at};
 use crate::pushing::{Frame, flag, is_pointer, sign, turns};
 use crate::state::State;
-use crate::stepping::{Spot, gathered, spots};
+use crate::stepping::{Spots, gathered};
 use rt_base::{Memory, Sequence};
 use rt_grid::{Grid, NONE, Step};
 use rt_lines::Label;
@@ -344,7 +344,7 @@ fn push_ends(
         AreSources known flips lines sources.now → AreTargets known flips lines targets.now →
         IsToldFamily known flips lines family.old → IsToldFamily known flips lines family.new) }
 {
-    let spots = spots(alloc, targets)?;
+    let spots = Spots::of(alloc, targets)?;
     for source in sources {
         if family.grids[class].has_changed(source.place, since) {
             push_within(alloc, targets, &spots, source, family, class, next)?;
@@ -357,7 +357,7 @@ fn push_ends(
 fn push_within(
     alloc: Global,
     targets: &[End],
-    spots: &[Spot],
+    spots: &Spots,
     source: &End,
     family: &mut Family,
     class: usize,
@@ -412,7 +412,7 @@ pub(crate) fn push_apart(
 {
     let members = family.members[group.class].items();
     let ends = ends(alloc, frame, members, group.kids.items(), &[], &[], into)?;
-    let spots = spots(alloc, &ends)?;
+    let spots = Spots::of(alloc, &ends)?;
     for source in &ends {
         let found = found_at(alloc, &ends, &spots, source, family, group.class, into)?;
         put(alloc, into, source.home, &found, true)?;
@@ -425,7 +425,7 @@ pub(crate) fn push_apart(
 fn found_at(
     alloc: Global,
     targets: &[End],
-    spots: &[Spot],
+    spots: &Spots,
     source: &End,
     family: &Family,
     class: usize,

@@ -14,35 +14,130 @@ use rt_base::Memory;
 use rt_grid::{NONE, Step};
 use std::alloc::Global;
 
+// How many kinds of ends there are: by the sign of the state, and by whether the rest behind it turns the order round.
+const KINDS: usize = 4;
+
+// How many counts there are, that of no way among them.
+const COUNTS: usize = 256;
+
 // What is read of each end that is pushed to, apart from what is read of few of them. Effort alone rests on these.
 #[derive(Clone, Copy)]
-pub(crate) struct Spot {
+struct Spot {
     // The place of the parent's state in its class.
     place: usize,
     // Where the end stands in its class.
     index: usize,
-    // Whether the letter is that of a pointer.
-    pointer: bool,
+    // Which kind the end is of.
+    kind: u8,
 }
 
-// What is read of each of the ends.
-pub(crate) fn spots(alloc: Global, ends: &[End]) -> Result<Vec<Spot>, Memory> {
-    let mut spots = Vec::with_capacity(alloc, ends.len())?;
-    for end in ends {
-        spots.push(Spot {
-            place: end.place,
-            index: end.home.index,
-            pointer: end.pointer,
-        })?;
+// What is read of ends that are pushed to, and for two ends of pointers by their kinds what is pushed from each count. Effort alone
+// rests on these.
+#[derive(Drop)]
+pub(crate) struct Spots {
+    spots: Vec<Spot>,
+    halves: Vec<u8>,
+}
+
+impl Spots {
+    // Of some ends.
+    pub(crate) fn of(alloc: Global, ends: &[End]) -> Result<Spots, Memory> {
+        let mut spots = Vec::with_capacity(alloc, ends.len())?;
+        for end in ends {
+            spots.push(Spot {
+                place: end.place,
+                index: end.home.index,
+                kind: kind(end),
+            })?;
+        }
+        let mut halves = Vec::new(alloc);
+        if has_pointer(ends) {
+            push_halves(&mut halves)?;
+        }
+        Ok(Spots { spots, halves })
     }
-    Ok(spots)
+
+    // Whether nothing is pushed to the end at an index from a row: there is no way, or what is pushed is no less than what is
+    // known. What is pushed from each count to ends of each kind begins at a place.
+    fn is_idle(&self, row: &[u8], known: &[u8], from: u16, i: usize) -> bool {
+        let Some(spot) = self.spots.get(i) else {
+            return false;
+        };
+        let Some(way) = row.get(spot.place) else {
+            return false;
+        };
+        let Some(least) = known.get(spot.index) else {
+            return false;
+        };
+        let place = usize::from(from) + usize::from(spot.kind) * COUNTS + usize::from(*way);
+        match self.halves.get(place) {
+            Some(half) => *half >= *least,
+            None => *way >= *least,
+        }
+    }
+}
+
+// Which kind an end is of.
+fn kind(end: &End) -> u8
+    ensures { result < 4 }
+{
+    match (end.turned, end.child.contra) {
+        (false, false) => 0,
+        (false, true) => 1,
+        (true, false) => 2,
+        (true, true) => 3,
+    }
+}
+
+// Whether one of the ends is behind a letter of what can be read and written through.
+fn has_pointer(ends: &[End]) -> bool {
+    for end in ends {
+        if end.flip && end.pointer {
+            return true;
+        }
+    }
+    false
+}
+
+// Where what is pushed from an end begins among the halves, or behind them, if it isn't a half.
+fn begin(source: &End) -> u16
+    ensures { result ≤ 4096 }
+{
+    if source.flip && source.pointer {
+        u16::from(kind(source)) * 1024
+    } else {
+        4096
+    }
+}
+
+// Adds for each two kinds of ends of pointers what is pushed from each count.
+fn push_halves(halves: &mut Vec<u8>) -> Result<(), Memory> {
+    for first in 0..KINDS {
+        for second in 0..KINDS {
+            for count in 0..COUNTS {
+                halves.push(pushed_half(first, second, count as u8))?;
+            }
+        }
+    }
+    Ok(())
+}
+
+// What is pushed from a count between ends of two kinds.
+fn pushed_half(first: usize, second: usize, count: u8) -> u8 {
+    if count == NONE {
+        return NONE;
+    }
+    let differ = first % 2 != second % 2;
+    let half = half(count, first >= 2, second >= 2, differ);
+    let is_same = (first == 0 || first == 3) == (second == 0 || second == 3);
+    if is_same && count < half { count } else { half }
 }
 
 // The steps that are pushed from the row of an end's parent to others, as far as they are less than what is known.
 pub(crate) fn gathered(
     alloc: Global,
     targets: &[End],
-    spots: &[Spot],
+    spots: &Spots,
     row: &[u8],
     source: &End,
     known: &[u8],
@@ -55,9 +150,11 @@ pub(crate) fn gathered(
         IsToldRow known flips lines source.now.parent members row.now →
         AreToldSteps known flips lines source.now.stand into source.now.home.class found.items) }
 {
+    let from = begin(source);
     let mut found = Vec::new(alloc);
     for i in 0..targets.len() {
-        if let Some(step) = pushed_step(row, source, &targets[i], spots.get(i), known) {
+        let idle = spots.is_idle(row, known, from, i);
+        if let Some(step) = pushed_step(row, source, &targets[i], idle, known) {
             found.push(step)?;
         }
     }
@@ -65,13 +162,7 @@ pub(crate) fn gathered(
 }
 
 // The step that is pushed from the count of ways between the parents of ends, if it is less than what is known.
-fn pushed_step(
-    row: &[u8],
-    source: &End,
-    target: &End,
-    spot: Option<&Spot>,
-    known: &[u8],
-) -> Option<Step>
+fn pushed_step(row: &[u8], source: &End, target: &End, idle: bool, known: &[u8]) -> Option<Step>
     requires { IsInRows row.now source.now.home.class known.now target.now }
     ensures inside { IfSome result (λ s. s.to < length known.now) }
     ensures told { IfSome result (λ s. (known : List Variable) (flips : List Bool) (lines : List Arrow) (members : List ℕ)
@@ -81,7 +172,7 @@ fn pushed_step(
         IsToldRow known flips lines source.now.parent members row.now →
         IsTold known flips lines source.now.stand (state_at (members_of into source.now.home.class) s.to) s.count) }
 {
-    if is_idle(row, source, spot, known) {
+    if idle {
         return None;
     }
     let way = row[target.place];
@@ -90,9 +181,6 @@ fn pushed_step(
     }
     let least = known[target.home.index];
     if least == 0 {
-        return None;
-    }
-    if is_spare(source, target, way, least) {
         return None;
     }
     let count = between(
@@ -110,31 +198,4 @@ fn pushed_step(
         to: target.home.index,
         count,
     })
-}
-
-// Whether nothing is pushed to an end, as far as what is read of it tells: there is no way, or none that is less than what is known.
-// Effort alone rests on it.
-fn is_idle(row: &[u8], source: &End, spot: Option<&Spot>, known: &[u8]) -> bool {
-    let Some(spot) = spot else {
-        return false;
-    };
-    let Some(way) = row.get(spot.place) else {
-        return false;
-    };
-    let Some(least) = known.get(spot.index) else {
-        return false;
-    };
-    *way == NONE || (*way >= *least && !(source.flip && source.pointer && spot.pointer))
-}
-
-// Whether what is pushed from a count between the parents of ends is no less than what is known, as flags tell soon. Effort alone
-// rests on it.
-fn is_spare(source: &End, target: &End, way: u8, least: u8) -> bool
-    requires { way < 255 }
-{
-    if way >= least && !(source.flip && source.pointer && target.pointer) {
-        return true;
-    }
-    let differ = source.child.contra != target.child.contra;
-    way >= least && half(way, source.turned, target.turned, differ) >= least
 }

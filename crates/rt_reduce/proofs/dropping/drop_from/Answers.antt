@@ -13,7 +13,7 @@ use Rattle.rt_reduce.proofs.Flags.{first_standing, first_witnessed, moved_long, 
 use Rattle.rt_reduce.proofs.Grounded.{ground_here}
 use Rattle.rt_reduce.proofs.Holes.{no_hole}
 use Rattle.rt_reduce.proofs.Made.{first_inner, first_ways, inner_stays, ways_stay}
-use Rattle.rt_reduce.proofs.Leaving.{AreLeft-all, AreLeft-next, AreLeft-none, left_below, left_long, left_stood}
+use Rattle.rt_reduce.proofs.Leaving.{AreLeft-all, AreLeft-next, left_below, left_long, left_stood}
 use Rattle.rt_reduce.proofs.Told.{told_left}
 use Rattle.rt_reduce.proofs.dropping.drop_from.Goals as goal
 
@@ -30,6 +30,7 @@ loop-place-init c =
     let k : length stands ≡ from = ap length s ∙ length-replicate from true in
     let within : from ≤ length lines = omega arith in
     record {
+      first = c.requires.first;
       from = omega arith;
       to = omega (arith, ap length c.in_ok-left.ensures);
       within = omega (arith, ap length e);
@@ -160,6 +161,7 @@ loop-place-preserved c =
     let n : length flags ≡ length stands = moved_long left now stands flags (place - 1) moved in
     let fates = c.args.fates.now in
     record {
+      first = omega arith;
       from = c.in_ok-next.ensures.within.0;
       to = c.in_ok-next.ensures.within.1;
       within = left_long left now (place - 1) (omega (arith, next, inv.within)) kept;
@@ -186,13 +188,15 @@ loop-place-preserved c =
 pub take_out-requires : goal.take_out-requires
 take_out-requires c = (c.loop-place.invariant.from, c.loop-place.invariant.to)
 
-pub returns-clause-drops : goal.returns-clause-drops
-returns-clause-drops c =
+pub returns-clause-left : goal.returns-clause-left
+returns-clause-left c =
     let order = c.args.order.now in
     let lines = c.args.lines.now in
-    let none : c.loop-place.place ≡ 0 = omega arith in
-    AreLeft-none order lines c.take_out.new.left.items c.loop-place.place none
-    (subst (AreLeft order lines c.loop-place.place) (sym c.take_out.ensures) c.loop-place.invariant.are_left)
+    let left : List Line = c.take_out.new.left.items in
+    let inv = c.loop-place.invariant in
+    let end : c.loop-place.place ≡ c.args.first = omega (arith, inv.first) in
+    subst (λ n. AreLeft order lines n left) end
+    (subst (AreLeft order lines c.loop-place.place) (sym c.take_out.ensures) inv.are_left)
 
 pub returns-clause-stood : goal.returns-clause-stood
 returns-clause-stood c = λ l h.

@@ -10,6 +10,7 @@ use Rattle.rt_reduce.proofs.dropping.drop_from.Given as goal
 
 abbrev pub invariant-loop-place : goal.invariant-loop-place
 invariant-loop-place l = record {
+  first : l.first ≤ l.place;
   from : l.place ≤ l.next;
   to : l.next ≤ length l.left.items;
   within : l.place ≤ length (remove_range l.left.items l.place l.next);

@@ -10,6 +10,7 @@ loop-now-init c = record {
   scheme = c.in_ok-now.ensures.scheme;
   constants = c.in_ok-now.ensures.constants;
   between = first_round c.args.order.now c.args.lines c.in_ok-now.now c.in_ok-now.ensures.round;
+  needed = c.in_ok-now.ensures.needed;
 }
 
 pub is_settled-requires : goal.is_settled-requires
@@ -35,6 +36,7 @@ loop-now-preserved c =
       constants = c.in_ok-now-2.ensures.constants;
       between = next_round c.args.order.now c.args.lines now c.in_ok-now-2.now c.loop-now.invariant.between
           c.in_ok-now-2.ensures.round left;
+      needed = c.in_ok-now-2.ensures.needed;
     }
 
 pub returns : goal.returns

@@ -51,7 +51,7 @@ put-requires-clause-place c =
     at.home.place
 
 pub put-requires-clause-found : goal.put-requires-clause-found
-put-requires-clause-found c = λ s h. c.in_ok-found.ensures.inside s (subst (λ xs. Contains xs s) c.deref-in-loop-source-3.ensures.value h)
+put-requires-clause-found c = λ s h. c.in_ok-found.ensures.inside s (subst (λ xs. Contains xs s) c.deref-in-loop-source-2.ensures.value h)
 
 pub loop-source-preserved : goal.loop-source-preserved
 loop-source-preserved c =
@@ -74,5 +74,5 @@ loop-source-preserved c =
       same = c.in_ok-put.ensures.same ∙ c.loop-source.invariant.same;
       family = c.in_ok-put.ensures.family (length known) c.loop-source.invariant.family;
       told = λ lines own before. c.in_ok-put.ensures.told known flips lines end.stand at.home
-          (λ s h. c.in_ok-found.ensures.told known flips lines (at, all) (tied lines) own s (subst (λ xs. Contains xs s) c.deref-in-loop-source-3.ensures.value h)) (c.loop-source.invariant.told lines own before);
+          (λ s h. c.in_ok-found.ensures.told known flips lines (at, all) (tied lines) own s (subst (λ xs. Contains xs s) c.deref-in-loop-source-2.ensures.value h)) (c.loop-source.invariant.told lines own before);
     }

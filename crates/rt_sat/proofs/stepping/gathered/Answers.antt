@@ -27,3 +27,6 @@ loop-i-preserved c =
             subst (λ found. AreToldSteps known flips lines source.stand into source.home.class found.items) (sym w.found-is) (c.loop-i.invariant.told known flips lines members into are tied row);
       }
     ]
+
+pub pushed_step-requires : goal.pushed_step-requires
+pushed_step-requires c = c.requires (get_or c.args.targets.now c.loop-i.i no_end) (Contains-get_or c.args.targets.now c.loop-i.i no_end c.loop-i-test.true)

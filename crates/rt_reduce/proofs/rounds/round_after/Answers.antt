@@ -7,10 +7,11 @@ use Rattle.rt_reduction.specs.Drops.{Drops}
 use Rattle.rt_reduction.specs.Emits.{AreOfScheme, IsEmitted}
 use Rattle.rt_reduction.specs.Merges.{Merges}
 use Rattle.rt_reduction.specs.Rounds.{Prepares}
+use Rattle.rt_reduction.proofs.Dropping.{none_to_spare_lem}
 use Rattle.rt_reduction.proofs.Emitting.{emits_of_scheme_lem}
 use Rattle.rt_simplify.proofs.Staying.{tidied_twice_lem}
 use Rattle.rt_reduce.proofs.Keeping.{emitted_below, fewer_below, fewer_named, fewer_scheme, prepared_below, prepared_scheme}
-use Rattle.rt_reduce.proofs.rounds.round.Goals as goal
+use Rattle.rt_reduce.proofs.rounds.round_after.Goals as goal
 
 pub emit_shape-requires : goal.emit_shape-requires
 emit_shape-requires c = record {
@@ -70,3 +71,7 @@ returns-clause-constants c =
     let count = c.args.order.now.count in
     fewer_below count c.items-3.result.now c.in_ok-after.after c.in_ok-after.ensures.stood
     (subst (All (HasConstantsBelow count)) (sym c.items-3.ensures) c.in_ok-merged.ensures.constants)
+
+pub returns-clause-needed : goal.returns-clause-needed
+returns-clause-needed c = λ before after l e.
+    none_to_spare_lem c.args.order.now c.items-3.result.now c.in_ok-after.after c.in_ok-after.ensures.drops before after l e

@@ -1,0 +1,30 @@
+use Rattle.std.proofs.Common.{[], List, Contains, sym, subst}
+use Rattle.std.proofs.lemmas.List.Elements.{All-contains}
+use Rattle.rt_base.proofs.Lists.{All-from_contains}
+use Rattle.rt_lines.specs.declared.line.Line.{Line}
+use Rattle.rt_lines.specs.Lines.{HasConstantsBelow}
+use Rattle.rt_reduction.specs.Drops.{Drops}
+use Rattle.rt_reduce.proofs.Rejoined.{rejoined}
+use Rattle.rt_reduce.proofs.dropping.drop_known.Goals as goal
+
+pub drop_flow-requires-clause-constants : goal.drop_flow-requires-clause-constants
+drop_flow-requires-clause-constants c =
+    let few = HasConstantsBelow c.args.order.now.count in
+    All-from_contains few c.deref.result.now (λ l h.
+    All-contains few c.args.lines.now l c.requires.constants
+    (c.in_ok-shaped.ensures.stood l (subst (λ (ls : List Line). Contains ls l) c.deref.ensures.value h)))
+
+pub returns-clause-drops : goal.returns-clause-drops
+returns-clause-drops c =
+    let order = c.args.order.now in
+    let lines = c.args.lines.now in
+    let left = c.in_ok-left.left.items in
+    subst (Drops order [] lines) (sym c.from_vec.ensures)
+    (rejoined order lines c.in_ok-shaped.shaped.items left c.shape_place-first.result c.in_ok-shaped.ensures.left
+    (subst (λ (ls : List Line). Drops order [] ls left) c.deref.ensures.value c.in_ok-left.ensures.drops))
+
+pub returns-clause-stood : goal.returns-clause-stood
+returns-clause-stood c = λ l h.
+    let there : Contains c.deref.result.now l =
+    c.in_ok-left.ensures.stood l (subst (λ (ls : List Line). Contains ls l) c.from_vec.ensures h) in
+    c.in_ok-shaped.ensures.stood l (subst (λ (ls : List Line). Contains ls l) c.deref.ensures.value there)
