@@ -9,9 +9,10 @@ use Rattle.rt_components.specs.Groups.{Reaches}
 use Rattle.rt_components.specs.Groups.Reaches.{there, onward}
 use Rattle.rt_outline.specs.declared.arc.Arc.{Arc}
 use Rattle.rt_outline.specs.Arcs.{Leads}
-use Rattle.rt_outline.specs.Frames.{Origins, IsMade, IsPushed, IsFrame, IsClosed, step_of}
+use Rattle.rt_outline.specs.Frames.{Origins, AreKept, IsMade, IsPushed, IsFrame, IsClosed, step_of}
 use Rattle.rt_outline.specs.Frames.IsPushed.{co, contra}
-use Rattle.rt_outline.specs.Inside.Sweeps.{IsSwept, IsDoneAt, IsEnd, end_of, toward, side_of}
+use Rattle.rt_outline.specs.Inside.Sweeps.{AreFollowed, IsNotedFrom, IsSwept, IsDoneAt, IsEnd, end_of, toward, side_of}
+use Rattle.rt_base.proofs.Lists.{Contains-none}
 use Rattle.rt_base.proofs.Numbers.{nat_same, nat_itself}
 use Rattle.rt_components.proofs.Reaching.{reaches_by}
 
@@ -124,3 +125,19 @@ end_pushed origins steps arcs back stands v p l w frame made (q, r, e) = by (lab
     by Contra f = contra f made (frame.only w q l e) (reaches_turn (λ a b. Leads arcs stands true b a)
         (reaches_by (Leads (side_of Contra arcs back) stands true) (λ a b. Leads arcs stands true b a) (λ a b. (side_toward origins steps arcs back stands frame Contra a b).0)
         (subst (λ t. Reaches (Leads (side_of t arcs back) stands true) p q) f r)))
+
+-- what was noted stays reached when arcs are added
+pub followed_kept : (reached : List (List ℕ)) (old new : List (List Arc)) → AreKept old new → AreFollowed reached old → AreFollowed reached new
+followed_kept reached old new kept f = λ v w c. reaches_by (Leads old [] true) (Leads new [] true) (λ a b e. (e.0, kept a b e.0 e.1, e.2)) (f v w c)
+
+-- what is noted of one node more
+pub followed_noted : (old new : List (List ℕ)) (arcs : List (List Arc)) (node : ℕ) (numbers : List ℕ) → IsNotedFrom node numbers old new →
+    ((w : ℕ) → Contains numbers w → Reaches (Leads arcs [] true) node w) → AreFollowed old arcs → AreFollowed new arcs
+followed_noted old new arcs node numbers noted is f = λ v w c. elim (noted v) [
+  | inl e ↦ f v w (subst (λ xs. Contains xs w) e c)
+  | inr e ↦ subst (λ u. Reaches (Leads arcs [] true) u w) (sym e.0) (is w (subst (λ xs. Contains xs w) e.1 c))
+]
+
+-- nothing is noted yet
+pub followed_none : (arcs : List (List Arc)) → AreFollowed [] arcs
+followed_none arcs = λ v w c. absurd (Contains-none w c)

@@ -8,7 +8,7 @@ ghost use Rattle.rt_rules.specs.Rules.{HasSide};
 ghost use Rattle.rt_outline.specs.declared.bounds.Bound.{Bound as Entry};
 ghost use Rattle.rt_outline.specs.Inside.Bounds.{AreBounds, AreBoundsAt, IsAtOrAbove, IsBoundEntered, upper_bound};
 
-use crate::spreading::is_open;
+use crate::spreading::is_standing;
 use rt_base::Memory;
 use rt_lines::{Line, Order};
 use rt_named::Named;
@@ -116,7 +116,7 @@ fn enter_above(
         AreBoundsAt (IsAtOrBelow order.now k) stands.now before numbers.old.items →
         AreBoundsAt (IsAtOrBelow order.now k) stands.now (before ++ bound ∷ []) numbers.new.items) }
 {
-    if !is_open(stands, false, Some(bound.line)) {
+    if !is_standing(stands, bound.line) {
         return Ok(());
     }
     if order.le(k, bound.constant) {
@@ -159,7 +159,7 @@ fn enter_below(
         AreBoundsAt (IsAtOrAbove order.now k) stands.now before numbers.old.items →
         AreBoundsAt (IsAtOrAbove order.now k) stands.now (before ++ bound ∷ []) numbers.new.items) }
 {
-    if !is_open(stands, false, Some(bound.line)) {
+    if !is_standing(stands, bound.line) {
         return Ok(());
     }
     if order.le(bound.constant, k) {

@@ -49,7 +49,7 @@ fn enter_line(named: &Named, lines: &[Line], frame: &mut Frame, i: usize) -> Res
             let from = named.number(x);
             let arc = Arc {
                 to: named.number(y),
-                line: Some(i),
+                line: Some(Arc::line_at(i)?),
             };
             frame.join(from, arc)?;
             Ok(())

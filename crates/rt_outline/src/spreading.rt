@@ -24,13 +24,13 @@ pub(crate) fn between(
     ensures no { IfOk result (λ led. led ≡ Never → MayLead (Leads arcs.now stands.now true) sources.now targets.now → ⊥) }
     ensures yes { IfOk result (λ led. led ≡ Always → AreLed (Leads arcs.now stands.now false) sources.now targets.now) }
 {
+    if !may_lead(alloc, arcs, stands, sources, targets)? {
+        return Ok(Led::No);
+    }
     if are_led(alloc, arcs, stands, sources, targets)? {
         return Ok(Led::Yes);
     }
-    if may_lead(alloc, arcs, stands, sources, targets)? {
-        return Ok(Led::Open);
-    }
-    Ok(Led::No)
+    Ok(Led::Open)
 }
 
 // Whether arcs, one or more, of lines that stand lead from one of the sources to one of the targets.
@@ -115,15 +115,22 @@ fn follow(stands: &[bool], pushed: bool, found: &mut Found, arc: Arc) -> Result<
 }
 
 // Whether an arc may be followed: one of a line that stands, or a pushed one.
-pub(crate) fn is_open(stands: &[bool], pushed: bool, line: Option<usize>) -> bool
+pub(crate) fn is_open(stands: &[bool], pushed: bool, line: Option<u32>) -> bool
     ensures { result ≡ allows stands.now pushed line }
 {
     match line {
-        Some(i) => match stands.get(i) {
-            Some(flag) => *flag,
-            None => false,
-        },
+        Some(i) => is_standing(stands, i as usize),
         None => pushed,
+    }
+}
+
+// Whether there is a flag at the index, and it is set.
+pub(crate) fn is_standing(stands: &[bool], i: usize) -> bool
+    ensures { result ≡ slice_index_or stands.now i false }
+{
+    match stands.get(i) {
+        Some(flag) => *flag,
+        None => false,
     }
 }
 

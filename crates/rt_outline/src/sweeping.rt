@@ -1,10 +1,10 @@
 // Searches for the nearest nodes behind a letter.
-ghost use Rattle.std.specs.Prelude.{◌≡◌, ℕ, [], true, Contains, Some, None, IfOk, OnOk};
+ghost use Rattle.std.specs.Prelude.{◌≡◌, ℕ, ◌<◌, [], true, length, slice_index_or, Contains, Some, None, IfOk, OnOk};
 ghost use Rattle.rt_lines.specs.Words.{label_variance};
 ghost use Rattle.rt_named.specs.Numbers.{IsLeft};
 ghost use Rattle.rt_outline.specs.Arcs.{Leads};
 ghost use Rattle.rt_outline.specs.Frames.{IsFrame, IsMade, IsPushed};
-ghost use Rattle.rt_outline.specs.Inside.Sweeps.{IsDoneAt, IsEnd, IsSwept, end_of, side_of};
+ghost use Rattle.rt_outline.specs.Inside.Sweeps.{AreFollowed, IsDoneAt, IsNotedFrom, IsEnd, IsSwept, end_of, side_of};
 
 use crate::arc::Arc;
 use crate::found::Found;
@@ -33,26 +33,72 @@ impl Room {
     }
 }
 
-// What a node that is made so is pushed to where no way of pushed arcs leads, the nearest alone.
+// What a node that is made so is pushed to where no way of pushed arcs leads, the nearest alone. Where a search ends as it did
+// when none was missing, none is missing now.
 pub(crate) fn ends(
     alloc: Global,
     frame: &Frame,
     stands: &[bool],
     room: &mut Room,
+    reached: &mut Vec<Sequence<u32>>,
     node: u32,
     origin: (u32, Label),
 ) -> Result<Vec<u32>, Memory>
     requires frame { IsFrame frame.now.origins.items frame.now.steps frame.now.arcs.items frame.now.back.items }
     requires made { IsMade frame.now.origins.items node origin.0 origin.1 }
+    requires followed { AreFollowed reached.old.items frame.now.arcs.items }
     ensures pushed { IfOk result (λ fresh. (w : ℕ) → Contains fresh.items w →
         IsPushed frame.now.origins.items (Leads frame.now.arcs.items stands.now true) node w) }
     ensures done { IfOk result (λ fresh. fresh.items ≡ [] →
         IsDoneAt frame.now.origins.items frame.now.steps frame.now.arcs.items stands.now node) }
+    ensures followed { OnOk result (AreFollowed reached.new.items frame.now.arcs.items) }
 {
     let arcs = side(frame, origin.1);
     sweep(frame, arcs, stands, origin, room)?;
+    if reached_from(reached, node) == room.ends.numbers() {
+        return Ok(Vec::new(alloc));
+    }
     let fresh = missing(alloc, &frame.arcs, &room.ends, &mut room.known, node)?;
+    if !fresh.is_empty() {
+        return Ok(fresh);
+    }
+    note(alloc, reached, node, room.ends.numbers())?;
     Ok(fresh)
+}
+
+// What is noted as reached from a node.
+fn reached_from(reached: &[Sequence<u32>], node: u32) -> &[u32]
+    ensures { result.now ≡ slice_index_or reached.now node [] }
+{
+    match reached.get(node as usize) {
+        Some(numbers) => numbers.items(),
+        None => &[],
+    }
+}
+
+// Notes what is reached from a node.
+fn note(
+    alloc: Global,
+    reached: &mut Vec<Sequence<u32>>,
+    node: u32,
+    numbers: &[u32],
+) -> Result<(), Memory>
+    ensures { OnOk result (IsNotedFrom node numbers.now reached.old.items reached.new.items) }
+{
+    widen(alloc, reached, node)?;
+    reached[node as usize] = Sequence::from_vec(numbers.to_vec(alloc)?);
+    Ok(())
+}
+
+// Makes room for what is reached from a node.
+fn widen(alloc: Global, reached: &mut Vec<Sequence<u32>>, node: u32) -> Result<(), Memory>
+    ensures same { (n : ℕ) → slice_index_or reached.new.items n [] ≡ slice_index_or reached.old.items n [] }
+    ensures room { OnOk result (node < length reached.new.items) }
+{
+    while reached.len() <= node as usize {
+        reached.push(Sequence::new(alloc))?;
+    }
+    Ok(())
 }
 
 // The arcs, or the same the other way, by the sign of a letter.

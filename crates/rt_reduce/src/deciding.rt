@@ -26,6 +26,9 @@ use std::slice;
 // Of so few lines all are saturated as soon.
 const FEW: usize = 1000;
 
+// Of so many lines all are saturated sooner than arcs are made of them anew.
+const PLENTY: usize = 2000;
+
 // Whether the line is derivable from the lines left, where arcs from outside and which lines name which variables leave it
 // open: if it is a bound, by ways or arcs from inside that were made before, else by what is left. Where there are ways, many
 // lines were left open, and arcs from outside of what is left seldom say more.
@@ -75,12 +78,15 @@ fn derives_unseen(alloc: Global, left: &[Line], order: &Order, line: &Line) -> R
     }
 }
 
-// What arcs from outside of the lines left alone say of a `<=` line or a bound.
+// What arcs from outside of the lines left alone say of a `<=` line or a bound, unless there are so many that it isn't worth while.
 fn told_anew(alloc: Global, left: &[Line], order: &Order, line: &Line) -> Result<Led, Memory>
     requires constants { All (HasConstantsBelow order.now.count) left.now }
     requires constant { HasConstantsBelow order.now.count line.now }
     ensures { IfOk result (Tells order.now left.now line.now) }
 {
+    if left.len() >= PLENTY {
+        return Ok(Led::Open);
+    }
     match line {
         Line::Var(_) | Line::Same(_, _) => Ok(Led::Open),
         Line::Sub(_, _) | Line::Low(_, _) | Line::Up(_, _) => {

@@ -178,7 +178,10 @@ fn enter_line(
         Line::Sub(x, y) => {
             let from = named.number(x);
             let to = named.number(y);
-            arcs[from as usize].push(Arc { to, line: Some(i) })?;
+            arcs[from as usize].push(Arc {
+                to,
+                line: Some(Arc::line_at(i)?),
+            })?;
             Ok(())
         }
         Line::Var(_) | Line::Same(_, _) | Line::Low(_, _) | Line::Up(_, _) => Ok(()),

@@ -1,5 +1,5 @@
 -- Searches that end at the nearest nodes behind a letter.
-use Rattle.std.specs.Prelude.{◌≡◌, ℕ, List, [], Bool, cond, nat_eq, Contains, Option, Some, None, true}
+use Rattle.std.specs.Prelude.{◌≡◌, ℕ, ◌⊎◌, List, [], Bool, cond, nat_eq, Contains, Option, Some, None, true, slice_index_or}
 use Rattle.rt_lines.specs.declared.label.Label.{Label}
 use Rattle.rt_lines.specs.declared.label.Variance.{Variance}
 use Rattle.rt_lines.specs.declared.label.Variance.TheVariants.{Co, Contra}
@@ -42,3 +42,12 @@ AreReached Edge old new = (w : ℕ) → Contains new w → (v : ℕ) × Contains
 abbrev pub side_of : Variance → List (List Arc) → List (List Arc) → List (List Arc)
 side_of Co arcs back = arcs
 side_of Contra arcs back = back
+
+-- ways of pushed arcs lead from each node to what is noted of it
+abbrev pub AreFollowed : List (List ℕ) → List (List Arc) → Type 0
+AreFollowed reached arcs = (v w : ℕ) → Contains (slice_index_or reached v []) w → Reaches (Leads arcs [] true) v w
+
+-- of one node those numbers are noted, of each other one what was noted
+abbrev pub IsNotedFrom : ℕ → List ℕ → List (List ℕ) → List (List ℕ) → Type 0
+IsNotedFrom node numbers old new = (v : ℕ) → (slice_index_or new v [] ≡ slice_index_or old v []) ⊎
+    ((v ≡ node) × (slice_index_or new v [] ≡ numbers))

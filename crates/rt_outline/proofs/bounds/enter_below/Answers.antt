@@ -3,13 +3,13 @@ use Rattle.rt_outline.specs.Inside.Bounds.{IsAtOrAbove}
 use Rattle.rt_outline.proofs.Bounded.{at_more, at_other}
 use Rattle.rt_outline.proofs.bounds.enter_below.Goals as goal
 
-pub returns-then-not-is_open : goal.returns-then-not-is_open
-returns-then-not-is_open c = λ before are. at_other (IsAtOrAbove c.args.order.now c.args.k) c.args.stands.now before c.args.bound c.args.numbers.now.items
-    (λ f p. (let t : c.is_open.result ≡ true = c.is_open.ensures ∙ f in cc)) are
+pub returns-then-not-is_standing : goal.returns-then-not-is_standing
+returns-then-not-is_standing c = λ before are. at_other (IsAtOrAbove c.args.order.now c.args.k) c.args.stands.now before c.args.bound c.args.numbers.now.items
+    (λ f p. (let t : c.is_standing.result ≡ true = c.is_standing.ensures ∙ f in cc)) are
 
 pub returns-in_ok-push : goal.returns-in_ok-push
 returns-in_ok-push c = λ before are. at_more (IsAtOrAbove c.args.order.now c.args.k) c.args.stands.now before c.args.bound c.args.numbers.now.items
-    c.push.new.self.items c.in_ok-push.ensures.items (sym c.is_open.ensures ∙ c.if-not-is_open.false) (c.le.ensures.0 c.if-le.true) are
+    c.push.new.self.items c.in_ok-push.ensures.items (sym c.is_standing.ensures ∙ c.if-not-is_standing.false) (c.le.ensures.0 c.if-le.true) are
 
 pub returns-else-le : goal.returns-else-le
 returns-else-le c = λ before are. at_other (IsAtOrAbove c.args.order.now c.args.k) c.args.stands.now before c.args.bound c.args.numbers.now.items

@@ -1,10 +1,12 @@
-use Rattle.std.proofs.Common.{refl, subst, ◌∙◌}
+use Rattle.std.proofs.Common.{ℕ, List, sym, refl, subst, ◌∙◌}
 use Rattle.rt_outline.specs.Frames.{IsPushedMore}
+use Rattle.rt_outline.specs.Inside.Sweeps.{AreFollowed}
+use Rattle.rt_outline.proofs.Pushing.{followed_none}
 use Rattle.rt_outline.proofs.Closed.{more_more, more_same}
 use Rattle.rt_outline.proofs.closing.close.Goals as goal
 
 pub loop-round-init : goal.loop-round-init
-loop-round-init c = record { frame = c.requires; origins = refl; more = more_same c.args.frame.now.origins.items c.args.stands.now c.args.frame.now.arcs.items }
+loop-round-init c = record { frame = c.requires; origins = refl; more = more_same c.args.frame.now.origins.items c.args.stands.now c.args.frame.now.arcs.items; followed = subst (λ (xs : List (List ℕ)). AreFollowed xs c.args.frame.now.arcs.items) (sym c.new-reached.ensures.items) (followed_none c.args.frame.now.arcs.items) }
 
 pub loop-round-preserved : goal.loop-round-preserved
 loop-round-preserved c = record {
@@ -12,6 +14,7 @@ loop-round-preserved c = record {
   origins = c.in_ok-added.ensures.origins ∙ c.loop-round.invariant.origins;
   more = more_more c.args.frame.now.origins.items c.args.stands.now c.args.frame.now.arcs.items c.loop-round.frame.arcs.items c.pass.new.frame.arcs.items c.loop-round.invariant.more
       (subst (λ os. IsPushedMore os c.args.stands.now c.loop-round.frame.arcs.items c.pass.new.frame.arcs.items) c.loop-round.invariant.origins c.in_ok-added.ensures.more);
+  followed = c.in_ok-added.ensures.followed;
 }
 
 pub returns-then-not-added-clause-more : goal.returns-then-not-added-clause-more

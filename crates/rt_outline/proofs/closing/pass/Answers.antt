@@ -10,6 +10,7 @@ loop-node-init c = record {
   origins = refl;
   steps = refl;
   more = more_same c.args.frame.now.origins.items c.args.stands.now c.args.frame.now.arcs.items;
+  followed = c.requires.followed;
   done = λ e. (refl, λ v h. absurd (omega (arith, h)));
 }
 
@@ -20,6 +21,7 @@ loop-node-preserved c = record {
   steps = c.push_node.ensures.steps ∙ c.loop-node.invariant.steps;
   more = more_more c.args.frame.now.origins.items c.args.stands.now c.args.frame.now.arcs.items c.loop-node.frame.arcs.items c.push_node.new.frame.arcs.items c.loop-node.invariant.more
       (subst (λ os. IsPushedMore os c.args.stands.now c.loop-node.frame.arcs.items c.push_node.new.frame.arcs.items) c.loop-node.invariant.origins c.in_ok-push_node.ensures.more);
+  followed = c.in_ok-push_node.ensures.followed;
   done = λ e. (elim c.if-branch.branch [
     | then-branch w ↦ absurd (let f = w.added-is in cc)
     | else-branch w ↦ pass_next c.args.frame.now.origins.items c.loop-node.frame.origins.items c.args.frame.now.steps c.loop-node.frame.steps c.args.frame.now.arcs.items c.loop-node.frame.arcs.items c.push_node.new.frame.arcs.items c.args.stands.now c.loop-node.node

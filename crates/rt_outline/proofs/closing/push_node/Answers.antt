@@ -2,6 +2,7 @@ use Rattle.std.proofs.Common.{◌≡◌, true, Contains, None, Some, get_or, ref
 use Rattle.std.proofs.lemmas.Option.{get_or_from_slice_get}
 use Rattle.rt_outline.specs.Arcs.{Leads}
 use Rattle.rt_outline.proofs.Closed.{more_pushed, more_same, pushed_within}
+use Rattle.rt_outline.proofs.Pushing.{followed_kept}
 use Rattle.rt_outline.proofs.closing.push_node.Goals as goal
 
 pub enter-requires-clause-within : goal.enter-requires-clause-within
@@ -23,3 +24,7 @@ returns-in-None-clause-done c = λ e. (
       let g : get_or c.args.frame.now.origins.items c.args.node c.index.result.now ≡ Some (p, l) = get_or_from_slice_get c.args.frame.now.origins.items c.args.node (Some (p, l)) c.index.result.now m in
       let h : Some (p, l) ≡ None = sym g ∙ sym c.index.ensures ∙ c.in-None.is in cc),
 )
+
+pub returns-in_ok-enter-in-Some-clause-followed : goal.returns-in_ok-enter-in-Some-clause-followed
+returns-in_ok-enter-in-Some-clause-followed c =
+    followed_kept c.ends.new.reached.items c.args.frame.now.arcs.items c.enter.new.frame.arcs.items c.in_ok-enter-in-Some.ensures.kept c.in_ok-fresh-in-Some.ensures.followed

@@ -1,7 +1,8 @@
-use Rattle.std.proofs.Common.{◌<◌, ◌≤◌, arith, inl, inr, refl, length, None, Some, sym, ap, ◌∙◌}
+use Rattle.std.proofs.Common.{◌<◌, ◌≤◌, arith, inl, inr, refl, length, None, Some, sym, ap, subst, ◌∙◌}
 use Rattle.std.proofs.lemmas.Option.{slice_get_within, slice_get_read}
 use Rattle.rt_lines.specs.declared.line.Line.TheVariants.{Sub}
 use Rattle.rt_base.proofs.Lists.{Contains-read}
+use Rattle.rt_outline.specs.Arcs.{IsAdded}
 use Rattle.rt_outline.proofs.Entered.{lines_more, lines_other}
 use Rattle.rt_outline.proofs.entering.enter_line.Goals as goal
 
@@ -20,7 +21,8 @@ join-requires-clause-to c = let h : c.number.result < length c.args.named.now = 
 pub returns-in_ok-join-in-Sub-clause-arcs : goal.returns-in_ok-join-in-Sub-clause-arcs
 returns-in_ok-join-in-Sub-clause-arcs c =
     lines_more c.args.lines.now c.args.named.now c.args.i c.in-Sub.x c.in-Sub.y c.number-from.result c.number.result c.args.frame.now.arcs.items c.join.new.self.arcs.items
-    (slice_get_read c.args.lines.now (length c.args.lines.now) c.args.i c.index-lines-i.result refl c.requires.index c.index-lines-i.is ∙ ap Some c.in-Sub.is) c.number-from.ensures c.number.ensures c.in_ok-join-in-Sub.ensures.added c.requires.arcs
+    (slice_get_read c.args.lines.now (length c.args.lines.now) c.args.i c.index-lines-i.result refl c.requires.index c.index-lines-i.is ∙ ap Some c.in-Sub.is) c.number-from.ensures c.number.ensures
+    (subst (λ n. IsAdded c.number-from.result (record { to = c.number.result; line = Some n }) c.args.frame.now.arcs.items c.join.new.self.arcs.items) c.in_ok-line_at-in-Sub.ensures c.in_ok-join-in-Sub.ensures.added) c.requires.arcs
 
 pub returns-in_ok-join-in-Sub-clause-pushed : goal.returns-in_ok-join-in-Sub-clause-pushed
 returns-in_ok-join-in-Sub-clause-pushed c = λ v w h. (elim (c.in_ok-join-in-Sub.ensures.added.only v w None h) [ inl d ↦ d | inr e ↦ absurd (let f = e.2 in cc) ])
