@@ -1,5 +1,5 @@
 -- What is pushed from ways that tables tell.
-use Rattle.std.proofs.Common.{◌≡◌, ℕ, ◌+◌, ◌*◌, ◌/◌, ◌%◌, ◌<◌, ◌≤◌, ◌⊎◌, inl, inr, Bool, not, true, false, List, [], ◌∷◌, ◌++◌, Contains, length, get_or, set, refl, sym, ap, subst, ◌∙◌, arith}
+use Rattle.std.proofs.Common.{◌≡◌, ℕ, ◌+◌, ◌*◌, ◌/◌, ◌%◌, ◌<◌, ◌≤◌, ◌⊎◌, inl, inr, Bool, not, true, false, Option, Some, None, List, [], ◌∷◌, ◌++◌, Contains, length, get_or, set, refl, sym, ap, subst, ◌∙◌, arith}
 use Rattle.std.specs.Prelude.{nat_eq}
 use Rattle.std.specs.Bool.{beq}
 use Rattle.std.proofs.lemmas.List.{get_or_default, get_or_read}
@@ -26,7 +26,7 @@ use Rattle.rt_sat.specs.declared.state.State.{State}
 use Rattle.rt_sat.specs.declared.state.Edge.{Edge}
 use Rattle.rt_sat.specs.Counts.{digit_of}
 use Rattle.rt_sat.specs.Deciding.{is_among}
-use Rattle.rt_sat.specs.Hints.{bit_of, grid_of, members_of, no_table, state_at, AreEnds, AreSameMembers, AreToldSteps, IsEnd, IsFamily, IsHome, IsTold, IsToldAt, IsToldFamily, IsToldRow}
+use Rattle.rt_sat.specs.Hints.{bit_of, grid_of, members_of, no_table, state_at, AreEnds, AreSameMembers, AreToldSteps, IsAtOrBehind, IsEnd, IsFamily, IsHome, IsPassedOn, IsTold, IsToldAt, IsToldFamily, IsToldRow}
 use Rattle.rt_sat.specs.Numbered.{at_number, is_contra, sign_of, state_of}
 use Rattle.rt_sat.specs.Pushes.{flip_at, IsChildOf, PushBy}
 use Rattle.rt_sat.proofs.Closed.{child_state, named_child, parent_state, push_of, there_child}
@@ -62,7 +62,7 @@ home_same count old new state home same before after stands =
 pub ends_same : (known : List Dtv) (flips : List Bool) (members : List ℕ) (count : ℕ) (old new : Family) (ends : List End) → AreSameMembers old new → IsFamily count old → IsFamily count new → AreEnds known flips members old ends → AreEnds known flips members new ends
 ends_same known flips members count old new ends same before after are end c =
     let is : IsEnd known flips members old end = are end c in
-    record { inside = is.inside; parent = is.parent; child = is.child; home = home_same count old new end.stand end.home same before after is.home; flip = is.flip }
+    record { inside = is.inside; root = is.root; root_flip = is.root_flip; parent = is.parent; child = is.child; home = home_same count old new end.stand end.home same before after is.home; flip = is.flip }
 
 -- what was read of ends, that stay what they are where the classes have the same members
 pub ends_kept : (known : List Dtv) (flips : List Bool) (members now : List ℕ) (count : ℕ) (old new : Family) (ends items : List End) → now ≡ members → items ≡ ends → AreSameMembers old new → IsFamily count old → IsFamily count new →
@@ -72,7 +72,7 @@ ends_kept known flips members now count old new ends items each read same before
 
 -- what stands where no end does
 abbrev pub no_end : End
-no_end = record { place = 0; parent = record { variable = 0; contra = false }; child = record { variable = 0; contra = false }; letter = In (Arg 0); stand = record { variable = 0; contra = false }; home = record { class = 0; index = 0 }; flip = false; matters = false; pointer = false; turned = false; leads_on = false }
+no_end = record { place = 0; root = record { variable = 0; contra = false }; pointed = None; root_flip = false; parent = record { variable = 0; contra = false }; child = record { variable = 0; contra = false }; letter = In (Arg 0); stand = record { variable = 0; contra = false }; home = record { class = 0; index = 0 }; flip = false; matters = false; pointer = false; turned = false; leads_on = false }
 
 -- an end more
 pub ends_more : (known : List Dtv) (flips : List Bool) (members : List ℕ) (into : Family) (ends more : List End) (end : End) → AreEnds known flips members into ends → IsEnd known flips members into end → more ≡ ends ++ end ∷ [] → AreEnds known flips members into more
@@ -142,16 +142,30 @@ module _ (known : List Dtv) (flips : List Bool) (lines : List Edge) where
       (push (named_child known L flips frame child parent l left) (named_child known L flips frame end other m right) (there_child known L flips frame child parent l left) (there_child known L flips frame end other m right) placed
       (push_of known L flips frame parent.variable l m d (sign_of child.contra) (sign_of end.contra) k left.above by)))
 
-  -- what is pushed from the count of a row between the parents of ends is told
-  pub end_told : (members row : List ℕ) (into : Family) (source target : End) (way k : ℕ) → IsEnd known flips members into source → IsEnd known flips members into target → IsTold known flips lines source.stand source.child 0 → IsTold known flips lines target.child target.stand 0 →
-      target.home.class ≡ source.home.class → IsToldRow known flips lines source.parent members row →
-      target.place < length row → way ≡ get_or row target.place 0 → way < 255 → PushBy source.flip source.letter target.letter way (sign_of source.child.contra) (sign_of target.child.contra) k →
+  -- what is passed on from a told count
+  told_passed : (root parent other end : State) (p q : Option Label) (d k : ℕ) → IsAtOrBehind known root parent p → IsAtOrBehind known other end q → IsTold known flips lines root other d →
+      IsPassedOn (flip_at flips root.variable) p q d (sign_of parent.contra) (sign_of end.contra) k → IsTold known flips lines parent end k
+  told_passed root parent other end None None d k a b way is =
+      subst (IsTold known flips lines parent end) (sym is) (subst (λ s. IsTold known flips lines s end d) (sym a) (subst (λ s. IsTold known flips lines root s d) (sym b) way))
+  told_passed root parent other end (Some l) (Some m) d k a b way is = told_push parent root end other l m d k way a b is
+  told_passed root parent other end None (Some m) d k a b way is = absurd is
+  told_passed root parent other end (Some l) None d k a b way is = absurd is
+
+  -- what is pushed from the count of a row between the roots of ends is told
+  pub end_told : (members row : List ℕ) (into : Family) (source target : End) (rooted way k : ℕ) → IsEnd known flips members into source → IsEnd known flips members into target → IsTold known flips lines source.stand source.child 0 → IsTold known flips lines target.child target.stand 0 →
+      target.home.class ≡ source.home.class → IsToldRow known flips lines source.root members row →
+      target.place < length row → rooted ≡ get_or row target.place 0 → rooted < 255 →
+      IsPassedOn source.root_flip source.pointed target.pointed rooted (sign_of source.parent.contra) (sign_of target.parent.contra) way →
+      PushBy source.flip source.letter target.letter way (sign_of source.child.contra) (sign_of target.child.contra) k →
       IsTold known flips lines source.stand (state_at (members_of into source.home.class) target.home.index) k
-  end_told members row into source target way k from to first last class are less read few by =
-      let e : way ≡ count_at row target.place = read ∙ get_or_default row target.place 0 255 less in
+  end_told members row into source target rooted way k from to first last class are less read few passed by =
+      let e : rooted ≡ count_at row target.place = read ∙ get_or_default row target.place 0 255 less in
+      let below : IsTold known flips lines source.root target.root rooted =
+      subst (λ t. IsTold known flips lines source.root t rooted) (sym to.root)
+      (subst (IsTold known flips lines source.root (state_at members target.place)) (sym e) (are target.place less (subst (λ n. n < 255) e few))) in
       let there : IsTold known flips lines source.parent target.parent way =
-      subst (λ t. IsTold known flips lines source.parent t way) (sym to.parent)
-      (subst (IsTold known flips lines source.parent (state_at members target.place)) (sym e) (are target.place less (subst (λ n. n < 255) e few))) in
+      told_passed source.root source.parent target.root target.parent source.pointed target.pointed rooted way from.parent to.parent below
+      (subst (λ f. IsPassedOn f source.pointed target.pointed rooted (sign_of source.parent.contra) (sign_of target.parent.contra) way) from.root_flip passed) in
       let pushed : PushBy (flip_at flips source.parent.variable) source.letter target.letter way (sign_of source.child.contra) (sign_of target.child.contra) k =
       subst (λ f. PushBy f source.letter target.letter way (sign_of source.child.contra) (sign_of target.child.contra) k) from.flip by in
       let middle : IsTold known flips lines source.child target.child k =

@@ -1,5 +1,7 @@
 -- What is told of states by the edges of lines and what is pushed from their ways, in tables of classes.
-use Rattle.std.specs.Prelude.{◌≡◌, ℕ, ◌+◌, ◌*◌, ◌/◌, ◌%◌, ◌<◌, ◌≤◌, ◌⊎◌, true, false, List, [], All, Contains, Bool, length, nat_eq, slice_index_or}
+use Rattle.std.specs.Prelude.{◌≡◌, ℕ, ◌+◌, ◌*◌, ◌/◌, ◌%◌, ◌<◌, ◌≤◌, ◌⊎◌, true, false, List, [], All, Contains, Bool, Option, Some, None, length, nat_eq, slice_index_or}
+use Rattle.rt_lines.specs.declared.label.Label.{Label}
+use Rattle.rt_lines.specs.declared.label.Variance.{Variance}
 use Rattle.rt_lines.specs.declared.variable.Dtv.{Dtv}
 use Rattle.rt_bridge.specs.Growing.{Var, Given, HasSub}
 use Rattle.rt_bridge.specs.Counted.{Bridge}
@@ -15,7 +17,7 @@ use Rattle.rt_sat.specs.declared.gathering.Group.{Group}
 use Rattle.rt_sat.specs.declared.gathering.End.{End}
 use Rattle.rt_sat.specs.Deciding.{is_among}
 use Rattle.rt_sat.specs.Numbered.{state_of}
-use Rattle.rt_sat.specs.Pushes.{flip_at, AreSound, IsChildOf, IsInFrame}
+use Rattle.rt_sat.specs.Pushes.{flip_at, AreSound, IsChildOf, IsInFrame, PushBy}
 
 -- the count between the states is a counted judgement, wherever the edges of lines are
 abbrev pub IsTold : List Dtv → List Bool → List Edge → State → State → ℕ → Type 0
@@ -108,10 +110,25 @@ AreToldSteps known flips lines state family class steps = (s : Step) → Contain
 abbrev pub AreInClass : Family → ℕ → List Step → Type 0
 AreInClass family class steps = (s : Step) → Contains steps s → s.to < size_of (grid_of family class)
 
--- a state has a letter more than the one at a place of a class, and one stands in a class of a family
+-- a state has the letter more than another one, if there is one, else it is that
+abbrev pub IsAtOrBehind : List Dtv → State → State → Option Label → Type 0
+IsAtOrBehind known root parent None = parent ≡ root
+IsAtOrBehind known root parent (Some l) = IsChildOf known parent root l
+
+-- what is pushed from a count between two states to those that have letters more, if both have one, else the count itself
+abbrev pub IsPassedOn : Bool → Option Label → Option Label → ℕ → Variance → Variance → ℕ → Type 0
+IsPassedOn flip None None d a b k = k ≡ d
+IsPassedOn flip (Some l) (Some m) d a b k = PushBy flip l m d a b k
+IsPassedOn flip None (Some m) d a b k = ⊥
+IsPassedOn flip (Some l) None d a b k = ⊥
+
+-- a state has a letter more than the one at a place of a class, or than what has a letter of a pointer more than that, and one
+-- stands in a class of a family
 pub record IsEnd (known : List Dtv) (flips : List Bool) (members : List ℕ) (into : Family) (end : End) : Type 0 where
   pub inside : end.place < 2 * length members
-  pub parent : end.parent ≡ state_at members end.place
+  pub root : end.root ≡ state_at members end.place
+  pub root_flip : end.root_flip ≡ flip_at flips end.root.variable
+  pub parent : IsAtOrBehind known end.root end.parent end.pointed
   pub child : IsChildOf known end.child end.parent end.letter
   pub home : IsHome into end.stand end.home
   pub flip : end.flip ≡ flip_at flips end.parent.variable

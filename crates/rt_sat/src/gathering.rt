@@ -11,7 +11,7 @@ ghost use Rattle.rt_sat.specs.declared.state.State.{State as Place};
 ghost use Rattle.rt_sat.specs.declared.state.Edge.{Edge as Arrow};
 ghost use Rattle.rt_sat.specs.Inside.Links.{noted_at, AreBefore, AreBehind, AreEndsFrom, AreEndsOf, AreLinked, AreSources, AreTargets, AreTied};
 ghost use Rattle.rt_sat.specs.Hints.{grid_of, members_of, state_at, AreEnds, AreGroups, AreInClass, AreInRows, AreKids};
-ghost use Rattle.rt_sat.specs.Hints.{AreSameMembers, AreToldSteps, IsEnd, IsFamily, IsGroup, IsHome, IsInRows, IsTold, IsToldFamily};
+ghost use Rattle.rt_sat.specs.Hints.{AreSameMembers, AreToldSteps, IsAtOrBehind, IsEnd, IsFamily, IsGroup, IsHome, IsInRows, IsTold, IsToldFamily};
 ghost use Rattle.rt_sat.specs.Hints.{IsToldRow};
 ghost use Rattle.rt_sat.specs.Numbered.{AreDistinct};
 ghost use Rattle.rt_sat.specs.Pushes.{IsChildOf};
@@ -34,17 +34,19 @@ const PASSES: usize = 1000;
 // In how many passes steps are put in before spare ones are forgotten.
 const BETWEEN: usize = 8;
 
-// A variable with a letter more than a member of a class.
+// A variable with a letter more than a member of a class, or than what has the letter of a pointer more than a member.
 #[derive(Clone, Copy)]
 pub(crate) struct Kid {
     // The index of the member.
     pub(crate) parent: usize,
+    // What has the letter of a pointer more than the member, if the variable has a letter more than that.
+    pub(crate) through: Option<u32>,
     // The variable.
     pub(crate) variable: u32,
 }
 
-// Variables with a letter more than members of a class: with one letter, or with letters of pointers. Nothing is pushed but
-// between those of one group.
+// Variables with a letter more than members of a class, or than what has the letter of a pointer more than these: with one letter,
+// or with letters of pointers. Nothing is pushed but between those of one group.
 #[derive(Drop)]
 pub(crate) struct Group {
     // The class of the members.
@@ -63,13 +65,21 @@ pub(crate) struct Kin {
     // For each place of each class whether no edge of a line leads from there: all that leads on is pushed. Where there is no
     // flag, one may lead. Effort alone rests on these.
     pub(crate) dead: Vec<Vec<bool>>,
+    // For each two kinds of ends of pointers what is pushed from each count. Effort alone rests on these.
+    pub(crate) halves: Vec<u8>,
 }
 
-// The state of a variable with a letter more than a member's state, to which what is known of the latter is pushed.
+// The state of a variable with a letter more than a member's state, the root, or than what has the letter of a pointer more than
+// the root: to it is pushed what is known of the root.
 #[derive(Clone, Copy)]
 pub(crate) struct End {
-    // The place of the parent's state in its class.
+    // The place of the root's state in its class.
     pub(crate) place: usize,
+    pub(crate) root: State,
+    // The letter of a pointer that the parent has more than the root, if it isn't the root.
+    pub(crate) pointed: Option<Label>,
+    // Whether the root can be read and written through.
+    pub(crate) root_flip: bool,
     pub(crate) parent: State,
     pub(crate) child: State,
     // The letter that the child has more.
@@ -259,7 +269,15 @@ fn push_due(
     for group in &kin.groups {
         if let Some(since) = clock_of(due, since, group.class) {
             push_group(
-                alloc, frame, group, &kin.links, &kin.dead, family, since, next,
+                alloc,
+                frame,
+                group,
+                &kin.links,
+                &kin.dead,
+                &kin.halves,
+                family,
+                since,
+                next,
             )?;
         }
     }
@@ -281,6 +299,7 @@ fn push_group(
     group: &Group,
     links: &Links,
     dead: &[Vec<bool>],
+    halves: &[u8],
     family: &mut Family,
     since: u64,
     next: &mut Vec<bool>,
@@ -302,8 +321,26 @@ fn push_group(
     let targets = ends(alloc, frame, members, kids, &links.behind, dead, family)?;
     let leading = those(alloc, &targets, true)?;
     let others = those(alloc, &targets, false)?;
-    push_ends(alloc, &sources, &leading, family, group.class, since, next)?;
-    push_ends(alloc, &sources, &others, family, group.class, since, next)?;
+    push_ends(
+        alloc,
+        &sources,
+        &leading,
+        halves,
+        family,
+        group.class,
+        since,
+        next,
+    )?;
+    push_ends(
+        alloc,
+        &sources,
+        &others,
+        halves,
+        family,
+        group.class,
+        since,
+        next,
+    )?;
     Ok(())
 }
 
@@ -326,6 +363,7 @@ fn push_ends(
     alloc: Global,
     sources: &[End],
     targets: &[End],
+    halves: &[u8],
     family: &mut Family,
     class: usize,
     since: u64,
@@ -347,7 +385,7 @@ fn push_ends(
     let spots = Spots::of(alloc, targets)?;
     for source in sources {
         if family.grids[class].has_changed(source.place, since) {
-            push_within(alloc, targets, &spots, source, family, class, next)?;
+            push_within(alloc, targets, &spots, halves, source, family, class, next)?;
         }
     }
     Ok(())
@@ -358,6 +396,7 @@ fn push_within(
     alloc: Global,
     targets: &[End],
     spots: &Spots,
+    halves: &[u8],
     source: &End,
     family: &mut Family,
     class: usize,
@@ -376,7 +415,7 @@ fn push_within(
         AreTied known flips lines source.now targets.now → IsToldFamily known flips lines family.old →
         IsToldFamily known flips lines family.new) }
 {
-    let found = found_at(alloc, targets, spots, source, family, class, family)?;
+    let found = found_at(alloc, targets, spots, halves, source, family, class, family)?;
     let leads_on = source.leads_on || lead_on(targets);
     if put(alloc, family, source.home, &found, leads_on)? {
         next[source.home.class] = true;
@@ -397,6 +436,7 @@ pub(crate) fn push_apart(
     alloc: Global,
     frame: &Frame,
     group: &Group,
+    halves: &[u8],
     family: &Family,
     into: &mut Family,
 ) -> Result<(), Memory>
@@ -414,7 +454,16 @@ pub(crate) fn push_apart(
     let ends = ends(alloc, frame, members, group.kids.items(), &[], &[], into)?;
     let spots = Spots::of(alloc, &ends)?;
     for source in &ends {
-        let found = found_at(alloc, &ends, &spots, source, family, group.class, into)?;
+        let found = found_at(
+            alloc,
+            &ends,
+            &spots,
+            halves,
+            source,
+            family,
+            group.class,
+            into,
+        )?;
         put(alloc, into, source.home, &found, true)?;
     }
     Ok(())
@@ -426,6 +475,7 @@ fn found_at(
     alloc: Global,
     targets: &[End],
     spots: &Spots,
+    halves: &[u8],
     source: &End,
     family: &Family,
     class: usize,
@@ -444,7 +494,7 @@ fn found_at(
 {
     let row = family.grids[class].row(source.place);
     let known = into.grids[source.home.class].row(source.home.index);
-    let found = gathered(alloc, targets, spots, row, source, known)?;
+    let found = gathered(alloc, targets, spots, halves, row, source, known)?;
     Ok(found)
 }
 
@@ -540,9 +590,12 @@ fn add_kid(
         AreTargets frame.now.named frame.now.flips.items lines ends.old.items →
         AreTargets frame.now.named frame.now.flips.items lines ends.new.items) }
 {
-    let parent = State {
+    let root = State {
         variable: members[kid.parent],
         contra,
+    };
+    let Some((parent, pointed)) = parent_of(frame, root, kid.through) else {
+        return Ok(());
     };
     let Some((child, letter)) = child_of(frame, parent, kid.variable) else {
         return Ok(());
@@ -551,6 +604,9 @@ fn add_kid(
         if let Some(home) = into.home(*stand) {
             ends.push(End {
                 place: place(kid.parent, contra),
+                root,
+                pointed,
+                root_flip: flag(&frame.flips, root.variable),
                 parent,
                 child,
                 letter,
@@ -565,6 +621,19 @@ fn add_kid(
         }
     }
     Ok(())
+}
+
+// The state of a variable that has the letter of a pointer more than a state's, and the letter; the state itself, if there is no such
+// variable.
+fn parent_of(frame: &Frame, root: State, through: Option<u32>) -> Option<(State, Option<Label>)>
+    requires { AreDistinct frame.now.named }
+    ensures { IfSome result (λ parent. IsAtOrBehind frame.now.named root parent.0 parent.1) }
+{
+    let Some(number) = through else {
+        return Some((root, None));
+    };
+    let (parent, letter) = child_of(frame, root, number)?;
+    Some((parent, Some(letter)))
 }
 
 // Whether something leads on from where a state stands, but what is pushed to it and to others.

@@ -3,20 +3,23 @@
 ghost use Rattle.std.specs.Prelude.{◌≡◌, ◌∷◌, ◌++◌, ◌*◌, ◌<◌, ◌≤◌, ℕ, [], List, Bool, Contains, IfOk, IfSome, OnOk, length};
 ghost use Rattle.rt_lines.specs.declared.variable.Dtv.{Dtv as Variable};
 ghost use Rattle.rt_sat.specs.declared.state.Edge.{Edge as Arrow};
+ghost use Rattle.rt_sat.specs.declared.state.State.{State as Place};
 ghost use Rattle.rt_grid.specs.Tables.{size_of};
 ghost use Rattle.rt_sat.specs.declared.family.Family.{Family as Classes};
-ghost use Rattle.rt_sat.specs.Hints.{state_at, AreGroups, AreMore, AreSameMembers, AreTold, IsFamily, IsKid, IsOfStep};
+ghost use Rattle.rt_sat.specs.Hints.{state_at, AreGroups, AreMore, AreSameMembers, AreTold, IsFamily, IsHome, IsKid, IsOfStep};
 ghost use Rattle.rt_sat.specs.Hints.{IsStepFrom, IsStepOf, IsTold, IsToldFamily};
 ghost use Rattle.rt_sat.specs.Inside.Checks.{AreWalked};
 ghost use Rattle.rt_sat.specs.Inside.Links.{AreLinked};
 ghost use Rattle.rt_sat.specs.Numbered.{AreDistinct, AreWithin};
 
 use crate::count::Count;
-use crate::family::{Family, class_count};
+use crate::family::{Family, Home, class_count};
 use crate::gathering::{Group, Kid, Kin, push_apart, spread};
 use crate::links::Links;
-use crate::pushing::{Frame, flag, numbers_at};
+use crate::passing::without_passing;
+use crate::pushing::{Frame, flag, is_pointer, numbers_at};
 use crate::state::{Edge, State};
+use crate::stepping::halves;
 use rt_base::{Memory, Sequence};
 use rt_grid::{Grid, Step};
 use rt_lines::{Label, Loc};
@@ -60,12 +63,13 @@ pub(crate) fn hints(alloc: Global, frame: &Frame, lines: &[Edge]) -> Result<Hint
     }
     let above = above(alloc, frame)?;
     let inner = inner(frame, lines, above);
-    let mut family = Family::of(alloc, &frame.nodes, &inner)?;
+    let used = without_passing(alloc, frame, lines, &[], inner)?;
+    let mut family = Family::of(alloc, &frame.nodes, &used)?;
     enter_lines(alloc, &mut family, lines)?;
     let mut kin = kin(alloc, frame, lines, &family)?;
     kin.dead = dead(alloc, frame, &family, &kin.links)?;
     spread(alloc, frame, &kin, &mut family)?;
-    let edges = pushed(alloc, frame, &kin.groups, &family)?;
+    let edges = pushed(alloc, frame, &kin.groups, &kin.halves, &family)?;
     Ok(Hinted {
         edges,
         family: Some(family),
@@ -130,6 +134,7 @@ pub(crate) fn kin(
         groups,
         links,
         dead: Vec::new(alloc),
+        halves: halves(alloc)?,
     })
 }
 
@@ -311,7 +316,7 @@ pub(crate) fn groups(alloc: Global, frame: &Frame, family: &Family) -> Result<Ve
     Ok(groups)
 }
 
-// Puts a variable into its group, if it has a letter more than a member of a class.
+// Puts a variable into its group, if it has a letter more than a member of a class, or than what has the letter of a pointer more.
 fn enter_kid(
     alloc: Global,
     frame: &Frame,
@@ -328,18 +333,52 @@ fn enter_kid(
     let Origin::Longer(parent, letter) = frame.named.origin(number) else {
         return Ok(());
     };
-    let state = State {
-        variable: parent,
-        contra: false,
-    };
-    let Some(home) = family.home(state) else {
+    if let Some(home) = home_of(family, parent) {
+        let kid = Kid {
+            parent: home.index / 2,
+            through: None,
+            variable: number,
+        };
+        return put_kid(alloc, places, groups, home.class, kind(letter), kid);
+    }
+    let Some(home) = pointed_home(frame, family, parent) else {
         return Ok(());
     };
     let kid = Kid {
         parent: home.index / 2,
+        through: Some(parent),
         variable: number,
     };
-    put_kid(alloc, places, groups, home.class, kind(letter), kid)
+    put_kid(alloc, places, groups, home.class, kind_behind(letter), kid)
+}
+
+// Where a variable's state stands that keeps the order.
+fn home_of(family: &Family, variable: u32) -> Option<Home>
+    requires { (count : ℕ) × IsFamily count family.now }
+    ensures { IfSome result (λ home. (s : Place) × IsHome family.now s home) }
+{
+    family.home(State {
+        variable,
+        contra: false,
+    })
+}
+
+// Where the state stands of what a variable has the letter of a pointer more than.
+fn pointed_home(frame: &Frame, family: &Family, variable: u32) -> Option<Home>
+    requires number { variable < length frame.now.named }
+    requires family { (count : ℕ) × IsFamily count family.now }
+    ensures { IfSome result (λ home. (s : Place) × IsHome family.now s home) }
+{
+    match frame.named.origin(variable) {
+        Origin::Longer(root, letter) => {
+            if is_pointer(letter) {
+                home_of(family, root)
+            } else {
+                None
+            }
+        }
+        Origin::Bare(_) => None,
+    }
 }
 
 // Puts a variable into the group of a class and a kind of letters.
@@ -387,11 +426,18 @@ fn kind(letter: Label) -> Kind {
     }
 }
 
+// The same of a letter behind that of a pointer.
+fn kind_behind(letter: Label) -> Kind {
+    let (kind, number, offset) = kind(letter);
+    (kind.saturating_add(5), number, offset)
+}
+
 // The edges that are pushed from the ways of a family, without spare ones.
 fn pushed(
     alloc: Global,
     frame: &Frame,
     groups: &[Group],
+    halves: &[u8],
     family: &Family,
 ) -> Result<Vec<Edge>, Memory>
     requires distinct { AreDistinct frame.now.named }
@@ -402,7 +448,7 @@ fn pushed(
         AreTold frame.now.named frame.now.flips.items lines edges.items) }
     ensures within { IfOk result (λ edges. AreWithin frame.now.named edges.items) }
 {
-    let mut pushed = pushed_ways(alloc, frame, groups, family)?;
+    let mut pushed = pushed_ways(alloc, frame, groups, halves, family)?;
     let edges = edges_of(alloc, &mut pushed)?;
     Ok(edges)
 }
@@ -412,6 +458,7 @@ fn pushed_ways(
     alloc: Global,
     frame: &Frame,
     groups: &[Group],
+    halves: &[u8],
     family: &Family,
 ) -> Result<Family, Memory>
     requires distinct { AreDistinct frame.now.named }
@@ -427,7 +474,7 @@ fn pushed_ways(
     let nodes = group_nodes(alloc, groups, frame.named.len())?;
     let mut pushed = Family::of(alloc, &nodes, &below)?;
     for group in groups {
-        push_apart(alloc, frame, group, family, &mut pushed)?;
+        push_apart(alloc, frame, group, halves, family, &mut pushed)?;
     }
     Ok(pushed)
 }

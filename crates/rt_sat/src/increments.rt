@@ -20,6 +20,7 @@ use crate::family::Family;
 use crate::gathering::{Kin, clocks, spread, spread_from};
 use crate::hints::{dead, enter_lines, inner, kin, revive, set};
 use crate::links::Links;
+use crate::passing::without_passing;
 use crate::pushing::Frame;
 use crate::state::{Edge, State};
 use crate::table::{Begun, begin};
@@ -62,6 +63,7 @@ impl GrowingTable {
         let all = vec![in alloc; true; frame.named.len()]?;
         let inner = inner(&frame, &first, all);
         let used = with_named(&frame.named, extra, inner);
+        let used = without_passing(alloc, &frame, &first, extra, used)?;
         let mut family = Family::of(alloc, &frame.nodes, &used)?;
         enter_lines(alloc, &mut family, &first)?;
         let mut kin = kin(alloc, &frame, &first, &family)?;

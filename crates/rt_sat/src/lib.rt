@@ -23,6 +23,7 @@ pub mod laws;
 mod layers;
 mod links;
 mod marking;
+mod passing;
 mod pushing;
 mod reached;
 mod search;

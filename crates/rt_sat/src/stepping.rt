@@ -6,10 +6,12 @@ ghost use Rattle.rt_lines.specs.declared.variable.Dtv.{Dtv as Variable};
 ghost use Rattle.rt_sat.specs.declared.family.Family.{Family as Classes};
 ghost use Rattle.rt_sat.specs.declared.state.Edge.{Edge as Arrow};
 ghost use Rattle.rt_sat.specs.Inside.Links.{AreEndsFrom, AreTied};
-ghost use Rattle.rt_sat.specs.Hints.{members_of, state_at, AreInRows, AreToldSteps, IsEnd, IsInRows, IsTold, IsToldRow};
+ghost use Rattle.rt_sat.specs.Hints.{members_of, state_at, AreInRows, AreToldSteps, IsEnd, IsInRows, IsPassedOn, IsTold, IsToldRow};
+ghost use Rattle.rt_sat.specs.Numbered.{sign_of};
 
 use crate::gathering::End;
 use crate::halving::{between, half};
+use crate::pushing::{sign, turns};
 use rt_base::Memory;
 use rt_grid::{NONE, Step};
 use std::alloc::Global;
@@ -23,20 +25,18 @@ const COUNTS: usize = 256;
 // What is read of each end that is pushed to, apart from what is read of few of them. Effort alone rests on these.
 #[derive(Clone, Copy)]
 struct Spot {
-    // The place of the parent's state in its class.
-    place: usize,
+    // The place of the root's state in its class.
+    place: u16,
     // Where the end stands in its class.
-    index: usize,
+    index: u16,
     // Which kind the end is of.
     kind: u8,
 }
 
-// What is read of ends that are pushed to, and for two ends of pointers by their kinds what is pushed from each count. Effort alone
-// rests on these.
+// What is read of ends that are pushed to. Effort alone rests on these.
 #[derive(Drop)]
 pub(crate) struct Spots {
     spots: Vec<Spot>,
-    halves: Vec<u8>,
 }
 
 impl Spots {
@@ -45,43 +45,54 @@ impl Spots {
         let mut spots = Vec::with_capacity(alloc, ends.len())?;
         for end in ends {
             spots.push(Spot {
-                place: end.place,
-                index: end.home.index,
+                place: short(end.place),
+                index: short(end.home.index),
                 kind: kind(end),
             })?;
         }
-        let mut halves = Vec::new(alloc);
-        if has_pointer(ends) {
-            push_halves(&mut halves)?;
-        }
-        Ok(Spots { spots, halves })
+        Ok(Spots { spots })
     }
 
     // Whether nothing is pushed to the end at an index from a row: there is no way, or what is pushed is no less than what is
     // known. What is pushed from each count to ends of each kind begins at a place.
-    fn is_idle(&self, row: &[u8], known: &[u8], from: u16, i: usize) -> bool {
+    fn is_idle(&self, halves: &[u8], row: &[u8], known: &[u8], from: u16, i: usize) -> bool {
         let Some(spot) = self.spots.get(i) else {
             return false;
         };
-        let Some(way) = row.get(spot.place) else {
+        let Some(way) = row.get(usize::from(spot.place)) else {
             return false;
         };
-        let Some(least) = known.get(spot.index) else {
+        let Some(least) = known.get(usize::from(spot.index)) else {
             return false;
         };
         let place = usize::from(from) + usize::from(spot.kind) * COUNTS + usize::from(*way);
-        match self.halves.get(place) {
+        match halves.get(place) {
             Some(half) => *half >= *least,
             None => *way >= *least,
         }
     }
 }
 
-// Which kind an end is of.
+// The number, or the greatest, at which nothing is read.
+fn short(number: usize) -> u16 {
+    match u16::try_from(number) {
+        Ok(short) => short,
+        Err(_) => u16::MAX,
+    }
+}
+
+// Which kind an end is of, or the state with the letter of a pointer that it is behind.
 fn kind(end: &End) -> u8
     ensures { result < 4 }
 {
-    match (end.turned, end.child.contra) {
+    let (turned, contra) = match end.pointed {
+        Some(letter) => {
+            let sign = letter.variance().times(sign(end.parent.contra));
+            (turns(sign), end.parent.contra)
+        }
+        None => (end.turned, end.child.contra),
+    };
+    match (turned, contra) {
         (false, false) => 0,
         (false, true) => 1,
         (true, false) => 2,
@@ -89,29 +100,28 @@ fn kind(end: &End) -> u8
     }
 }
 
-// Whether one of the ends is behind a letter of what can be read and written through.
-fn has_pointer(ends: &[End]) -> bool {
-    for end in ends {
-        if end.flip && end.pointer {
-            return true;
-        }
+// Whether a half is pushed to an end, or to what it is behind.
+fn is_halved(end: &End) -> bool {
+    match end.pointed {
+        Some(_) => end.root_flip,
+        None => end.flip && end.pointer,
     }
-    false
 }
 
 // Where what is pushed from an end begins among the halves, or behind them, if it isn't a half.
 fn begin(source: &End) -> u16
     ensures { result ≤ 4096 }
 {
-    if source.flip && source.pointer {
+    if is_halved(source) {
         u16::from(kind(source)) * 1024
     } else {
         4096
     }
 }
 
-// Adds for each two kinds of ends of pointers what is pushed from each count.
-fn push_halves(halves: &mut Vec<u8>) -> Result<(), Memory> {
+// For each two kinds of ends of pointers what is pushed from each count. Effort alone rests on these.
+pub(crate) fn halves(alloc: Global) -> Result<Vec<u8>, Memory> {
+    let mut halves = Vec::new(alloc);
     for first in 0..KINDS {
         for second in 0..KINDS {
             for count in 0..COUNTS {
@@ -119,7 +129,7 @@ fn push_halves(halves: &mut Vec<u8>) -> Result<(), Memory> {
             }
         }
     }
-    Ok(())
+    Ok(halves)
 }
 
 // What is pushed from a count between ends of two kinds.
@@ -138,6 +148,7 @@ pub(crate) fn gathered(
     alloc: Global,
     targets: &[End],
     spots: &Spots,
+    halves: &[u8],
     row: &[u8],
     source: &End,
     known: &[u8],
@@ -147,13 +158,13 @@ pub(crate) fn gathered(
     ensures told { IfOk result (λ found. (known : List Variable) (flips : List Bool) (lines : List Arrow) (members : List ℕ)
         (into : Classes) → AreEndsFrom known flips members into source.now targets.now →
         AreTied known flips lines source.now targets.now →
-        IsToldRow known flips lines source.now.parent members row.now →
+        IsToldRow known flips lines source.now.root members row.now →
         AreToldSteps known flips lines source.now.stand into source.now.home.class found.items) }
 {
     let from = begin(source);
     let mut found = Vec::new(alloc);
     for i in 0..targets.len() {
-        let idle = spots.is_idle(row, known, from, i);
+        let idle = spots.is_idle(halves, row, known, from, i);
         if let Some(step) = pushed_step(row, source, &targets[i], idle, known) {
             found.push(step)?;
         }
@@ -161,7 +172,33 @@ pub(crate) fn gathered(
     Ok(found)
 }
 
-// The step that is pushed from the count of ways between the parents of ends, if it is less than what is known.
+// The least count between the parents of ends that one between their roots gives.
+fn way_of(source: &End, target: &End, rooted: u8) -> Option<u8>
+    requires { rooted < 255 }
+    ensures few { IfSome result (λ k. k < 255) }
+    ensures passed { IfSome result (λ k. IsPassedOn source.now.root_flip source.now.pointed target.now.pointed rooted
+        (sign_of source.now.parent.contra) (sign_of target.now.parent.contra) k) }
+{
+    let Some(first) = source.pointed else {
+        return if target.pointed.is_none() {
+            Some(rooted)
+        } else {
+            None
+        };
+    };
+    let second = target.pointed?;
+    let way = between(
+        source.root_flip,
+        first,
+        second,
+        rooted,
+        source.parent.contra,
+        target.parent.contra,
+    )?;
+    if way == NONE { None } else { Some(way) }
+}
+
+// The step that is pushed from the count of ways between the roots of ends, if it is less than what is known.
 fn pushed_step(row: &[u8], source: &End, target: &End, idle: bool, known: &[u8]) -> Option<Step>
     requires { IsInRows row.now source.now.home.class known.now target.now }
     ensures inside { IfSome result (λ s. s.to < length known.now) }
@@ -169,20 +206,21 @@ fn pushed_step(row: &[u8], source: &End, target: &End, idle: bool, known: &[u8])
         (into : Classes) → IsEnd known flips members into source.now → IsEnd known flips members into target.now →
         IsTold known flips lines source.now.stand source.now.child 0 →
         IsTold known flips lines target.now.child target.now.stand 0 →
-        IsToldRow known flips lines source.now.parent members row.now →
+        IsToldRow known flips lines source.now.root members row.now →
         IsTold known flips lines source.now.stand (state_at (members_of into source.now.home.class) s.to) s.count) }
 {
     if idle {
         return None;
     }
-    let way = row[target.place];
-    if way == NONE || target.home.class != source.home.class {
+    let rooted = row[target.place];
+    if rooted == NONE || target.home.class != source.home.class {
         return None;
     }
     let least = known[target.home.index];
     if least == 0 {
         return None;
     }
+    let way = way_of(source, target, rooted)?;
     let count = between(
         source.flip,
         source.letter,

@@ -1,4 +1,4 @@
-use Rattle.std.proofs.Common.{get_or, Contains, subst}
+use Rattle.std.proofs.Common.{None, get_or, Contains, subst}
 use Rattle.std.proofs.lemmas.List.Elements.{Contains-get_or}
 use Rattle.rt_rules.proofs.Lists.{Contains-none}
 use Rattle.rt_sat.proofs.gathering.ends.Goals as goal
@@ -11,7 +11,7 @@ loop-kid-init c = record {
 }
 
 pub add_kid-requires-clause-kid : goal.add_kid-requires-clause-kid
-add_kid-requires-clause-kid c = c.requires.kids (get_or c.args.kids.now c.loop-kid.kid-index (record { parent = 0; variable = 0 })) (Contains-get_or c.args.kids.now c.loop-kid.kid-index (record { parent = 0; variable = 0 }) c.loop-kid-test.true)
+add_kid-requires-clause-kid c = c.requires.kids (get_or c.args.kids.now c.loop-kid.kid-index (record { parent = 0; through = None; variable = 0 })) (Contains-get_or c.args.kids.now c.loop-kid.kid-index (record { parent = 0; through = None; variable = 0 }) c.loop-kid-test.true)
 
 pub loop-turned-preserved : goal.loop-turned-preserved
 loop-turned-preserved c = record {

@@ -29,5 +29,5 @@ returns-clause-told c = λ known flips lines are tied before.
     let members = members_of c.args.family.now c.args.class in
     let source = c.args.source.now in
     c.in_ok-found.ensures.told known flips lines members c.args.into.now are tied
-    (subst (λ s. IsToldRow known flips lines s members c.row-row.result.now) (sym are.0.parent)
+    (subst (λ s. IsToldRow known flips lines s members c.row-row.result.now) (sym are.0.root)
     (told_read known flips lines c.args.family.now c.args.class source.place c.row-row.result.now c.index.result.now c.requires.class c.requires.family.1.each c.index.ensures c.row-row.ensures.row before))

@@ -10,6 +10,6 @@ use Rattle.rt_sat.proofs.stepping.gathered.Given as goal
 abbrev pub invariant-loop-i : goal.invariant-loop-i
 invariant-loop-i l = record {
   inside : (s : Step) → Contains l.found.items s → s.to < length l.known;
-  told : (known : List Dtv) (flips : List Bool) (lines : List Edge) (members : List ℕ) (into : Family) → AreEndsFrom known flips members into l.source l.targets → AreTied known flips lines l.source l.targets → IsToldRow known flips lines l.source.parent members l.row →
+  told : (known : List Dtv) (flips : List Bool) (lines : List Edge) (members : List ℕ) (into : Family) → AreEndsFrom known flips members into l.source l.targets → AreTied known flips lines l.source l.targets → IsToldRow known flips lines l.source.root members l.row →
       AreToldSteps known flips lines l.source.stand into l.source.home.class l.found.items;
 }

@@ -6,6 +6,6 @@ pub returns-clause-told : goal.returns-clause-told
 returns-clause-told c = λ known flips lines members into from to first last told.
     let target = c.args.target.now in
     let row = c.args.row.now in
-    let way : ℕ = get_or row target.place 0 in
-    let few : way < 255 = omega (arith, c.type_inv.row target.place, c.if-way.false) in
-    end_told known flips lines members row into c.args.source.now target way c.in_ok-count.count from to first last c.if-target-source.false told c.requires.parent refl few c.in_ok-count.ensures.push
+    let rooted : ℕ = get_or row target.place 0 in
+    let few : rooted < 255 = omega (arith, c.type_inv.row target.place, c.if-rooted.false) in
+    end_told known flips lines members row into c.args.source.now target rooted c.in_ok-way.way c.in_ok-count.count from to first last c.if-target-source.false told c.requires.parent refl few c.in_ok-way.ensures.passed c.in_ok-count.ensures.push

@@ -10,15 +10,15 @@ use Rattle.rt_sat.proofs.Families.{groups_same}
 use Rattle.rt_sat.proofs.increments.GrowingTable.of.Goals as goal
 
 pub kin-requires : goal.kin-requires
-kin-requires c = (length c.deref-2.result.now, c.in_ok-enter_lines.ensures.family (length c.deref-2.result.now) c.in_ok-family.ensures.family)
+kin-requires c = (length c.deref-3.result.now, c.in_ok-enter_lines.ensures.family (length c.deref-3.result.now) c.in_ok-family.ensures.family)
 
 pub resting-requires : goal.resting-requires
-resting-requires c = (length c.deref-2.result.now, c.in_ok-enter_lines.ensures.family (length c.deref-2.result.now) c.in_ok-family.ensures.family)
+resting-requires c = (length c.deref-3.result.now, c.in_ok-enter_lines.ensures.family (length c.deref-3.result.now) c.in_ok-family.ensures.family)
 
 pub spread-requires-clause-family : goal.spread-requires-clause-family
 spread-requires-clause-family c =
-    subst (λ n. IsFamily n c.enter_lines.new.family) (ap length c.deref-2.ensures.value ∙ c.in_ok-begun.ensures.1.nodes)
-    (c.in_ok-enter_lines.ensures.family (length c.deref-2.result.now) c.in_ok-family.ensures.family)
+    subst (λ n. IsFamily n c.enter_lines.new.family) (ap length c.deref-3.ensures.value ∙ c.in_ok-begun.ensures.1.nodes)
+    (c.in_ok-enter_lines.ensures.family (length c.deref-3.result.now) c.in_ok-family.ensures.family)
 
 pub returns-clause-tells : goal.returns-clause-tells
 returns-clause-tells c =
@@ -26,12 +26,12 @@ returns-clause-tells c =
     let known : List Dtv = begun.frame.named in
     let flips : List Bool = begun.frame.flips.items in
     let first : List Edge = begun.first.items in
-    let grown : GrowingTable = record { frame = begun.frame; family = c.spread.new.family; kin = record { groups = c.in_ok-kin.kin.groups; links = c.in_ok-kin.kin.links; dead = c.in_ok-kin-2.field-0 } } in
-    let long : length c.deref-2.result.now ≡ length known = ap length c.deref-2.ensures.value ∙ c.in_ok-begun.ensures.1.nodes in
+    let grown : GrowingTable = record { frame = begun.frame; family = c.spread.new.family; kin = record { groups = c.in_ok-kin.kin.groups; links = c.in_ok-kin.kin.links; dead = c.in_ok-kin-2.field-0; halves = c.in_ok-kin.kin.halves } } in
+    let long : length c.deref-3.result.now ≡ length known = ap length c.deref-3.ensures.value ∙ c.in_ok-begun.ensures.1.nodes in
     let entered : IsToldFamily known flips first c.enter_lines.new.family =
-    c.in_ok-enter_lines.ensures.among known flips first (λ e h. subst (λ (edges : List Edge). Contains edges e) c.deref-4.ensures.value h) (c.in_ok-family.ensures.told known flips first (sym long)) in
+    c.in_ok-enter_lines.ensures.among known flips first (λ e h. subst (λ (edges : List Edge). Contains edges e) c.deref-5.ensures.value h) (c.in_ok-family.ensures.told known flips first (sym long)) in
     let linked : AreLinked known flips first c.in_ok-kin.kin.links =
-    c.in_ok-kin.ensures.linked known flips first (λ e h. subst (λ (edges : List Edge). Contains edges e) c.deref-5.ensures.value h) in
+    c.in_ok-kin.ensures.linked known flips first (λ e h. subst (λ (edges : List Edge). Contains edges e) c.deref-6.ensures.value h) in
     begun_tells c.args.lines.now c.args.extra.now c.in_ok-begun.ensures.0 begun c.in_ok-begun.ensures.1 grown refl c.in_ok-spread.ensures.family
     (groups_same c.enter_lines.new.family c.spread.new.family c.in_ok-kin.kin.groups.items c.in_ok-spread.ensures.same c.in_ok-kin.ensures.groups) linked
     (c.in_ok-spread.ensures.told first linked entered)
