@@ -1,5 +1,5 @@
 -- What a table holds after a change.
-use Rattle.std.proofs.Common.{◌≡◌, ℕ, ◌+◌, ◌<◌, ◌⊎◌, inl, inr, List, [], ◌∷◌, ◌++◌, Contains, length, set, refl, sym, subst, ap, ◌∙◌}
+use Rattle.std.proofs.Common.{◌≡◌, ℕ, ◌+◌, ◌<◌, ◌⊎◌, inl, inr, List, [], ◌∷◌, ◌++◌, Contains, length, set, refl, sym, subst, ap, ◌∙◌, arith}
 use Rattle.std.proofs.lemmas.List.Elements.{Contains-push_cases}
 use Rattle.rt_grid.specs.declared.grid.Step.{Step}
 use Rattle.rt_grid.specs.Tables.{count_at, row_of, size_of, steps_of, AreSteps, AreWays, Holds, IsBeyond, IsLowered, IsRelaxed, IsRelaxedBy, Made, Says, SaysOr, SaysWith, Table}
@@ -34,6 +34,19 @@ relaxed_table old new place row less counts e f = record {
     by : (j : ℕ) → count_at row j < 255 → (count_at row j ≡ count_at (row_of old.rows place) j) ⊎ IsBeyond old.rows (steps_of old.steps place) j (count_at row j) → Made (Says old) place j (count_at row j)
     by j known (inl same) = told (inl (subst (λ n. n < 255) same known, same))
     by j known (inr (s, c, beyond, is)) = subst (Made (Says old) place j) (sym is) (behind (told (inr c)) (told (inl (beyond, refl))))
+
+-- what is taken in from all rows but that of a place is taken in from all
+pub relaxed_but : (was : List ℕ) (rows : List (List ℕ)) (place : ℕ) (steps : List Step) (row : List ℕ) → place < length rows → IsRelaxedBy was (set rows place []) steps row → IsRelaxedBy was rows steps row
+relaxed_but was rows place steps row less counts j known = by (counts j known)
+  where
+    beyond : (s : Step) → Contains steps s → count_at (row_of (set rows place []) s.to) j < 255 → (count_at row j ≡ s.count + count_at (row_of (set rows place []) s.to) j) →
+        ((s.to ≡ place) × (row_of (set rows place []) s.to ≡ [])) ⊎ (row_of (set rows place []) s.to ≡ row_of rows s.to) → IsBeyond rows steps j (count_at row j)
+    beyond s c few is (inl (e, f)) = absurd (let h : 255 < 255 = subst (λ (r : List ℕ). count_at r j < 255) f few in omega (arith, h))
+    beyond s c few is (inr f) = (s, c, subst (λ (r : List ℕ). count_at r j < 255) f few, is ∙ ap (λ (r : List ℕ). s.count + count_at r j) f)
+
+    by : (count_at row j ≡ count_at was j) ⊎ IsBeyond (set rows place []) steps j (count_at row j) → (count_at row j ≡ count_at was j) ⊎ IsBeyond rows steps j (count_at row j)
+    by (inl e) = inl e
+    by (inr (s, c, few, is)) = inr (beyond s c few is (set_cases rows place [] [] less s.to))
 
 -- a new step from a place, with a row in which counts along it were taken in
 pub added_table : (old new : Table) (from to count : ℕ) (row : List ℕ) → from < size_of old → length old.steps ≡ size_of old → IsRelaxed (row_of old.rows from) (row_of old.rows to) count row → new.rows ≡ set old.rows from row → new.steps ≡ set old.steps from (steps_of old.steps from ++ record { to = to; count = count } ∷ []) → Holds (Made (SaysWith old from to count)) new

@@ -55,6 +55,28 @@ table_put rows steps changed seen is place row time less long =
       met = is.met ∙ same;
     }
 
+-- a table that was looked at at another time
+pub table_seen : (rows : List (List ℕ)) (steps : List (List Step)) (changed seen : List ℕ) → IsTable rows steps changed seen → (place time : ℕ) → IsTable rows steps changed (set seen place time)
+table_seen rows steps changed seen is place time = record {
+  square = is.square;
+  as_long = is.as_long;
+  inside = is.inside;
+  noted = is.noted;
+  met = length-set seen place time ∙ is.met;
+}
+
+-- a table with another row in a place
+pub table_row : (rows : List (List ℕ)) (steps : List (List Step)) (changed seen : List ℕ) → IsTable rows steps changed seen → (place : ℕ) (row : List ℕ) → place < length rows → length row ≡ length rows → IsTable (set rows place row) steps changed seen
+table_row rows steps changed seen is place row less long =
+    let same : length rows ≡ length (set rows place row) = sym (length-set rows place row) in
+    record {
+      square = square_set rows place row less long is.square;
+      as_long = is.as_long ∙ same;
+      inside = subst (λ n. AreInside n steps) same is.inside;
+      noted = is.noted ∙ same;
+      met = is.met ∙ same;
+    }
+
 -- a table with other steps from a place
 pub table_steps : (rows : List (List ℕ)) (steps : List (List Step)) (changed seen : List ℕ) → IsTable rows steps changed seen → (place : ℕ) (kept : List Step) → place < length rows → AreWithin (length rows) kept → IsTable rows (set steps place kept) changed seen
 table_steps rows steps changed seen is place kept less within = record {

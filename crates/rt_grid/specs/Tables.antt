@@ -67,6 +67,10 @@ IsChain Way = (i j k m n : ℕ) → Way i j m → Way j k n → Way i k (m + n)
 abbrev pub AreSquare : List (List ℕ) → Type 0
 AreSquare rows = (i : ℕ) → i < length rows → length (row_of rows i) ≡ length rows
 
+-- so are all but one
+abbrev pub AreSquareBut : ℕ → List (List ℕ) → Type 0
+AreSquareBut place rows = (i : ℕ) → i < length rows → (i ≡ place → ⊥) → length (row_of rows i) ≡ length rows
+
 -- steps lead to places
 abbrev pub AreWithin : ℕ → List Step → Type 0
 AreWithin size steps = (s : Step) → Contains steps s → s.to < size

@@ -1,7 +1,7 @@
 // Tables of counts, with the steps that they come from.
 ghost use Rattle.std.specs.Prelude.{◌≡◌, ◌∷◌, ◌++◌, ◌<◌, [], Contains, length, replicate, slice_set, IfOk, OnOk};
 ghost use Rattle.rt_grid.specs.declared.grid.Step.{Step as Pace};
-ghost use Rattle.rt_grid.specs.Tables.{row_of, size_of, steps_of, AreSquare, AreWays, AreWithin, Holds, IsRelaxedBy, IsRest, Made, Says, SaysOr};
+ghost use Rattle.rt_grid.specs.Tables.{row_of, size_of, steps_of, AreSquare, AreSquareBut, AreWays, AreWithin, Holds, IsRelaxedBy, IsRest, Made, Says, SaysOr};
 ghost use Rattle.rt_grid.specs.Tables.{SaysWith};
 
 use crate::pruning::pruned;
@@ -9,6 +9,7 @@ use crate::rows::{first_row, lower, relax};
 use rt_base::{Memory, Sequence};
 use std::alloc::Global;
 use std::marker::Model;
+use std::mem;
 
 /// What stands in a row where no count is known.
 pub const NONE: u8 = 255;
@@ -124,7 +125,7 @@ impl Grid {
         self.changed[place] > since
     }
 
-    /// Adds a step, if no way is known that is as short. Whether it was added. The error is out of memory.
+    /// Adds a step to another place, if no way is known that is as short. Whether it was added. The error is out of memory.
     pub fn add(&mut self, alloc: Global, from: usize, to: usize, count: u8) -> Result<bool, Memory>
         requires from { from < size_of self.old }
         requires to { to < size_of self.old }
@@ -134,10 +135,15 @@ impl Grid {
         if self.rows[from].items()[to] <= count {
             return Ok(false);
         }
-        let mut row = self.rows[from].items().to_vec(alloc)?;
-        relax(&mut row, self.rows[to].items(), count);
+        if from == to {
+            return Ok(false);
+        }
         self.push_step(from, Step { to, count })?;
-        self.put(from, row);
+        let mut row = mem::replace(&mut self.rows[from], Sequence::new(alloc)).into_vec();
+        relax(&mut row, self.rows[to].items(), count);
+        self.rows[from] = Sequence::from_vec(row);
+        self.clock = self.clock.saturating_add(1);
+        self.changed[from] = self.clock;
         Ok(true)
     }
 
@@ -149,10 +155,12 @@ impl Grid {
         ensures size { OnOk result (size_of self.new ≡ size_of self.old) }
         ensures holds { OnOk result (Holds (Made (SaysOr self.old from ways.now)) self.new) }
     {
-        let mut row = self.rows[from].items().to_vec(alloc)?;
+        let mut row = mem::replace(&mut self.rows[from], Sequence::new(alloc)).into_vec();
         let any = lower(&mut row, ways);
+        self.rows[from] = Sequence::from_vec(row);
         if any {
-            self.put(from, row);
+            self.clock = self.clock.saturating_add(1);
+            self.changed[from] = self.clock;
         }
         Ok(any)
     }
@@ -165,18 +173,6 @@ impl Grid {
         ensures steps { OnOk result (self.new.steps ≡ slice_set self.old.steps from (steps_of self.old.steps from ++ step ∷ [])) }
     {
         self.steps[from].push(step)
-    }
-
-    // Puts a row in the place of another one.
-    fn put(&mut self, place: usize, row: Vec<u8>)
-        requires place { place < size_of self.old }
-        requires row { length row.items ≡ size_of self.old }
-        ensures rows { self.new.rows ≡ slice_set self.old.rows place row.items }
-        ensures steps { self.new.steps ≡ self.old.steps }
-    {
-        self.clock = self.clock.saturating_add(1);
-        self.changed[place] = self.clock;
-        self.rows[place] = Sequence::from_vec(row);
     }
 
     /// Takes in what steps lead to, until no count is less. The error is out of memory.
@@ -225,16 +221,18 @@ impl Grid {
         }
         self.clock = self.clock.saturating_add(1);
         self.seen[place] = self.clock;
-        let mut row = self.rows[place].items().to_vec(alloc)?;
+        let mut row = mem::replace(&mut self.rows[place], Sequence::new(alloc)).into_vec();
         let any = relax_all(
             &mut row,
             &self.rows,
             self.steps[place].items(),
             &self.changed,
             last,
+            place,
         );
+        self.rows[place] = Sequence::from_vec(row);
         if any {
-            self.put(place, row);
+            self.changed[place] = self.clock;
         }
         Ok(any)
     }
@@ -322,15 +320,16 @@ fn is_due(steps: &[Step], changed: &[u64], last: u64) -> bool
     false
 }
 
-// Takes in what steps lead to whose rows changed since. Whether a count was less.
+// Takes in what steps lead to whose rows changed since, but for the row of a place. Whether a count was less.
 fn relax_all(
     row: &mut [u8],
     rows: &[Sequence<u8>],
     steps: &[Step],
     changed: &[u64],
     last: u64,
+    place: usize,
 ) -> bool
-    requires square { AreSquare rows.now }
+    requires square { AreSquareBut place rows.now }
     requires row { length row.old ≡ length rows.now }
     requires steps { AreWithin (length rows.now) steps.now }
     requires changed { length changed.now ≡ length rows.now }
@@ -339,7 +338,7 @@ fn relax_all(
 {
     let mut any = false;
     for step in steps {
-        if changed[step.to] > last {
+        if step.to != place && changed[step.to] > last {
             any |= relax(row, rows[step.to].items(), step.count);
         }
     }

@@ -70,6 +70,93 @@ fn behind(alloc: Global, group: &Group) -> Result<Sequence<u32>, Memory> {
     Ok(behind)
 }
 
+// For each node the tops of a group that it reaches along arcs, or that reach it.
+#[derive(Drop)]
+struct Reached {
+    tops: Vec<Sequence<u32>>,
+    // What one search finds.
+    found: Found,
+}
+
+impl Reached {
+    // Of so many nodes, none.
+    fn new(alloc: Global, count: usize) -> Result<Reached, Memory> {
+        let mut tops = Vec::with_capacity(alloc, count)?;
+        for _ in 0..count {
+            tops.push(Sequence::new(alloc))?;
+        }
+        let found = Found::new(alloc, count)?;
+        Ok(Reached { tops, found })
+    }
+
+    // Those of the node.
+    fn of(&self, node: u32) -> &[u32] {
+        match self.tops.get(node as usize) {
+            Some(tops) => tops.items(),
+            None => &[],
+        }
+    }
+
+    // Looks for the tops of another group, along arcs or the other way.
+    fn seek(
+        &mut self,
+        alloc: Global,
+        frame: &Frame,
+        group: &Group,
+        is_forth: bool,
+        stands: &[bool],
+    ) -> Result<(), Memory> {
+        self.clear(alloc);
+        let arcs = if is_forth { &frame.back } else { &frame.arcs };
+        let mut index: u32 = 0;
+        for top in group.tops.items() {
+            self.found.clear();
+            self.found.insert(top.node)?;
+            spread(arcs, stands, true, &mut self.found)?;
+            self.note(index)?;
+            index = index.saturating_add(1);
+        }
+        Ok(())
+    }
+
+    // Takes all away.
+    fn clear(&mut self, alloc: Global) {
+        for tops in self.tops.iter_mut() {
+            if tops.len() > 0 {
+                *tops = Sequence::new(alloc);
+            }
+        }
+    }
+
+    // Notes a top at what was found.
+    fn note(&mut self, top: u32) -> Result<(), Memory> {
+        for node in self.found.numbers() {
+            let node = *node as usize;
+            if node < self.tops.len() {
+                self.tops[node].push(top)?;
+            }
+        }
+        Ok(())
+    }
+
+    // The nodes by how many tops they have.
+    fn by_count(&self, alloc: Global, most: usize) -> Result<Vec<Sequence<u32>>, Memory> {
+        let mut nodes = Vec::with_capacity(alloc, most.saturating_add(1))?;
+        for _ in 0..most.saturating_add(1) {
+            nodes.push(Sequence::new(alloc))?;
+        }
+        let mut node: u32 = 0;
+        for tops in &self.tops {
+            let count = tops.len();
+            if count > 1 && count < nodes.len() {
+                nodes[count].push(node)?;
+            }
+            node = node.saturating_add(1);
+        }
+        Ok(nodes)
+    }
+}
+
 // Adds hubs for the other groups, as far as tops are reached from one node for which there is no hub, or made wider. Whether there
 // was one.
 pub(crate) fn widen(
@@ -80,18 +167,12 @@ pub(crate) fn widen(
     hubs: &mut Vec<Hub>,
 ) -> Result<bool, Memory> {
     let groups = groups(alloc, frame, sorts, false)?;
+    let mut reached = Reached::new(alloc, frame.arcs.len())?;
     let mut any = false;
     for number in 0..groups.len() {
         for is_forth in [false, true] {
-            if widen_group(
-                alloc,
-                frame,
-                &groups[number],
-                number,
-                is_forth,
-                stands,
-                hubs,
-            )? {
+            reached.seek(alloc, frame, &groups[number], is_forth, stands)?;
+            if widen_group(alloc, &groups[number], number, is_forth, &reached, hubs)? {
                 any = true;
             }
         }
@@ -99,86 +180,72 @@ pub(crate) fn widen(
     Ok(any)
 }
 
-// Adds hubs for a group, where its tops are reached along arcs, or the other way. Whether there was one.
+// Adds hubs for a group by what is reached, those first of which most is. Whether there was one.
 fn widen_group(
     alloc: Global,
-    frame: &Frame,
     group: &Group,
     number: usize,
     is_forth: bool,
-    stands: &[bool],
+    reached: &Reached,
     hubs: &mut Vec<Hub>,
 ) -> Result<bool, Memory> {
-    let reached = reached(alloc, frame, group, is_forth, stands)?;
-    let sets = sets(alloc, group, &reached)?;
-    let Ok(count) = u32::try_from(reached.len()) else {
-        return Err(AllocError);
-    };
+    let sets = sets(alloc, group, reached)?;
+    let nodes = reached.by_count(alloc, group.tops.len())?;
     let mut any = false;
-    for less in 0..group.tops.len().saturating_sub(1) {
-        let size = group.tops.len().saturating_sub(less);
-        for node in 0..count {
-            let tops = reached[node as usize].items();
-            if tops.len() == size && !is_covered(&sets, tops) {
-                let part = Part {
-                    group: number,
-                    node,
-                    is_forth,
-                    tops: set(alloc, group.tops.len(), tops)?,
-                };
-                if add_part(alloc, group, part, tops, hubs)? {
-                    any = true;
-                }
-            }
+    for less in 0..nodes.len() {
+        let count = nodes.len() - 1 - less;
+        if widen_by(
+            alloc,
+            group,
+            number,
+            is_forth,
+            reached,
+            &sets,
+            nodes[count].items(),
+            hubs,
+        )? {
+            any = true;
         }
     }
     Ok(any)
 }
 
-// For each node the tops that it reaches along arcs, or that reach it.
-fn reached(
+// Adds hubs for a group by some of the nodes. Whether there was one.
+fn widen_by(
     alloc: Global,
-    frame: &Frame,
     group: &Group,
+    number: usize,
     is_forth: bool,
-    stands: &[bool],
-) -> Result<Vec<Sequence<u32>>, Memory> {
-    let arcs = if is_forth { &frame.back } else { &frame.arcs };
-    let mut reached = Vec::new(alloc);
-    for _ in 0..frame.arcs.len() {
-        reached.push(Sequence::new(alloc))?;
-    }
-    let mut found = Found::new(alloc, frame.arcs.len())?;
-    let mut index: u32 = 0;
-    for top in group.tops.items() {
-        found.clear();
-        found.insert(top.node)?;
-        spread(arcs, stands, true, &mut found)?;
-        note(&found, index, &mut reached)?;
-        index = index.saturating_add(1);
-    }
-    Ok(reached)
-}
-
-// Notes a top at what was found.
-fn note(found: &Found, top: u32, reached: &mut Vec<Sequence<u32>>) -> Result<(), Memory> {
-    for node in found.numbers() {
-        let node = *node as usize;
-        if node < reached.len() {
-            reached[node].push(top)?;
+    reached: &Reached,
+    sets: &[Vec<bool>],
+    nodes: &[u32],
+    hubs: &mut Vec<Hub>,
+) -> Result<bool, Memory> {
+    let mut any = false;
+    let mut last: &[u32] = &[];
+    for node in nodes {
+        let tops = reached.of(*node);
+        if tops != last && !is_covered(sets, tops) {
+            let part = Part {
+                group: number,
+                node: *node,
+                is_forth,
+                tops: set(alloc, group.tops.len(), tops)?,
+            };
+            if add_part(alloc, group, part, tops, hubs)? {
+                any = true;
+            }
         }
+        last = tops;
     }
-    Ok(())
+    Ok(any)
 }
 
 // For each top a flag for each top that it reaches.
-fn sets(alloc: Global, group: &Group, reached: &[Sequence<u32>]) -> Result<Vec<Vec<bool>>, Memory> {
-    let mut sets = Vec::new(alloc);
+fn sets(alloc: Global, group: &Group, reached: &Reached) -> Result<Vec<Vec<bool>>, Memory> {
+    let mut sets = Vec::with_capacity(alloc, group.tops.len())?;
     for top in group.tops.items() {
-        let tops = match reached.get(top.node as usize) {
-            Some(tops) => tops.items(),
-            None => &[],
-        };
+        let tops = reached.of(top.node);
         sets.push(set(alloc, group.tops.len(), tops)?)?;
     }
     Ok(sets)

@@ -60,7 +60,12 @@ pub fn pair_ranks(
 ) -> Result<Vec<Rank>, Memory>
     ensures { IfOk result (λ ranks. ranks.items ≡ pair_ranks own.now.word (move (class_of (get nat_cmp classes.now)) other.now)) }
 {
-    let mut ranks = Vec::new(alloc);
+    let letters = own
+        .word
+        .items()
+        .len()
+        .saturating_add(other.word.items().len());
+    let mut ranks = Vec::with_capacity(alloc, letters.saturating_add(1))?;
     push_word(&mut ranks, &own.word)?;
     ranks.push(base_rank(moved(classes, other.base)))?;
     push_word(&mut ranks, &other.word)?;
@@ -71,7 +76,7 @@ pub fn pair_ranks(
 pub fn bound_ranks(alloc: Global, own: &Dtv, constant: u16) -> Result<Vec<Rank>, Memory>
     ensures { IfOk result (λ ranks. ranks.items ≡ bound_ranks own.now.word constant) }
 {
-    let mut ranks = Vec::new(alloc);
+    let mut ranks = Vec::with_capacity(alloc, own.word.items().len().saturating_add(1))?;
     push_word(&mut ranks, &own.word)?;
     ranks.push((10, u32::from(constant), 0))?;
     Ok(ranks)

@@ -33,8 +33,8 @@ use Rattle.rt_sat.specs.Closings.{AreLineEdges}
 use Rattle.rt_sat.specs.Deciding.{is_among}
 use Rattle.rt_sat.specs.declared.gathering.Kin.{Kin}
 use Rattle.rt_sat.specs.declared.links.Links.{Links}
-use Rattle.rt_sat.specs.Inside.Links.{AreLinked}
-use Rattle.rt_sat.specs.Hints.{grid_of, members_of, no_table, state_at, AreGroups, IsFamily, IsHome, IsTold, IsToldAt, IsToldFamily}
+use Rattle.rt_sat.specs.Inside.Links.{AreLinked, AreReady}
+use Rattle.rt_sat.specs.Hints.{grid_of, members_of, no_table, state_at, IsFamily, IsHome, IsTold, IsToldAt, IsToldFamily}
 use Rattle.rt_sat.specs.Increments.{named_of, Tells}
 use Rattle.rt_sat.specs.Numbered.{at_number}
 use Rattle.rt_sat.specs.Pushes.{AreSidesNamed, AreSound, IsInFrame}
@@ -122,8 +122,8 @@ told_below order lines grown tells x y i j e f told =
 
 -- what a table begins with tells what the lines do
 pub begun_tells : (lines : List Line) (extra : List Dtv) (marks : List Bool) (begun : Begun) (is : IsBegun lines extra marks begun) (grown : Grown) → grown.frame ≡ begun.frame → IsFamily (length begun.frame.named) grown.family →
-    AreGroups grown.family grown.kin.groups.items → AreLinked begun.frame.named begun.frame.flips.items begun.first.items grown.kin.links → IsToldFamily begun.frame.named begun.frame.flips.items begun.first.items grown.family → Tells lines grown
-begun_tells lines extra marks begun is grown same family groups linked told =
+    AreReady begun.frame.named begun.frame.flips.items grown.family grown.kin.links grown.kin.ready.items → AreLinked begun.frame.named begun.frame.flips.items begun.first.items grown.kin.links → IsToldFamily begun.frame.named begun.frame.flips.items begun.first.items grown.family → Tells lines grown
+begun_tells lines extra marks begun is grown same family ready linked told =
     subst (λ f. Tells lines (record { frame = f; family = grown.family; kin = grown.kin })) (sym same) (record {
       edges = begun.first.items;
       distinct = is.distinct;
@@ -132,7 +132,7 @@ begun_tells lines extra marks begun is grown same family groups linked told =
       sides = λ x y c. (side_named lines extra begun.frame.named is.is_named (Sub x y) x c (inl refl), side_named lines extra begun.frame.named is.is_named (Sub x y) y c (inr refl));
       sound = λ order. lines_sound (record { order = order; lines = lines }) begun.frame.named begun.first.items is.entered;
       family = family;
-      groups = groups;
+      ready = ready;
       linked = linked;
       told = told;
     })
@@ -176,10 +176,10 @@ module _ (order : Below) (lines more : List Line) where
 
 -- lines more, with what their edges tell
 pub tells_lines : (lines those : List Line) (old new : Grown) (edges : List Edge) → Tells lines old → ((l : Line) (x : Dtv) → Contains those l → HasSide l x → Contains (named_of old) x) → AreLineEdges those (named_of old) edges → new.frame ≡ old.frame →
-    IsFamily (length (named_of old)) new.family → new.kin ≡ old.kin → AreGroups new.family new.kin.groups.items →
+    IsFamily (length (named_of old)) new.family → new.kin ≡ old.kin → AreReady (named_of old) old.frame.flips.items new.family new.kin.links new.kin.ready.items →
     ((more : List Edge) → ((e : Edge) → Contains edges e → Contains more e) → AreLinked (named_of old) old.frame.flips.items more old.kin.links → IsToldFamily (named_of old) old.frame.flips.items more old.family → IsToldFamily (named_of old) old.frame.flips.items more new.family) →
     Tells (lines ++ those) new
-tells_lines lines those old new edges tells named are same family kin groups told =
+tells_lines lines those old new edges tells named are same family kin ready told =
     let known : List Dtv = named_of old in
     let flips : List Bool = old.frame.flips.items in
     let linked : AreLinked known flips (tells.edges ++ edges) old.kin.links = links_more known flips tells.edges (tells.edges ++ edges) (Contains-append_left tells.edges edges) old.kin.links tells.linked in
@@ -193,7 +193,7 @@ tells_lines lines those old new edges tells named are same family kin groups tol
       ]);
       sound = λ order. sound_more order lines those known tells.edges edges (tells.sound order) (lines_sound (record { order = order; lines = those }) known edges are);
       family = family;
-      groups = groups;
+      ready = ready;
       linked = subst (λ (k : Kin). AreLinked known flips (tells.edges ++ edges) k.links) (sym kin) linked;
       told = told (tells.edges ++ edges) (Contains-append_right tells.edges edges) linked (family_more known flips tells.edges (tells.edges ++ edges) (Contains-append_left tells.edges edges) old.family tells.told);
     })

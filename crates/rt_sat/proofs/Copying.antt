@@ -14,7 +14,7 @@ use Rattle.rt_sat.specs.declared.state.Edge.{Edge}
 use Rattle.rt_sat.specs.Closings.{AreLineEdges}
 use Rattle.rt_sat.specs.Hints.{grid_of, members_of, most_members, no_table, IsFamily, IsToldAt, IsToldFamily}
 use Rattle.rt_sat.specs.Increments.{AreEdgesAmong, Tells}
-use Rattle.rt_sat.proofs.Families.{groups_same}
+use Rattle.rt_sat.proofs.ToldPushes.{all_ready_same}
 
 module _ (old new : Family) (members : new.members.items ≡ old.members.items) (grids : new.grids.items ≡ old.grids.items) where
   members_at : (class : ℕ) → members_of old class ≡ members_of new class
@@ -49,7 +49,8 @@ tells_copied lines grown family members grids tells = record {
   sides = tells.sides;
   sound = tells.sound;
   family = family_copied grown.family family members grids (length grown.frame.named) tells.family;
-  groups = groups_same grown.family family grown.kin.groups.items members tells.groups;
+  ready = all_ready_same grown.frame.named grown.frame.flips.items (length grown.frame.named) grown.family family grown.kin.links grown.kin.ready.items members tells.family
+      (family_copied grown.family family members grids (length grown.frame.named) tells.family) tells.ready;
   linked = tells.linked;
   told = told_copied grown.family family members grids grown.frame.named grown.frame.flips.items tells.edges tells.told;
 }

@@ -3,7 +3,7 @@ use Rattle.std.proofs.Common.{◌≡◌, ℕ, ◌+◌, ◌*◌, ◌/◌, ◌%◌
 use Rattle.std.specs.Prelude.{nat_eq}
 use Rattle.std.specs.Bool.{beq}
 use Rattle.std.proofs.lemmas.List.{get_or_default, get_or_read}
-use Rattle.std.proofs.lemmas.List.Elements.{Contains-push_cases}
+use Rattle.std.proofs.lemmas.List.Elements.{All-weaker, Contains-push_cases}
 use Rattle.rt_lines.specs.declared.label.Label.{Label}
 use Rattle.rt_lines.specs.declared.label.Label.TheVariants.{In}
 use Rattle.rt_lines.specs.declared.label.Loc.TheVariants.{Arg}
@@ -22,11 +22,14 @@ use Rattle.rt_grid.proofs.Holding.{add_holds, holds_by, made_chain, made_ways, s
 use Rattle.rt_sat.specs.declared.family.Family.{Family}
 use Rattle.rt_sat.specs.declared.family.Home.{Home}
 use Rattle.rt_sat.specs.declared.gathering.End.{End}
+use Rattle.rt_sat.specs.declared.gathering.Ready.{Ready}
+use Rattle.rt_sat.specs.declared.links.Links.{Links}
 use Rattle.rt_sat.specs.declared.state.State.{State}
 use Rattle.rt_sat.specs.declared.state.Edge.{Edge}
 use Rattle.rt_sat.specs.Counts.{digit_of}
 use Rattle.rt_sat.specs.Deciding.{is_among}
 use Rattle.rt_sat.specs.Hints.{bit_of, grid_of, members_of, no_table, state_at, AreEnds, AreSameMembers, AreToldSteps, IsAtOrBehind, IsEnd, IsFamily, IsHome, IsPassedOn, IsTold, IsToldAt, IsToldFamily, IsToldRow}
+use Rattle.rt_sat.specs.Inside.Links.{AreReady, IsReady}
 use Rattle.rt_sat.specs.Numbered.{at_number, is_contra, sign_of, state_of}
 use Rattle.rt_sat.specs.Pushes.{flip_at, IsChildOf, PushBy}
 use Rattle.rt_sat.proofs.Closed.{child_state, named_child, parent_state, push_of, there_child}
@@ -63,6 +66,25 @@ pub ends_same : (known : List Dtv) (flips : List Bool) (members : List ℕ) (cou
 ends_same known flips members count old new ends same before after are end c =
     let is : IsEnd known flips members old end = are end c in
     record { inside = is.inside; root = is.root; root_flip = is.root_flip; parent = is.parent; child = is.child; home = home_same count old new end.stand end.home same before after is.home; flip = is.flip }
+
+-- the ends of a group stay what they are where the classes have the same members
+pub ready_same : (known : List Dtv) (flips : List Bool) (count : ℕ) (old new : Family) (links : Links) (ready : Ready) → AreSameMembers old new → IsFamily count old → IsFamily count new → IsReady known flips old links ready → IsReady known flips new links ready
+ready_same known flips count old new links ready same before after is = record {
+  class = subst (λ (xs : List (List ℕ)). ready.class < length xs) (sym same) is.class;
+  leading = (moved ready.sources.items is.leading.0, moved ready.leading.items is.leading.1);
+  others = (moved ready.sources.items is.others.0, moved ready.others.items is.others.1);
+  before = is.before;
+  ahead = is.ahead;
+  aside = is.aside;
+}
+  where
+    moved : (ends : List End) → AreEnds known flips (members_of old ready.class) old ends → AreEnds known flips (members_of new ready.class) new ends
+    moved ends are = subst (λ (xs : List (List ℕ)). AreEnds known flips (get_or xs ready.class []) new ends) (sym same) (ends_same known flips (members_of old ready.class) count old new ends same before after are)
+
+-- so do those of all groups
+pub all_ready_same : (known : List Dtv) (flips : List Bool) (count : ℕ) (old new : Family) (links : Links) (all : List Ready) → AreSameMembers old new → IsFamily count old → IsFamily count new → AreReady known flips old links all → AreReady known flips new links all
+all_ready_same known flips count old new links all same before after =
+    All-weaker (IsReady known flips old links) (IsReady known flips new links) (λ ready. ready_same known flips count old new links ready same before after) all
 
 -- what was read of ends, that stay what they are where the classes have the same members
 pub ends_kept : (known : List Dtv) (flips : List Bool) (members now : List ℕ) (count : ℕ) (old new : Family) (ends items : List End) → now ≡ members → items ≡ ends → AreSameMembers old new → IsFamily count old → IsFamily count new →

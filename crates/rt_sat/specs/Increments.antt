@@ -9,8 +9,8 @@ use Rattle.rt_sat.specs.declared.state.Edge.{Edge}
 use Rattle.rt_sat.specs.declared.increments.GrowingTable.{GrowingTable as Grown}
 use Rattle.rt_sat.specs.declared.increments.Snapshot.{Snapshot}
 use Rattle.rt_sat.specs.Closings.{AreLineEdges}
-use Rattle.rt_sat.specs.Inside.Links.{AreLinked}
-use Rattle.rt_sat.specs.Hints.{AreGroups, IsFamily, IsToldFamily}
+use Rattle.rt_sat.specs.Inside.Links.{AreLinked, AreReady}
+use Rattle.rt_sat.specs.Hints.{IsFamily, IsToldFamily}
 use Rattle.rt_sat.specs.Numbered.{AreDistinct}
 use Rattle.rt_sat.specs.Pushes.{AreSound, IsInFrame}
 
@@ -26,7 +26,7 @@ pub record Tells (lines : List Line) (grown : Grown) : Type 0 where
   pub sides : (x y : Dtv) → Contains lines (Sub x y) → Contains (named_of grown) x × Contains (named_of grown) y
   pub sound : (order : Below) → AreSound (record { order = order; lines = lines }) (named_of grown) edges
   pub family : IsFamily (length (named_of grown)) grown.family
-  pub groups : AreGroups grown.family grown.kin.groups.items
+  pub ready : AreReady (named_of grown) grown.frame.flips.items grown.family grown.kin.links grown.kin.ready.items
   pub linked : AreLinked (named_of grown) grown.frame.flips.items edges grown.kin.links
   pub told : IsToldFamily (named_of grown) grown.frame.flips.items edges grown.family
 

@@ -9,7 +9,9 @@ ghost use Rattle.rt_sat.specs.declared.family.Family.{Family as Classes};
 ghost use Rattle.rt_sat.specs.declared.gathering.End.{End as Stop};
 ghost use Rattle.rt_sat.specs.declared.state.State.{State as Place};
 ghost use Rattle.rt_sat.specs.declared.state.Edge.{Edge as Arrow};
-ghost use Rattle.rt_sat.specs.Inside.Links.{noted_at, AreBefore, AreBehind, AreEndsFrom, AreEndsOf, AreLinked, AreSources, AreTargets, AreTied};
+ghost use Rattle.rt_sat.specs.Inside.Links.{noted_at, AreBefore, AreBehind, AreEndsFrom, AreEndsOf, AreLinked, AreReady, AreSources, AreTargets, AreTied};
+ghost use Rattle.rt_sat.specs.Inside.Links.{IsReady};
+ghost use Rattle.rt_sat.specs.declared.links.Links.{Links as Ties};
 ghost use Rattle.rt_sat.specs.Hints.{grid_of, members_of, state_at, AreEnds, AreGroups, AreInClass, AreInRows, AreKids};
 ghost use Rattle.rt_sat.specs.Hints.{AreSameMembers, AreToldSteps, IsAtOrBehind, IsEnd, IsFamily, IsGroup, IsHome, IsInRows, IsTold, IsToldFamily};
 ghost use Rattle.rt_sat.specs.Hints.{IsToldRow};
@@ -32,7 +34,7 @@ use std::slice;
 const PASSES: usize = 1000;
 
 // In how many passes steps are put in before spare ones are forgotten.
-const BETWEEN: usize = 8;
+const BETWEEN: usize = 4;
 
 // A variable with a letter more than a member of a class, or than what has the letter of a pointer more than a member.
 #[derive(Clone, Copy)]
@@ -55,6 +57,19 @@ pub(crate) struct Group {
     pub(crate) kids: Sequence<Kid>,
 }
 
+// The ends of a group: those that are pushed from, and those that are pushed to, from which something leads on, and the others.
+#[derive(Drop)]
+pub(crate) struct Ready {
+    // The class of the roots.
+    pub(crate) class: usize,
+    pub(crate) sources: Vec<End>,
+    pub(crate) leading: Vec<End>,
+    pub(crate) others: Vec<End>,
+    // What is read of those that are pushed to.
+    leading_spots: Spots,
+    other_spots: Spots,
+}
+
 // What is pushed within a family.
 #[derive(Drop)]
 pub(crate) struct Kin {
@@ -62,9 +77,8 @@ pub(crate) struct Kin {
     pub(crate) groups: Vec<Group>,
     // What leads to those of them that aren't members themselves, and from them.
     pub(crate) links: Links,
-    // For each place of each class whether no edge of a line leads from there: all that leads on is pushed. Where there is no
-    // flag, one may lead. Effort alone rests on these.
-    pub(crate) dead: Vec<Vec<bool>>,
+    // The ends of groups.
+    pub(crate) ready: Vec<Ready>,
     // For each two kinds of ends of pointers what is pushed from each count. Effort alone rests on these.
     pub(crate) halves: Vec<u8>,
 }
@@ -101,45 +115,37 @@ pub(crate) struct End {
 }
 
 // Pushes within a family, until nothing is added.
-pub(crate) fn spread(
-    alloc: Global,
-    frame: &Frame,
-    kin: &Kin,
-    family: &mut Family,
-) -> Result<(), Memory>
-    requires distinct { AreDistinct frame.now.named }
-    requires family { IsFamily (length frame.now.named) family.old }
-    requires groups { AreGroups family.old kin.now.groups.items }
+pub(crate) fn spread(alloc: Global, kin: &Kin, family: &mut Family) -> Result<(), Memory>
+    requires family { (count : ℕ) × IsFamily count family.old }
+    requires ready { (known : List Variable) × (flips : List Bool) × AreReady known flips family.old kin.now.links kin.now.ready.items }
     ensures same { OnOk result (AreSameMembers family.old family.new) }
-    ensures family { OnOk result (IsFamily (length frame.now.named) family.new) }
-    ensures told { OnOk result ((lines : List Arrow) → AreLinked frame.now.named frame.now.flips.items lines kin.now.links →
-        IsToldFamily frame.now.named frame.now.flips.items lines family.old →
-        IsToldFamily frame.now.named frame.now.flips.items lines family.new) }
+    ensures family { OnOk result ((count : ℕ) → IsFamily count family.old → IsFamily count family.new) }
+    ensures told { OnOk result ((known : List Variable) (flips : List Bool) (lines : List Arrow) →
+        AreReady known flips family.old kin.now.links kin.now.ready.items → AreLinked known flips lines kin.now.links →
+        IsToldFamily known flips lines family.old → IsToldFamily known flips lines family.new) }
 {
     let due = vec![in alloc; true; family.members.len()]?;
     let since = vec![in alloc; 0u64; family.members.len()]?;
-    spread_from(alloc, frame, kin, family, due, since)
+    spread_from(alloc, kin, family, due, since)
 }
 
 // Pushes within a family from the classes that are due, until nothing is added. Of a class those rows alone are pushed that
 // changed since it was pushed from last, of which there are the clocks: no promise rests on these.
 pub(crate) fn spread_from(
     alloc: Global,
-    frame: &Frame,
     kin: &Kin,
     family: &mut Family,
     due: Vec<bool>,
     since: Vec<u64>,
 ) -> Result<(), Memory>
-    requires distinct { AreDistinct frame.now.named }
-    requires family { IsFamily (length frame.now.named) family.old }
-    requires groups { AreGroups family.old kin.now.groups.items }
+    requires family { (count : ℕ) × IsFamily count family.old }
+    requires ready { (known : List Variable) × (flips : List Bool) × AreReady known flips family.old kin.now.links kin.now.ready.items }
     requires due { length due.items ≡ length family.old.members.items }
     ensures same { OnOk result (AreSameMembers family.old family.new) }
-    ensures family { OnOk result (IsFamily (length frame.now.named) family.new) }
-    ensures told { OnOk result ((lines : List Arrow) → AreLinked frame.now.named frame.now.flips.items lines kin.now.links →
-        IsToldFamily frame.now.named frame.now.flips.items lines family.old →
-        IsToldFamily frame.now.named frame.now.flips.items lines family.new) }
+    ensures family { OnOk result ((count : ℕ) → IsFamily count family.old → IsFamily count family.new) }
+    ensures told { OnOk result ((known : List Variable) (flips : List Bool) (lines : List Arrow) →
+        AreReady known flips family.old kin.now.links kin.now.ready.items → AreLinked known flips lines kin.now.links →
+        IsToldFamily known flips lines family.old → IsToldFamily known flips lines family.new) }
 {
     let mut due = due;
     let mut since = since;
@@ -153,7 +159,7 @@ pub(crate) fn spread_from(
             &mut next,
         )?;
         let clocks = clocks(alloc, family)?;
-        push_due(alloc, frame, kin, family, &due, &since, &mut next)?;
+        push_due(alloc, kin, family, &due, &since, &mut next)?;
         if !next.contains(&true) {
             return Ok(());
         }
@@ -248,37 +254,25 @@ fn sweep_class(
 // added.
 fn push_due(
     alloc: Global,
-    frame: &Frame,
     kin: &Kin,
     family: &mut Family,
     due: &[bool],
     since: &[u64],
     next: &mut Vec<bool>,
 ) -> Result<(), Memory>
-    requires distinct { AreDistinct frame.now.named }
-    requires family { IsFamily (length frame.now.named) family.old }
-    requires groups { AreGroups family.old kin.now.groups.items }
+    requires family { (count : ℕ) × IsFamily count family.old }
+    requires ready { (known : List Variable) × (flips : List Bool) × AreReady known flips family.old kin.now.links kin.now.ready.items }
     requires next { length next.old.items ≡ length family.old.members.items }
     ensures next { OnOk result (length next.new.items ≡ length next.old.items) }
     ensures same { OnOk result (AreSameMembers family.old family.new) }
-    ensures family { OnOk result (IsFamily (length frame.now.named) family.new) }
-    ensures told { OnOk result ((lines : List Arrow) → AreLinked frame.now.named frame.now.flips.items lines kin.now.links →
-        IsToldFamily frame.now.named frame.now.flips.items lines family.old →
-        IsToldFamily frame.now.named frame.now.flips.items lines family.new) }
+    ensures family { OnOk result ((count : ℕ) → IsFamily count family.old → IsFamily count family.new) }
+    ensures told { OnOk result ((known : List Variable) (flips : List Bool) (lines : List Arrow) →
+        AreReady known flips family.old kin.now.links kin.now.ready.items → AreLinked known flips lines kin.now.links →
+        IsToldFamily known flips lines family.old → IsToldFamily known flips lines family.new) }
 {
-    for group in &kin.groups {
-        if let Some(since) = clock_of(due, since, group.class) {
-            push_group(
-                alloc,
-                frame,
-                group,
-                &kin.links,
-                &kin.dead,
-                &kin.halves,
-                family,
-                since,
-                next,
-            )?;
+    for ready in &kin.ready {
+        if let Some(since) = clock_of(due, since, ready.class) {
+            push_ready(alloc, ready, &kin.halves, family, since, next)?;
         }
     }
     Ok(())
@@ -292,28 +286,85 @@ fn clock_of(due: &[bool], since: &[u64], class: usize) -> Option<u64> {
     }
 }
 
-// Pushes from the rows of a class that changed since to the variables of a group, within its family.
-fn push_group(
+// Pushes from the rows of a group's class that changed since to its ends, within their family.
+fn push_ready(
     alloc: Global,
-    frame: &Frame,
-    group: &Group,
-    links: &Links,
-    dead: &[Vec<bool>],
+    ready: &Ready,
     halves: &[u8],
     family: &mut Family,
     since: u64,
     next: &mut Vec<bool>,
 ) -> Result<(), Memory>
-    requires distinct { AreDistinct frame.now.named }
-    requires family { IsFamily (length frame.now.named) family.old }
-    requires group { IsGroup family.old group.now }
+    requires family { (count : ℕ) × IsFamily count family.old }
+    requires ready { (known : List Variable) × (flips : List Bool) × (links : Ties) × IsReady known flips family.old links ready.now }
     requires next { length next.old.items ≡ length family.old.members.items }
     ensures next { OnOk result (length next.new.items ≡ length next.old.items) }
     ensures same { OnOk result (AreSameMembers family.old family.new) }
-    ensures family { OnOk result (IsFamily (length frame.now.named) family.new) }
-    ensures told { OnOk result ((lines : List Arrow) → AreLinked frame.now.named frame.now.flips.items lines links.now →
-        IsToldFamily frame.now.named frame.now.flips.items lines family.old →
-        IsToldFamily frame.now.named frame.now.flips.items lines family.new) }
+    ensures family { OnOk result ((count : ℕ) → IsFamily count family.old → IsFamily count family.new) }
+    ensures told { OnOk result ((known : List Variable) (flips : List Bool) (links : Ties) (lines : List Arrow) →
+        IsReady known flips family.old links ready.now → AreLinked known flips lines links →
+        IsToldFamily known flips lines family.old → IsToldFamily known flips lines family.new) }
+{
+    push_ends(
+        alloc,
+        &ready.sources,
+        &ready.leading,
+        &ready.leading_spots,
+        halves,
+        family,
+        ready.class,
+        since,
+        next,
+    )?;
+    push_ends(
+        alloc,
+        &ready.sources,
+        &ready.others,
+        &ready.other_spots,
+        halves,
+        family,
+        ready.class,
+        since,
+        next,
+    )?;
+    Ok(())
+}
+
+// The ends of groups.
+pub(crate) fn readied(
+    alloc: Global,
+    frame: &Frame,
+    groups: &[Group],
+    links: &Links,
+    dead: &[Vec<bool>],
+    family: &Family,
+) -> Result<Vec<Ready>, Memory>
+    requires distinct { AreDistinct frame.now.named }
+    requires family { (count : ℕ) × IsFamily count family.now }
+    requires groups { AreGroups family.now groups.now }
+    ensures { IfOk result (λ all. AreReady frame.now.named frame.now.flips.items family.now links.now all.items) }
+{
+    let mut all = Vec::with_capacity(alloc, groups.len())?;
+    for group in groups {
+        let ready = ready_of(alloc, frame, group, links, dead, family)?;
+        all.push(ready)?;
+    }
+    Ok(all)
+}
+
+// The ends of a group.
+fn ready_of(
+    alloc: Global,
+    frame: &Frame,
+    group: &Group,
+    links: &Links,
+    dead: &[Vec<bool>],
+    family: &Family,
+) -> Result<Ready, Memory>
+    requires distinct { AreDistinct frame.now.named }
+    requires family { (count : ℕ) × IsFamily count family.now }
+    requires group { IsGroup family.now group.now }
+    ensures { IfOk result (λ ready. IsReady frame.now.named frame.now.flips.items family.now links.now ready) }
 {
     let members = family.members[group.class].items();
     let kids = group.kids.items();
@@ -321,27 +372,16 @@ fn push_group(
     let targets = ends(alloc, frame, members, kids, &links.behind, dead, family)?;
     let leading = those(alloc, &targets, true)?;
     let others = those(alloc, &targets, false)?;
-    push_ends(
-        alloc,
-        &sources,
-        &leading,
-        halves,
-        family,
-        group.class,
-        since,
-        next,
-    )?;
-    push_ends(
-        alloc,
-        &sources,
-        &others,
-        halves,
-        family,
-        group.class,
-        since,
-        next,
-    )?;
-    Ok(())
+    let leading_spots = Spots::of(alloc, &leading)?;
+    let other_spots = Spots::of(alloc, &others)?;
+    Ok(Ready {
+        class: group.class,
+        sources,
+        leading,
+        others,
+        leading_spots,
+        other_spots,
+    })
 }
 
 // The ends from which something leads on, or the others.
@@ -363,6 +403,7 @@ fn push_ends(
     alloc: Global,
     sources: &[End],
     targets: &[End],
+    spots: &Spots,
     halves: &[u8],
     family: &mut Family,
     class: usize,
@@ -382,10 +423,9 @@ fn push_ends(
         AreSources known flips lines sources.now → AreTargets known flips lines targets.now →
         IsToldFamily known flips lines family.old → IsToldFamily known flips lines family.new) }
 {
-    let spots = Spots::of(alloc, targets)?;
     for source in sources {
         if family.grids[class].has_changed(source.place, since) {
-            push_within(alloc, targets, &spots, halves, source, family, class, next)?;
+            push_within(alloc, targets, spots, halves, source, family, class, next)?;
         }
     }
     Ok(())

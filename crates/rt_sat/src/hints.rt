@@ -14,7 +14,7 @@ ghost use Rattle.rt_sat.specs.Numbered.{AreDistinct, AreWithin};
 
 use crate::count::Count;
 use crate::family::{Family, Home, class_count};
-use crate::gathering::{Group, Kid, Kin, push_apart, spread};
+use crate::gathering::{Group, Kid, Kin, push_apart, readied, spread};
 use crate::links::Links;
 use crate::passing::without_passing;
 use crate::pushing::{Frame, flag, is_pointer, numbers_at};
@@ -67,8 +67,9 @@ pub(crate) fn hints(alloc: Global, frame: &Frame, lines: &[Edge]) -> Result<Hint
     let mut family = Family::of(alloc, &frame.nodes, &used)?;
     enter_lines(alloc, &mut family, lines)?;
     let mut kin = kin(alloc, frame, lines, &family)?;
-    kin.dead = dead(alloc, frame, &family, &kin.links)?;
-    spread(alloc, frame, &kin, &mut family)?;
+    let dead = dead(alloc, frame, &family, &kin.links)?;
+    kin.ready = readied(alloc, frame, &kin.groups, &kin.links, &dead, &family)?;
+    spread(alloc, &kin, &mut family)?;
     let edges = pushed(alloc, frame, &kin.groups, &kin.halves, &family)?;
     Ok(Hinted {
         edges,
@@ -133,7 +134,7 @@ pub(crate) fn kin(
     Ok(Kin {
         groups,
         links,
-        dead: Vec::new(alloc),
+        ready: Vec::new(alloc),
         halves: halves(alloc)?,
     })
 }

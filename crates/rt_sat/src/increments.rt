@@ -2,9 +2,8 @@
 ghost use Rattle.std.specs.Prelude.{◌≡◌, ◌++◌, ℕ, Bool, List, Contains, Some, true, length, slice_get, IfOk, OnOk};
 ghost use Rattle.rt_sat.specs.declared.increments.Snapshot.{Snapshot as Earlier};
 ghost use Rattle.rt_sat.specs.declared.state.Edge.{Edge as Arrow};
-ghost use Rattle.rt_sat.specs.Inside.Links.{AreLinked};
-ghost use Rattle.rt_sat.specs.Hints.{AreGroups, AreSameMembers, IsFamily, IsTold, IsToldFamily};
-ghost use Rattle.rt_sat.specs.Numbered.{AreDistinct};
+ghost use Rattle.rt_sat.specs.Inside.Links.{AreLinked, AreReady};
+ghost use Rattle.rt_sat.specs.Hints.{AreSameMembers, IsFamily, IsTold, IsToldFamily};
 ghost use Rattle.rt_lines.specs.declared.line.Line.{Line as Given};
 ghost use Rattle.rt_lines.specs.declared.line.Line.TheVariants.{Sub as Subtype};
 ghost use Rattle.rt_lines.specs.Orders.{Below};
@@ -17,7 +16,7 @@ ghost use Rattle.rt_sat.specs.Tables.{place, AreThere};
 
 use crate::entering::{enter_line, line_edges};
 use crate::family::Family;
-use crate::gathering::{Kin, clocks, spread, spread_from};
+use crate::gathering::{Kin, clocks, readied, spread, spread_from};
 use crate::hints::{dead, enter_lines, inner, kin, revive, set};
 use crate::links::Links;
 use crate::passing::without_passing;
@@ -67,8 +66,9 @@ impl GrowingTable {
         let mut family = Family::of(alloc, &frame.nodes, &used)?;
         enter_lines(alloc, &mut family, &first)?;
         let mut kin = kin(alloc, &frame, &first, &family)?;
-        kin.dead = resting(alloc, &frame, &family, &kin.links, extra)?;
-        spread(alloc, &frame, &kin, &mut family)?;
+        let dead = resting(alloc, &frame, &family, &kin.links, extra)?;
+        kin.ready = readied(alloc, &frame, &kin.groups, &kin.links, &dead, &family)?;
+        spread(alloc, &kin, &mut family)?;
         Ok(GrowingTable { frame, family, kin })
     }
 
@@ -109,7 +109,7 @@ impl GrowingTable {
             return Ok(());
         }
         let edges = line_edges(alloc, &self.frame.named, slice::from_ref(line))?;
-        enter(alloc, &self.frame, &self.kin, &mut self.family, &edges)?;
+        enter(alloc, &self.kin, &mut self.family, &edges)?;
         Ok(())
     }
 
@@ -171,7 +171,7 @@ impl GrowingTable {
     {
         let edges = self.edges_of(alloc, lines)?;
         let mut family = snapshot.family.copy(alloc)?;
-        enter(alloc, &self.frame, &self.kin, &mut family, &edges)?;
+        enter(alloc, &self.kin, &mut family, &edges)?;
         Ok(Snapshot { family })
     }
 
@@ -208,27 +208,20 @@ fn has_way(family: &Family, from: State, to: State) -> bool
 }
 
 // Adds to a family what edges of lines, and what is pushed from ways along them, say.
-fn enter(
-    alloc: Global,
-    frame: &Frame,
-    kin: &Kin,
-    family: &mut Family,
-    edges: &[Edge],
-) -> Result<(), Memory>
-    requires distinct { AreDistinct frame.now.named }
-    requires family { IsFamily (length frame.now.named) family.old }
-    requires groups { AreGroups family.old kin.now.groups.items }
+fn enter(alloc: Global, kin: &Kin, family: &mut Family, edges: &[Edge]) -> Result<(), Memory>
+    requires family { (count : ℕ) × IsFamily count family.old }
+    requires ready { (known : List Variable) × (flips : List Bool) × AreReady known flips family.old kin.now.links kin.now.ready.items }
     ensures same { OnOk result (AreSameMembers family.old family.new) }
-    ensures family { OnOk result (IsFamily (length frame.now.named) family.new) }
-    ensures told { OnOk result ((lines : List Arrow) → ((e : Arrow) → Contains edges.now e → Contains lines e) →
-        AreLinked frame.now.named frame.now.flips.items lines kin.now.links →
-        IsToldFamily frame.now.named frame.now.flips.items lines family.old →
-        IsToldFamily frame.now.named frame.now.flips.items lines family.new) }
+    ensures family { OnOk result ((count : ℕ) → IsFamily count family.old → IsFamily count family.new) }
+    ensures told { OnOk result ((known : List Variable) (flips : List Bool) (lines : List Arrow) →
+        ((e : Arrow) → Contains edges.now e → Contains lines e) →
+        AreReady known flips family.old kin.now.links kin.now.ready.items → AreLinked known flips lines kin.now.links →
+        IsToldFamily known flips lines family.old → IsToldFamily known flips lines family.new) }
 {
     let since = clocks(alloc, family)?;
     enter_lines(alloc, family, edges)?;
     let due = due(alloc, family, edges)?;
-    spread_from(alloc, frame, kin, family, due, since)
+    spread_from(alloc, kin, family, due, since)
 }
 
 // A flag for each class, set for those of the edges' starts.

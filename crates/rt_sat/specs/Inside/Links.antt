@@ -1,13 +1,14 @@
 -- What is told of ways to states and from them, from and to others that are noted at them.
-use Rattle.std.specs.Prelude.{ℕ, ◌+◌, ◌*◌, List, [], Bool, Contains, slice_index_or}
+use Rattle.std.specs.Prelude.{ℕ, ◌+◌, ◌*◌, ◌<◌, List, [], All, Bool, Contains, length, slice_index_or}
 use Rattle.rt_lines.specs.declared.variable.Dtv.{Dtv}
 use Rattle.rt_sat.specs.declared.gathering.End.{End}
+use Rattle.rt_sat.specs.declared.gathering.Ready.{Ready}
 use Rattle.rt_sat.specs.declared.links.Links.{Links}
 use Rattle.rt_sat.specs.declared.state.Edge.{Edge}
 use Rattle.rt_sat.specs.declared.state.State.{State}
 use Rattle.rt_sat.specs.Counts.{digit_of}
 use Rattle.rt_sat.specs.declared.family.Family.{Family}
-use Rattle.rt_sat.specs.Hints.{AreEnds, IsEnd, IsTold}
+use Rattle.rt_sat.specs.Hints.{members_of, AreEnds, IsEnd, IsTold}
 
 -- a number for a state: two for each variable
 abbrev pub number_of : State → ℕ
@@ -49,3 +50,16 @@ AreEndsFrom known flips members into source targets = IsEnd known flips members 
 -- a way of count nought is told from where the one stands to its child, and such ways from the others' children to where they stand
 abbrev pub AreTied : List Dtv → List Bool → List Edge → End → List End → Type 0
 AreTied known flips lines source targets = IsTold known flips lines source.stand source.child 0 × AreTargets known flips lines targets
+
+-- the ends of a group of a class, which have what links tell
+pub record IsReady (known : List Dtv) (flips : List Bool) (family : Family) (links : Links) (ready : Ready) : Type 0 where
+  pub class : ready.class < length family.members.items
+  pub leading : AreEndsOf known flips (members_of family ready.class) family ready.sources.items ready.leading.items
+  pub others : AreEndsOf known flips (members_of family ready.class) family ready.sources.items ready.others.items
+  pub before : (lines : List Edge) → AreLinked known flips lines links → AreSources known flips lines ready.sources.items
+  pub ahead : (lines : List Edge) → AreLinked known flips lines links → AreTargets known flips lines ready.leading.items
+  pub aside : (lines : List Edge) → AreLinked known flips lines links → AreTargets known flips lines ready.others.items
+
+-- so have those of all groups
+abbrev pub AreReady : List Dtv → List Bool → Family → Links → List Ready → Type 0
+AreReady known flips family links all = All (IsReady known flips family links) all

@@ -4,7 +4,7 @@ use Rattle.rt_grid.specs.declared.grid.Step.{Step}
 use Rattle.rt_grid.specs.Tables.{row_of, IsRelaxedBy}
 use Rattle.rt_grid.proofs.Changing.{relaxed_more}
 use Rattle.rt_grid.proofs.Writing.{list_read, read_within}
-use Rattle.rt_grid.proofs.grid.relax_all.Goals.{then-changed-step, else-changed-step}
+use Rattle.rt_grid.proofs.grid.relax_all.Goals.{then-step-place+then-changed-step, else-step-place}
 use Rattle.rt_grid.proofs.grid.relax_all.Goals as goal
 
 pub bounds-changed-step : goal.bounds-changed-step
@@ -23,7 +23,7 @@ relax-any-requires c =
     let s : Step = get_or c.args.steps.now c.loop-step.step-index (record { to = 0; count = 0 }) in
     let within = read_within (length rows) c.args.steps.now c.loop-step.step-index c.requires.steps c.loop-step-test.true in
     let is : c.items.result.now ≡ row_of rows s.to = list_read rows rows s.to c.items.result.now c.index-rows-step.result refl within c.items.ensures c.index-rows-step.is in
-    ap length is ∙ c.requires.square s.to within ∙ sym c.requires.row ∙ sym c.loop-step.invariant.each
+    ap length is ∙ c.requires.square s.to within c.if-step-place.true ∙ sym c.requires.row ∙ sym c.loop-step.invariant.each
 
 pub loop-step-preserved : goal.loop-step-preserved
 loop-step-preserved c =
@@ -33,12 +33,12 @@ loop-step-preserved c =
     let s : Step = get_or c.args.steps.now c.loop-step.step-index (record { to = 0; count = 0 }) in
     let within = read_within (length rows) steps i c.requires.steps c.loop-step-test.true in
     record {
-      each = c.if-changed-step.auto.row ∙ c.loop-step.invariant.each;
-      counts = elim c.if-changed-step.branch [
-        | then-changed-step w ↦
+      each = c.if-step-place.auto.row ∙ c.loop-step.invariant.each;
+      counts = elim c.if-step-place.branch [
+        | then-step-place+then-changed-step w ↦
             let is : w.items.result.now ≡ row_of rows s.to = list_read rows rows s.to w.items.result.now w.index-rows-step.result refl within w.items.ensures w.index-rows-step.is in
             subst (IsRelaxedBy c.args.row.now rows steps) (sym w.row-is)
             (relaxed_more c.args.row.now c.loop-step.row w.relax-any.new.row rows steps s w.items.result.now (Contains-get_or steps i (record { to = 0; count = 0 }) c.loop-step-test.true) is c.loop-step.invariant.counts w.relax-any.ensures.counts)
-        | else-changed-step w ↦ subst (IsRelaxedBy c.args.row.now rows steps) (sym w.row-is) c.loop-step.invariant.counts
+        | else-step-place w ↦ subst (IsRelaxedBy c.args.row.now rows steps) (sym w.row-is) c.loop-step.invariant.counts
       ];
     }

@@ -1,13 +1,14 @@
-use Rattle.std.proofs.Common.{◌≡◌, List, length}
+use Rattle.std.proofs.Common.{◌≡◌, ℕ, Bool, List, length}
+use Rattle.rt_lines.specs.declared.variable.Dtv.{Dtv}
 use Rattle.rt_sat.specs.declared.state.Edge.{Edge}
-use Rattle.rt_sat.specs.Inside.Links.{AreLinked}
+use Rattle.rt_sat.specs.Inside.Links.{AreLinked, AreReady}
 use Rattle.rt_sat.specs.Hints.{AreSameMembers, IsFamily, IsToldFamily}
 use Rattle.rt_sat.proofs.gathering.spread_from.Given as goal
 
 abbrev pub invariant-loop-pass : goal.invariant-loop-pass
 invariant-loop-pass l = record {
   same : AreSameMembers l.fn.family l.family;
-  family : IsFamily (length l.frame.named) l.family;
-  told : (lines : List Edge) → AreLinked l.frame.named l.frame.flips.items lines l.kin.links → IsToldFamily l.frame.named l.frame.flips.items lines l.fn.family → IsToldFamily l.frame.named l.frame.flips.items lines l.family;
+  family : (count : ℕ) → IsFamily count l.fn.family → IsFamily count l.family;
+  told : (known : List Dtv) (flips : List Bool) (lines : List Edge) → AreReady known flips l.fn.family l.kin.links l.kin.ready.items → AreLinked known flips lines l.kin.links → IsToldFamily known flips lines l.fn.family → IsToldFamily known flips lines l.family;
   due : length l.due.items ≡ length l.fn.family.members.items;
 }

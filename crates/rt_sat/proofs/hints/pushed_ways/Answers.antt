@@ -1,6 +1,4 @@
-use Rattle.std.proofs.Common.{◌<◌, ◌≡◌, [], List, Contains, length, subst, sym, ap, ◌∙◌}
-use Rattle.std.proofs.lemmas.List.{get_or_default}
-use Rattle.rt_sat.specs.declared.gathering.Kid.{Kid}
+use Rattle.std.proofs.Common.{◌≡◌, length, subst, sym, ap, ◌∙◌}
 use Rattle.std.proofs.lemmas.List.Elements.{All-get_or}
 use Rattle.rt_sat.specs.Hints.{IsFamily, IsGroup}
 use Rattle.rt_sat.proofs.hints.pushed_ways.Goals as goal

@@ -1,4 +1,4 @@
-use Rattle.std.proofs.Common.{◌≡◌, ◌∷◌, [], All, Contains, List, true, refl, subst, sym, ◌∙◌, arith}
+use Rattle.std.proofs.Common.{◌≡◌, ◌∷◌, [], All, Contains, List, refl, subst, sym, ◌∙◌, arith}
 use Rattle.std.proofs.lemmas.Grind.{common_steps}
 use Rattle.rt_lines.specs.Lines.{HasConstantsBelow}
 use Rattle.rt_outline.specs.declared.bounds.Bound.{Bound}

@@ -1,5 +1,4 @@
-use Rattle.std.proofs.Common.{rules, ◌≡◌, ◌++◌, length, subst}
-use Rattle.std.proofs.lemmas.Grind.{common_steps}
+use Rattle.std.proofs.Common.{rules, subst}
 use Rattle.rt_sat.specs.declared.layers.Layers.{Layers}
 use Rattle.rt_sat.specs.Searches.{IsIndexed}
 use Rattle.rt_sat.proofs.Indices.{layers_new}
