@@ -1,18 +1,17 @@
 -- Which numbered variables lie below each other, by a table.
-use Rattle.std.proofs.Common.{◌≡◌, ℕ, zero, ◌+◌, ◌<◌, Bool, true, false, List, [], length, Contains, sym, ap, subst, refl, ◌∙◌, arith}
+use Rattle.std.proofs.Common.{◌≡◌, ℕ, ◌+◌, ◌<◌, Bool, true, false, List, [], length, Contains, sym, ap, subst, refl, ◌∙◌, arith}
 use Rattle.std.specs.Prelude.{◌↔◌}
 use Rattle.rt_lines.specs.declared.variable.Dtv.{Dtv}
 use Rattle.rt_lines.specs.declared.line.Line.{Line}
 use Rattle.rt_lines.specs.declared.line.Line.TheVariants.{Sub}
 use Rattle.rt_lines.specs.Orders.{Below}
 use Rattle.rt_rules.specs.Rules.{Derivable}
-use Rattle.rt_components.specs.Groups.{AreTogether, Reaches}
+use Rattle.rt_components.specs.Groups.{Reaches}
 use Rattle.rt_components.specs.Groups.Reaches.{there, onward}
 use Rattle.rt_bridge.specs.Growing.{Given}
 use Rattle.rt_bridge.specs.Counted.{differ, IsEven}
 use Rattle.rt_bridge.specs.Laws.{Named}
 use Rattle.rt_bridge.proofs.Bridges.{bridge_even}
-use Rattle.rt_named.specs.Naming.{named}
 use Rattle.rt_sat.specs.declared.state.State.{State}
 use Rattle.rt_sat.specs.declared.state.Edge.{Edge}
 use Rattle.rt_sat.specs.Deciding.{is_among}
@@ -23,9 +22,9 @@ use Rattle.rt_sat.specs.Searches.Walk.{stays, turns, steps}
 use Rattle.rt_sat.specs.Tables.{IsTableOf, place}
 use Rattle.rt_sat.proofs.Below as below
 use Rattle.rt_sat.proofs.Closings.{lines_sound}
-use Rattle.rt_equals.specs.Comparing.{AreEqual, AreEquals}
+use Rattle.rt_equals.specs.Comparing.{AreEquals}
 use Rattle.rt_outline.specs.Together.{AreTogetherBy, HasPair}
-use Rattle.rt_equals.specs.Plain.{ArePlainPairs, HasPlain, IsPlain}
+use Rattle.rt_equals.specs.Plain.{ArePlainPairs, HasPlain}
 use Rattle.rt_components.proofs.Reaching.{reaches_by}
 
 -- an edge of count nought keeps the sign

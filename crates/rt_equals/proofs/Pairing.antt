@@ -1,8 +1,7 @@
 -- Pairs that edges of count nought lead between, one by one.
-use Rattle.std.proofs.Common.{◌≡◌, ℕ, ◌⊎◌, inl, inr, List, [], ◌∷◌, ◌++◌, Contains, refl, sym, ap, subst, ◌∙◌}
+use Rattle.std.proofs.Common.{◌≡◌, ℕ, inl, inr, List, [], ◌∷◌, ◌++◌, Contains, sym, ap, subst, ◌∙◌}
 use Rattle.std.proofs.lemmas.List.Elements.{Contains-append_left, Contains-push, Contains-push_cases}
 use Rattle.rt_base.proofs.Lists.{Contains-none}
-use Rattle.rt_components.specs.Groups.{Reaches}
 use Rattle.rt_sat.specs.declared.state.Edge.{Edge}
 use Rattle.rt_equals.specs.Plain.{ArePlainPairs, HasPlain, IsPlain}
 

@@ -53,11 +53,12 @@ impl Comparison {
     }
 
     /// A number for each variable; another one has that of an existential exactly where each of the two lies below the
-    /// other by the lines. The error is out of memory.
-    pub fn equals(&self, alloc: Global) -> Result<Vec<usize>, Memory>
+    /// other by the lines, of which arcs from outside are given. The error is out of memory.
+    pub fn equals(&self, alloc: Global, outer: &Upper) -> Result<Vec<usize>, Memory>
+        requires { outer.now ≡ record { lines = self.now.lines; named = named_by self.now.lines [] } }
         ensures { IfOk result (λ numbers. AreEquals self.now.lines self.now.named numbers.items) }
     {
-        match outlined(alloc, &self.named, &self.lines)? {
+        match outlined(alloc, &self.named, &self.lines, outer)? {
             Some(numbers) => Ok(numbers),
             None => {
                 let numbers = counted(alloc, &self.lines)?;
@@ -68,11 +69,17 @@ impl Comparison {
 }
 
 // Such numbers, where arcs from outside, and arcs from inside or a table of ways, say the same of existentials.
-fn outlined(alloc: Global, named: &Named, lines: &[Line]) -> Result<Option<Vec<usize>>, Memory>
-    requires { named.now ≡ named_by lines.now [] }
+fn outlined(
+    alloc: Global,
+    named: &Named,
+    lines: &[Line],
+    outer: &Upper,
+) -> Result<Option<Vec<usize>>, Memory>
+    requires named { named.now ≡ named_by lines.now [] }
+    requires outer { outer.now ≡ record { lines = lines.now; named = named_by lines.now [] } }
     ensures { IfOk result (λ found. IfSome found (λ numbers. AreEquals lines.now named.now numbers.items)) }
 {
-    let outer = outer_classes(alloc, lines)?;
+    let outer = outer_classes(alloc, lines, outer)?;
     if are_exact(alloc, named, lines, &outer)? {
         return Ok(Some(outer.numbers));
     }
@@ -80,11 +87,11 @@ fn outlined(alloc: Global, named: &Named, lines: &[Line]) -> Result<Option<Vec<u
 }
 
 // Classes by arcs from outside.
-fn outer_classes(alloc: Global, lines: &[Line]) -> Result<Classes, Memory>
+fn outer_classes(alloc: Global, lines: &[Line], outer: &Upper) -> Result<Classes, Memory>
+    requires { outer.now ≡ record { lines = lines.now; named = named_by lines.now [] } }
     ensures { IfOk result (λ classes. AreOuterEquals lines.now (named_by lines.now []) classes.count classes.numbers.items) }
 {
-    let upper = Upper::of(alloc, lines, &[])?;
-    let classes = upper.equals(alloc)?;
+    let classes = outer.equals(alloc)?;
     Ok(classes)
 }
 

@@ -9,6 +9,7 @@ pub mod Swept
 pub mod Sought
 pub mod Closed
 pub mod Standing
+pub mod Flowing
 pub mod Joining
 pub mod Paired
 pub mod Equals
@@ -24,3 +25,4 @@ pub mod Bounded
 pub mod Sided
 pub mod Told
 pub mod Stepping
+pub mod Listing

@@ -5,3 +5,4 @@ pub mod Resting
 pub mod Bounds
 pub mod Sides
 pub mod Stepping
+pub mod Beside

@@ -1,8 +1,8 @@
 -- Arcs of lines between the numbers of variables.
-use Rattle.std.specs.Prelude.{◌≡◌, ℕ, ◌<◌, List, [], ◌∷◌, Contains, Bool, cond, Some, slice_get}
+use Rattle.std.specs.Prelude.{◌≡◌, ◌↔◌, ℕ, ◌<◌, List, [], ◌∷◌, Contains, Bool, cond, Some, slice_get}
 use Rattle.rt_lines.specs.declared.variable.Dtv.{Dtv}
 use Rattle.rt_lines.specs.declared.line.Line.{Line}
-use Rattle.rt_lines.specs.declared.line.Line.TheVariants.{Sub}
+use Rattle.rt_lines.specs.declared.line.Line.TheVariants.{Low, Sub, Up}
 use Rattle.rt_lines.specs.Orders.{Below}
 use Rattle.rt_rules.specs.Rules.{Derivable}
 use Rattle.rt_outline.specs.declared.arc.Arc.{Arc}
@@ -30,6 +30,13 @@ pub record AreLineArcs (lines : List Line) (count : ℕ) (named : List Dtv) (arc
   pub all : (i : ℕ) (x y : Dtv) → i < count → slice_get lines i ≡ Some (Sub x y) →
       (v : ℕ) × (w : ℕ) × IsNumber named v x × IsNumber named w y × HasArc arcs v w (Some i)
   pub only : (v w i : ℕ) → HasArc arcs v w (Some i) → IsLineArc lines named v w i
+
+-- lines that have the same `<=` lines and bounds at the same indices, and of the rest none but these
+pub record HaveSameFlow (lines others : List Line) : Type 0 where
+  pub subtypes : (i : ℕ) (x y : Dtv) → (slice_get lines i ≡ Some (Sub x y)) ↔ (slice_get others i ≡ Some (Sub x y))
+  pub lows : (i k : ℕ) (x : Dtv) → (slice_get lines i ≡ Some (Low k x)) ↔ (slice_get others i ≡ Some (Low k x))
+  pub ups : (i k : ℕ) (x : Dtv) → (slice_get lines i ≡ Some (Up x k)) ↔ (slice_get others i ≡ Some (Up x k))
+  pub rest : (l : Line) → Contains others l → Contains lines l
 
 -- the lines whose flags are set
 abbrev pub standing : List Line → List Bool → List Line

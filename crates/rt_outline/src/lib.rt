@@ -6,6 +6,7 @@
 mod accessing;
 mod adding;
 mod arc;
+mod beside;
 mod bounds;
 mod classes;
 mod closing;

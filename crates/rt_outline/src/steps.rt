@@ -1,5 +1,5 @@
 // Which node is made of which with a letter.
-ghost use Rattle.std.specs.Prelude.{◌≡◌, ◌<◌, ℕ, [], Some, OnOk, false, length, slice_index_or};
+ghost use Rattle.std.specs.Prelude.{◌≡◌, ◌<◌, ℕ, [], Some, OnOk, length, slice_index_or};
 ghost use Rattle.rt_lines.specs.declared.label.Label.{Label as Letter};
 ghost use Rattle.rt_outline.specs.Frames.{IsSetAt, step_of};
 ghost use Rattle.rt_outline.specs.Inside.Stepping.{group_of, place_of};
@@ -13,24 +13,25 @@ use std::marker::Model;
 // How many groups of letters there are.
 const GROUPS: usize = 64;
 
-// From which node a letter leads to which, with flags that tell soon where none does.
+// From which node a letter leads to which, with hints that tell soon where none does, and where to look first.
 #[derive(Drop)]
 pub(crate) struct Steps {
     nodes: IndexMap<(u32, Label), u32>,
-    // For each node a flag for each group of letters, set where a letter of the group leads on.
-    flags: Vec<bool>,
+    // For each node a hint for each group of letters: zero where no letter of the group leads on, else one more than the
+    // index of the entry that was noted last for the group. It may lead to another entry, so the entry's key is compared.
+    hints: Vec<u32>,
 }
 
 impl Model for Steps {
     ghost use Rattle.std.specs.Prelude.{List, ℕ};
     ghost use Rattle.rt_lines.specs.declared.label.Label.{Label as Letter};
-    ghost use Rattle.rt_outline.specs.Inside.Stepping.{AreMarked};
+    ghost use Rattle.rt_outline.specs.Inside.Stepping.{AreHinted};
 
     ghost Value = { List ((ℕ × Letter) × ℕ) };
 
     ghost view = { λ s. s.nodes.entries };
 
-    ghost invariant = { λ s. AreMarked s.flags.items s.nodes.entries };
+    ghost invariant = { λ s. AreHinted s.hints.items s.nodes.entries };
 }
 
 impl Steps {
@@ -40,7 +41,7 @@ impl Steps {
     {
         Steps {
             nodes: IndexMap::new(alloc),
-            flags: Vec::new(alloc),
+            hints: Vec::new(alloc),
         }
     }
 
@@ -48,9 +49,19 @@ impl Steps {
     pub(crate) fn get(&self, node: u32, label: Label) -> Option<u32>
         ensures { result ≡ step_of self.now node label }
     {
-        match self.flags.get(place(node, label)) {
-            Some(true) => self.nodes.get(&(node, label)).copied(),
+        match self.hints.get(place(node, label)) {
+            Some(hint) if *hint > 0 => self.find(node, label, *hint as usize - 1),
             _ => None,
+        }
+    }
+
+    // The same, looked for first in the entry at an index.
+    fn find(&self, node: u32, label: Label, index: usize) -> Option<u32>
+        ensures { result ≡ step_of self.now node label }
+    {
+        match self.nodes.get_index(index) {
+            Some((key, next)) if key.0 == node && key.1 == label => Some(*next),
+            _ => self.nodes.get(&(node, label)).copied(),
         }
     }
 
@@ -59,14 +70,14 @@ impl Steps {
         ensures { OnOk result ((p : ℕ) (l : Letter) → IsSetAt (Some (from, label)) to p l self.old self.new) }
     {
         let place = place(from, label);
-        widen(&mut self.flags, place)?;
-        self.flags[place] = true;
+        widen(&mut self.hints, place)?;
+        self.hints[place] = hint(self.nodes.len());
         self.nodes.insert((from, label), to)?;
         Ok(())
     }
 }
 
-// Where the flag of a node and a letter is.
+// Where the hint of a node and a letter is.
 fn place(node: u32, label: Label) -> usize
     ensures { result ≡ place_of node (group_of label) }
 {
@@ -87,13 +98,24 @@ fn group(label: Label) -> usize
     }
 }
 
-// Makes room for the flag at a place.
-fn widen(flags: &mut Vec<bool>, place: usize) -> Result<(), Memory>
-    ensures same { (n : ℕ) → slice_index_or flags.new.items n false ≡ slice_index_or flags.old.items n false }
-    ensures room { OnOk result (place < length flags.new.items) }
+// The hint of the entry at an index. An index that is too large has the hint of another entry.
+fn hint(index: usize) -> u32
+    ensures { 0 < result }
 {
-    while flags.len() <= place {
-        flags.push(false)?;
+    if index < u32::MAX as usize {
+        index as u32 + 1
+    } else {
+        u32::MAX
+    }
+}
+
+// Makes room for the hint at a place.
+fn widen(hints: &mut Vec<u32>, place: usize) -> Result<(), Memory>
+    ensures same { (n : ℕ) → slice_index_or hints.new.items n 0 ≡ slice_index_or hints.old.items n 0 }
+    ensures room { OnOk result (place < length hints.new.items) }
+{
+    while hints.len() <= place {
+        hints.push(0)?;
     }
     Ok(())
 }

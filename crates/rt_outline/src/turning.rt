@@ -8,9 +8,11 @@ ghost use Rattle.rt_outline.specs.Frames.{IsFrame, IsMade};
 ghost use Rattle.rt_outline.specs.Hubs.{HasAccess};
 ghost use Rattle.rt_outline.specs.Turning.{class_at, flag_at, AreTold, AreToldTo, AreTurning, HaveAbove, HaveBelow, HaveBoth};
 ghost use Rattle.rt_outline.specs.Turning.{IsMarkedAt, IsToldAt};
+ghost use Rattle.rt_outline.specs.Inside.Beside.{AreListed};
 ghost use Rattle.rt_outline.specs.Inside.Sides.{AreSides, AreSplitIn};
 
 use crate::arc::Arc;
+use crate::beside::Beside;
 use crate::found::Found;
 use crate::frame::Frame;
 use crate::sorting::Sorts;
@@ -45,8 +47,10 @@ pub(crate) fn are_turning(
     if !are_marked(frame, sorts) {
         return Ok(false);
     }
-    for node in 0..count(frame, sorts) {
-        if !is_told(alloc, frame, sorts, stands, node)? {
+    let count = count(frame, sorts);
+    let beside = Beside::of(alloc, frame, sorts, count)?;
+    for node in 0..count {
+        if !is_told(alloc, frame, sorts, &beside, stands, node)? {
             return Ok(false);
         }
     }
@@ -93,10 +97,12 @@ fn is_told(
     alloc: Global,
     frame: &Frame,
     sorts: &Sorts,
+    beside: &Beside,
     stands: &[bool],
     node: u32,
 ) -> Result<bool, Memory>
     requires frame { IsFrame frame.now.origins.items frame.now.steps frame.now.arcs.items frame.now.back.items }
+    requires beside { AreListed frame.now.origins.items sorts.now.classes.items (length sorts.now.classes.items) beside.now }
     ensures { IfOk result (λ yes. yes ≡ true → IsToldAt frame.now.origins.items (Leads frame.now.arcs.items stands.now true)
         sorts.now.classes.items sorts.now.flips.items sorts.now.marks.items (length sorts.now.classes.items) node) }
 {
@@ -109,10 +115,14 @@ fn is_told(
     let Some(class) = sorts.class(*parent) else {
         return Ok(true);
     };
-    if is_told_with_all(frame, sorts, None, stands, node, *parent, *label, class) {
+    if is_told_with_all(
+        frame, sorts, beside, None, stands, node, *parent, *label, class,
+    ) {
         return Ok(true);
     }
-    let told = is_told_by_sides(alloc, frame, sorts, stands, node, *parent, *label, class)?;
+    let told = is_told_by_sides(
+        alloc, frame, sorts, beside, stands, node, *parent, *label, class,
+    )?;
     Ok(told)
 }
 
@@ -122,6 +132,7 @@ fn is_told_by_sides(
     alloc: Global,
     frame: &Frame,
     sorts: &Sorts,
+    beside: &Beside,
     stands: &[bool],
     node: u32,
     parent: u32,
@@ -129,6 +140,7 @@ fn is_told_by_sides(
     class: u32,
 ) -> Result<bool, Memory>
     requires frame { IsFrame frame.now.origins.items frame.now.steps frame.now.arcs.items frame.now.back.items }
+    requires beside { AreListed frame.now.origins.items sorts.now.classes.items (length sorts.now.classes.items) beside.now }
     ensures { IfOk result (λ yes. yes ≡ true → AreToldTo frame.now.origins.items (Leads frame.now.arcs.items stands.now true)
         sorts.now.classes.items sorts.now.flips.items node parent class label (length sorts.now.classes.items)) }
 {
@@ -140,6 +152,7 @@ fn is_told_by_sides(
     Ok(is_told_with_all(
         frame,
         sorts,
+        beside,
         Some(&sides),
         stands,
         node,
@@ -234,6 +247,7 @@ fn with_above(alloc: Global, frame: &Frame, stands: &[bool], node: u32) -> Resul
 fn is_told_with_all(
     frame: &Frame,
     sorts: &Sorts,
+    beside: &Beside,
     sides: Option<&Sides>,
     stands: &[bool],
     node: u32,
@@ -242,32 +256,20 @@ fn is_told_with_all(
     class: u32,
 ) -> bool
     requires frame { IsFrame frame.now.origins.items frame.now.steps frame.now.arcs.items frame.now.back.items }
+    requires beside { AreListed frame.now.origins.items sorts.now.classes.items (length sorts.now.classes.items) beside.now }
     requires sides { IfSome sides (λ s. AreSides frame.now.origins.items (Leads frame.now.arcs.items stands.now true)
         (flag_at sorts.now.flips.items node) node parent s.now) }
     ensures { result ≡ true → AreToldTo frame.now.origins.items (Leads frame.now.arcs.items stands.now true)
         sorts.now.classes.items sorts.now.flips.items node parent class label (length sorts.now.classes.items) }
 {
-    for other in 0..count(frame, sorts) {
-        if is_beside(frame, label, other)
-            && !is_told_with(
-                frame, sorts, sides, stands, node, parent, label, class, other,
-            )
-        {
+    for other in beside.nodes(class, label) {
+        if !is_told_with(
+            frame, sorts, sides, stands, node, parent, label, class, *other,
+        ) {
             return false;
         }
     }
     true
-}
-
-// Whether a node may be behind a letter, or both it and the letter are of pointers.
-fn is_beside(frame: &Frame, label: Label, node: u32) -> bool
-    ensures { result ≡ false → (q : ℕ) (m : Letter) → IsMade frame.now.origins.items node q m →
-        (label ≡ m → ⊥) × (IsPointer label → IsPointer m → ⊥) }
-{
-    match frame.origins.get(node as usize) {
-        Some(Some((_, letter))) => label == *letter || (is_pointer(label) && is_pointer(*letter)),
-        Some(None) | None => false,
-    }
 }
 
 // Whether it has that with one.
@@ -349,12 +351,12 @@ fn is_shared(frame: &Frame, arcs: &[Sequence<Arc>], arc: Arc, other: u32, access
     ensures { result ≡ true → (arc.line ≡ None) × (access ≡ true → HasAccess frame.now.origins.items arc.to) ×
         HasArc arcs.now other arc.to None }
 {
-    if arc.line.is_some() || (access && !has_access(frame, arc.to)) {
+    if arc.line.is_some() {
         return false;
     }
     for second in leaving(arcs, other) {
         if second.to == arc.to && second.line.is_none() {
-            return true;
+            return !access || has_access(frame, arc.to);
         }
     }
     false

@@ -8,7 +8,7 @@ ghost use Rattle.rt_named.specs.Naming.{named};
 ghost use Rattle.rt_outline.specs.Built.{AreNamed, AreOuterArcs, HasHubs, IsHubbed};
 ghost use Rattle.rt_outline.specs.Equal.{AreOuterEquals};
 ghost use Rattle.rt_outline.specs.Frames.{AreDistinct, IsFrame};
-ghost use Rattle.rt_outline.specs.Lines.{HasBelow, standing};
+ghost use Rattle.rt_outline.specs.Lines.{HasBelow, HaveSameFlow, standing};
 ghost use Rattle.rt_outline.specs.declared.led.Led.TheVariants.{No as Never, Yes as Always};
 
 use crate::bounds::{Bound, above, below, lows, ups};
@@ -103,6 +103,29 @@ impl Upper {
     {
         let lows = lows(alloc, &named, lines)?;
         let ups = ups(alloc, &named, lines)?;
+        let lines = copied(alloc, lines)?;
+        Ok(Upper {
+            lines,
+            named,
+            frame,
+            lows,
+            ups,
+        })
+    }
+
+    /// The same arcs, for lines that have the same `<=` lines and bounds at the same places, and other lines no more than
+    /// these. The error is out of memory.
+    pub fn for_lines(self, alloc: Global, lines: &[Line]) -> Result<Upper, Memory>
+        requires { HaveSameFlow self.lines lines.now }
+        ensures { IfOk result (λ upper. upper ≡ record { lines = lines.now; named = self.named }) }
+    {
+        let Upper {
+            lines: _,
+            named,
+            frame,
+            lows,
+            ups,
+        } = self;
         let lines = copied(alloc, lines)?;
         Ok(Upper {
             lines,

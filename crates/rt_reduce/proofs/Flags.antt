@@ -16,7 +16,7 @@ use Rattle.rt_sat.proofs.Frames.{side_named}
 use Rattle.rt_outline.specs.Lines.{Lined, standing}
 use Rattle.rt_outline.proofs.Standing.{Stands, standing_line}
 use Rattle.rt_witness.specs.Witnesses.{IsLeft}
-use Rattle.rt_reduce.specs.Inside.Deciding.{AreStanding, AreWitnessed, IsOwnOuter, IsOuterFor}
+use Rattle.rt_reduce.specs.Inside.Deciding.{AreStanding, AreWitnessed, IsOuterOf, IsOuterFor}
 use Rattle.rt_reduce.specs.Inside.Dropping.{IsMoved}
 use Rattle.rt_reduce.proofs.Places.{All-removed}
 
@@ -74,10 +74,10 @@ removed_of lines i l c =
     (All-removed (Contains lines) lines i (All-from_contains (Contains lines) lines (λ k d. d))) c
 
 -- before the first step
-pub first_standing : (lines left : List Line) (stands : List Bool) (place : ℕ) (outer : Lined) → IsOwnOuter lines outer → left ≡ lines →
+pub first_standing : (lines left : List Line) (stands : List Bool) (place : ℕ) (outer : Lined) → IsOuterOf lines outer → left ≡ lines →
     stands ≡ replicate (length lines) true → place ≤ length lines → AreStanding left stands place outer
 first_standing lines left stands place outer own e f g = record {
-  own = own.1 ∙ ap (λ ls. named_by ls []) (sym own.0);
+  sides = λ l x c h. own.1 l x (subst (λ ls. Contains ls l) own.0 c) h;
   left_are = e ∙ sym (all_stand lines) ∙ ap (λ ls. standing ls (replicate (length lines) true)) (sym own.0)
       ∙ ap (standing outer.lines) (sym f);
   before = λ i h. ap (λ fs. get_or fs i false) f ∙ get_or-replicate (length lines) i true false (omega (arith, h, g));
@@ -89,7 +89,7 @@ module _ (left : List Line) (stands : List Bool) (place : ℕ) (outer : Lined) (
 
   named_side : (l : Line) (x : Dtv) → Contains left l → HasSide l x → Contains outer.named x
   named_side l x c h =
-      side_named outer.lines [] outer.named are.own l x (standing_of outer.lines stands l (subst (λ ls. Contains ls l) are.left_are c)) h
+      are.sides l x (standing_of outer.lines stands l (subst (λ ls. Contains ls l) are.left_are c)) h
 
   -- the line is left out
   pub outer_for : (line : Line) → Contains left line → IsOuterFor (remove left place) (set stands place false) line outer
@@ -101,7 +101,7 @@ module _ (left : List Line) (stands : List Bool) (place : ℕ) (outer : Lined) (
 
   pub standing_gone : AreStanding (remove left place) (set stands place false) place outer
   standing_gone = record {
-    own = are.own;
+    sides = are.sides;
     left_are = out;
     before = λ i h. get_or-set_other stands place i false false (λ e. omega (arith, e, h)) ∙ are.before i (omega (arith, h));
   }
@@ -111,7 +111,7 @@ module _ (left : List Line) (stands : List Bool) (place : ℕ) (outer : Lined) (
   standing_kept =
       let same : set (set stands place false) place true ≡ stands = set_again stands place (are.before place (omega arith)) in
       record {
-        own = are.own;
+        sides = are.sides;
         left_are = are.left_are ∙ ap (standing outer.lines) (sym same);
         before = λ i h. ap (λ fs. get_or fs i false) same ∙ are.before i (omega (arith, h));
       }
@@ -145,7 +145,8 @@ left_gone lines left stands place are =
 -- before the first step
 pub first_witnessed : (lines left : List Line) (stands : List Bool) (place : ℕ) → left ≡ lines → stands ≡ replicate (length lines) true →
     place ≤ length lines → AreWitnessed lines left stands place
-first_witnessed lines left stands place = first_standing lines left stands place (record { lines = lines; named = named_by lines [] }) (refl, refl)
+first_witnessed lines left stands place = first_standing lines left stands place (record { lines = lines; named = named_by lines [] })
+    (refl, λ l x c h. side_named lines [] (named_by lines []) refl l x c h)
 
 -- what is said of arcs is said of a reference to it
 pub referred : {T : Type 0} (P : T → Type 0) (made : Option T) (outer : Option (Bor T)) → option_copied outer ≡ made → IfSome made P →

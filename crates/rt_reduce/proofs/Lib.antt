@@ -8,6 +8,7 @@ pub mod Joined
 pub mod Leftover
 pub mod Between
 pub mod Flags
+pub mod Shaped
 pub mod Holes
 pub mod Telling
 pub mod Bounding

@@ -10,7 +10,7 @@ ghost use Rattle.rt_outline.specs.Lines.{standing};
 ghost use Rattle.rt_witness.specs.Witnesses.{IsLeft, IsWitnesses};
 ghost use Rattle.rt_reduce.specs.Inside.Deciding.{IsAskable, IsGroundFor, IsInnerFor, IsUpperWith, IsWaysFor, Tells};
 
-use crate::derivable::derives_line;
+use crate::derivable::{are_one, derives_line};
 use crate::early::{decided, is_told};
 use crate::inner::Inner;
 use crate::merging::push_sides;
@@ -26,8 +26,8 @@ use std::slice;
 // Of so few lines all are saturated as soon.
 const FEW: usize = 1000;
 
-// Of so many lines all are saturated sooner than arcs are made of them anew.
-const PLENTY: usize = 2000;
+// Of so many lines all are saturated about as soon as arcs are made of them anew.
+const PLENTY: usize = 2400;
 
 // Whether the line is derivable from the lines left, where arcs from outside and which lines name which variables leave it
 // open: if it is a bound, by ways or arcs from inside that were made before, else by what is left. Where there are ways, many
@@ -55,22 +55,47 @@ pub(crate) fn is_derivable_open(
     if is_told(alloc, inner, witnesses, stands, left, order, line)? {
         return Ok(true);
     }
-    if let Some(yes) = seen(alloc, left, order, line)? {
-        return Ok(yes);
-    }
     if ways.is_some() {
-        return derives_line(alloc, left, order, line);
+        return derives_seen(alloc, left, order, line);
     }
-    derives_unseen(alloc, left, order, line)
+    derives_anew(alloc, left, order, line)
 }
 
-// Whether the line is derivable from the lines left: by arcs from outside of these alone, where they say, else by a
-// saturation.
-fn derives_unseen(alloc: Global, left: &[Line], order: &Order, line: &Line) -> Result<bool, Memory>
+// Whether the line is derivable from the lines left: by their shape and arcs from inside, where these say, else by a saturation.
+fn derives_seen(alloc: Global, left: &[Line], order: &Order, line: &Line) -> Result<bool, Memory>
     requires constants { All (HasConstantsBelow order.now.count) left.now }
     requires constant { HasConstantsBelow order.now.count line.now }
     ensures { IfOk result (λ yes. IsTrue yes ↔ Derivable order.now left.now line.now) }
 {
+    if let Some(yes) = seen(alloc, left, order, line)? {
+        return Ok(yes);
+    }
+    derives_line(alloc, left, order, line)
+}
+
+// Whether the line is derivable from the lines left: by arcs from outside of these alone, narrower ones first where it's worth
+// while, or by their shape and arcs from inside, where one of these says, else by a saturation.
+fn derives_anew(alloc: Global, left: &[Line], order: &Order, line: &Line) -> Result<bool, Memory>
+    requires constants { All (HasConstantsBelow order.now.count) left.now }
+    requires constant { HasConstantsBelow order.now.count line.now }
+    ensures { IfOk result (λ yes. IsTrue yes ↔ Derivable order.now left.now line.now) }
+{
+    match told_narrow(alloc, left, order, line)? {
+        Led::No => Ok(false),
+        Led::Yes => Ok(true),
+        Led::Open => derives_open(alloc, left, order, line),
+    }
+}
+
+// The same, without narrower arcs.
+fn derives_open(alloc: Global, left: &[Line], order: &Order, line: &Line) -> Result<bool, Memory>
+    requires constants { All (HasConstantsBelow order.now.count) left.now }
+    requires constant { HasConstantsBelow order.now.count line.now }
+    ensures { IfOk result (λ yes. IsTrue yes ↔ Derivable order.now left.now line.now) }
+{
+    if let Some(yes) = seen(alloc, left, order, line)? {
+        return Ok(yes);
+    }
     match told_anew(alloc, left, order, line)? {
         Led::No => Ok(false),
         Led::Yes => Ok(true),
@@ -90,21 +115,8 @@ fn told_anew(alloc: Global, left: &[Line], order: &Order, line: &Line) -> Result
     match line {
         Line::Var(_) | Line::Same(_, _) => Ok(Led::Open),
         Line::Sub(_, _) | Line::Low(_, _) | Line::Up(_, _) => {
-            told_alone(alloc, left, order, line)
+            told_wide(alloc, left, order, line)
         }
-    }
-}
-
-// What arcs from outside of the lines left alone say of a line, narrower ones first where it's worth while.
-fn told_alone(alloc: Global, left: &[Line], order: &Order, line: &Line) -> Result<Led, Memory>
-    requires constants { All (HasConstantsBelow order.now.count) left.now }
-    requires constant { HasConstantsBelow order.now.count line.now }
-    ensures { IfOk result (Tells order.now left.now line.now) }
-{
-    match told_narrow(alloc, left, order, line)? {
-        Led::Yes => Ok(Led::Yes),
-        Led::No => Ok(Led::No),
-        Led::Open => told_wide(alloc, left, order, line),
     }
 }
 
@@ -119,26 +131,25 @@ fn told_wide(alloc: Global, left: &[Line], order: &Order, line: &Line) -> Result
     Ok(led)
 }
 
-// What narrower arcs say of a `<=` line, if there are so many lines that it's worth while.
+// What their shape and narrower arcs say of a `<=` line, if there are so many lines, and no more, that it's worth while.
 fn told_narrow(alloc: Global, left: &[Line], order: &Order, line: &Line) -> Result<Led, Memory>
     requires constants { All (HasConstantsBelow order.now.count) left.now }
     requires constant { HasConstantsBelow order.now.count line.now }
     ensures { IfOk result (Tells order.now left.now line.now) }
 {
-    if left.len() < FEW || !is_subtype(line) {
+    if left.len() < FEW || left.len() >= PLENTY {
         return Ok(Led::Open);
+    }
+    let Line::Sub(x, y) = line else {
+        return Ok(Led::Open);
+    };
+    let shape = rt_shape::of(alloc, left)?;
+    if !are_one(&shape, x, y) {
+        return Ok(Led::No);
     }
     match narrow_with(alloc, left, line)? {
         Some(outer) => told_of_all(alloc, &outer, left, order, line),
         None => Ok(Led::Open),
-    }
-}
-
-// Whether the line is a `<=` line.
-fn is_subtype(line: &Line) -> bool {
-    match line {
-        Line::Sub(_, _) => true,
-        Line::Var(_) | Line::Same(_, _) | Line::Low(_, _) | Line::Up(_, _) => false,
     }
 }
 

@@ -6,13 +6,14 @@ ghost use Rattle.rt_lines.specs.declared.line.Line.{Line as Given};
 ghost use Rattle.rt_lines.specs.Lines.{HasConstantsBelow};
 ghost use Rattle.rt_reduction.specs.Drops.{Drops};
 ghost use Rattle.rt_reduction.specs.Emits.{is_flow as is_flow_line};
+ghost use Rattle.rt_outline.specs.Lines.{HaveSameFlow};
 ghost use Rattle.rt_witness.specs.Witnesses.{IsWitnesses};
-ghost use Rattle.rt_reduce.specs.Inside.Deciding.{AreStanding, AreWitnessed, IsGroundAt, IsInnerFor, IsLowerWith, IsOwnGround, IsOwnOuter};
+ghost use Rattle.rt_reduce.specs.Inside.Deciding.{AreStanding, AreWitnessed, IsGroundAt, IsInnerFor, IsLowerWith, IsOuterOf, IsOwnGround, IsOwnOuter};
 ghost use Rattle.rt_reduce.specs.Inside.Deciding.{IsWaysFor};
 ghost use Rattle.rt_reduce.specs.Inside.Handing.{AreNeeded};
 ghost use Rattle.rt_sure.specs.Fates.{fate_at};
 ghost use Rattle.rt_sure.specs.declared.fate.Fate.TheVariants.{Open as Unknown, Stays as Staying};
-ghost use Rattle.rt_reduce.specs.Inside.Dropping.{AreFated, AreLeft, AreStaying, AreTold, Decides, IsFatedAt, IsKeptOrGone, IsMoved, IsSpared, IsToldAt};
+ghost use Rattle.rt_reduce.specs.Inside.Dropping.{AreFated, AreLeft, AreShape, AreStaying, AreTold, Decides, IsFatedAt, IsKeptOrGone, IsMoved, IsSpared, IsToldAt};
 
 use crate::confining::{among, is_set};
 use crate::copying::copies;
@@ -46,16 +47,19 @@ pub fn drop_derivable(alloc: Global, lines: &[Line], order: &Order) -> Result<Li
     ensures drops { IfOk result (λ left. Drops order.now [] lines.now left) }
     ensures stood { IfOk result (λ left. (l : Given) → Contains left l → Contains lines.now l) }
 {
-    drop_known(alloc, lines, &[], order)
+    drop_known(alloc, lines, &[], None, order)
 }
 
-// The same, where lines that stood before are given, of which none follows from the others.
+// The same, where lines that stood before are given, of which none follows from the others, and maybe arcs from outside of all
+// lines.
 pub(crate) fn drop_known(
     alloc: Global,
     lines: &[Line],
     before: &[Line],
+    outer: Option<Upper>,
     order: &Order,
 ) -> Result<Lines, Memory>
+    requires outer { IfSome outer (IsOuterOf lines.now) }
     requires needed { AreNeeded order.now before.now }
     requires below { All (HasConstantsBelow order.now.count) before.now }
     requires constants { All (HasConstantsBelow order.now.count) lines.now }
@@ -64,13 +68,35 @@ pub(crate) fn drop_known(
 {
     let first = shape_place(lines);
     let shaped = drop_shapes(alloc, lines, order, first)?;
-    let left = drop_flow(alloc, &shaped, before, order, first)?;
+    let outer = outer_for(alloc, outer, lines, &shaped)?;
+    let left = drop_flow(alloc, &shaped, before, outer, order, first)?;
     Ok(Sequence::from_vec(left))
+}
+
+// The same arcs for what is left of lines of which some went that are no `<=` lines and no bounds.
+fn outer_for(
+    alloc: Global,
+    outer: Option<Upper>,
+    lines: &[Line],
+    left: &[Line],
+) -> Result<Option<Upper>, Memory>
+    requires outer { IfSome outer (IsOuterOf lines.now) }
+    requires same { HaveSameFlow lines.now left.now }
+    ensures { IfOk result (λ found. IfSome found (IsOuterOf left.now)) }
+{
+    match outer {
+        Some(outer) => {
+            let outer = outer.for_lines(alloc, left)?;
+            Ok(Some(outer))
+        }
+        None => Ok(None),
+    }
 }
 
 // Where the lines begin behind which there is no `<=` line and no bound.
 fn shape_place(lines: &[Line]) -> usize
-    ensures { result ≤ length lines.now }
+    ensures within { result ≤ length lines.now }
+    ensures shape { AreShape lines.now result }
 {
     let mut place = lines.len();
     while place > 0 && !is_flow(&lines[place - 1]) {
@@ -109,24 +135,26 @@ fn drop_shapes(
     Ok(left)
 }
 
-// What is left when lines before a place go, where those from the place on stay.
+// What is left when lines before a place go, where those from the place on stay, and arcs from outside may be given.
 fn drop_flow(
     alloc: Global,
     lines: &[Line],
     before: &[Line],
+    outer: Option<Upper>,
     order: &Order,
     first: usize,
 ) -> Result<Vec<Line>, Memory>
     requires left { (all : List Given) × AreLeft order.now all first lines.now }
     requires needed { AreNeeded order.now before.now }
     requires below { All (HasConstantsBelow order.now.count) before.now }
+    requires outer { IfSome outer (IsOuterOf lines.now) }
     requires constants { All (HasConstantsBelow order.now.count) lines.now }
     ensures drops { IfOk result (λ left. Drops order.now [] lines.now left.items) }
     ensures stood { IfOk result (λ left. (l : Given) → Contains left.items l → Contains lines.now l) }
 {
     let known = known(alloc, lines, before, order, first)?;
     let told = vec![in alloc; false; lines.len()]?;
-    let outer = outer_of(alloc, lines, &known)?;
+    let outer = outer_of(alloc, lines, &known, outer)?;
     let fated = fates_of(alloc, outer.as_ref(), lines, &known, order)?;
     let left = drop_fated(alloc, lines, outer.as_ref(), &told, &fated, order)?;
     Ok(left)
@@ -164,7 +192,7 @@ fn drop_fated(
     fated: &Fated,
     order: &Order,
 ) -> Result<Vec<Line>, Memory>
-    requires outer { IfSome outer (λ t. IsOwnOuter lines.now t.now) }
+    requires outer { IfSome outer (λ t. IsOuterOf lines.now t.now) }
     requires each { length lines.now ≤ length told.now }
     requires told { AreTold lines.now told.now }
     requires long { length fated.now.fates.items ≡ length lines.now }
@@ -199,7 +227,7 @@ fn drop_by(
     fates: &[Fate],
     order: &Order,
 ) -> Result<Vec<Line>, Memory>
-    requires outer { IfSome outer (λ t. IsOwnOuter lines.now t.now) }
+    requires outer { IfSome outer (λ t. IsOuterOf lines.now t.now) }
     requires inner { IfSome inner (λ t. IsLowerWith lines.now [] t.now) }
     requires ground { IfSome ground (λ g. IsOwnGround lines.now fates.now g.now) }
     requires each { length lines.now ≤ length told.now }
@@ -237,7 +265,7 @@ fn drop_beside(
     fates: &[Fate],
     order: &Order,
 ) -> Result<Vec<Line>, Memory>
-    requires outer { IfSome outer (λ t. IsOwnOuter lines.now t.now) }
+    requires outer { IfSome outer (λ t. IsOuterOf lines.now t.now) }
     requires inner { IfSome inner (λ t. IsLowerWith lines.now [] t.now) }
     requires ways { IfSome ways (λ t. IsOwnOuter lines.now t.now) }
     requires ground { IfSome ground (λ g. IsOwnGround lines.now fates.now g.now) }
@@ -262,7 +290,7 @@ fn fates_of(
     known: &[bool],
     order: &Order,
 ) -> Result<Fated, Memory>
-    requires outer { IfSome outer (λ t. IsOwnOuter lines.now t.now) }
+    requires outer { IfSome outer (λ t. IsOuterOf lines.now t.now) }
     requires each { length known.now ≡ length lines.now }
     requires known { AreStaying order.now lines.now known.now }
     requires constants { All (HasConstantsBelow order.now.count) lines.now }
@@ -386,7 +414,7 @@ fn has_open_bound(lines: &[Line], fates: &[Fate]) -> bool {
 }
 
 // Whether the line is a bound.
-fn is_bound(line: &Line) -> bool {
+pub(crate) fn is_bound(line: &Line) -> bool {
     match line {
         Line::Var(_) | Line::Same(_, _) | Line::Sub(_, _) => false,
         Line::Low(_, _) | Line::Up(_, _) => true,
@@ -405,7 +433,7 @@ fn drop_on(
     fates: &[Fate],
     order: &Order,
 ) -> Result<Vec<Line>, Memory>
-    requires outer { IfSome outer (λ t. IsOwnOuter lines.now t.now) }
+    requires outer { IfSome outer (λ t. IsOuterOf lines.now t.now) }
     requires inner { IfSome inner (λ t. IsLowerWith lines.now [] t.now) }
     requires ways { IfSome ways (λ t. IsOwnOuter lines.now t.now) }
     requires ground { IfSome ground (λ g. IsOwnGround lines.now fates.now g.now) }
@@ -440,7 +468,7 @@ fn drop_from(
     first: usize,
 ) -> Result<Vec<Line>, Memory>
     requires first { first ≤ length lines.now }
-    requires outer { IfSome outer (λ t. IsOwnOuter lines.now t.now) }
+    requires outer { IfSome outer (λ t. IsOuterOf lines.now t.now) }
     requires inner { IfSome inner (λ t. IsLowerWith lines.now [] t.now) }
     requires ways { IfSome ways (λ t. IsOwnOuter lines.now t.now) }
     requires ground { IfSome ground (λ g. IsOwnGround lines.now fates.now g.now) }
@@ -489,15 +517,24 @@ pub(crate) fn fate_of(fates: &[Fate], place: usize) -> Fate
     }
 }
 
-// Arcs from outside of the lines, if there is a `<=` line or a bound among them that isn't known to stay.
-fn outer_of(alloc: Global, lines: &[Line], known: &[bool]) -> Result<Option<Upper>, Memory>
-    ensures { IfOk result (λ outer. IfSome outer (IsOwnOuter lines.now)) }
+// Arcs from outside of the lines, which may be given, if there is a `<=` line or a bound among them that isn't known to stay.
+fn outer_of(
+    alloc: Global,
+    lines: &[Line],
+    known: &[bool],
+    outer: Option<Upper>,
+) -> Result<Option<Upper>, Memory>
+    requires { IfSome outer (IsOuterOf lines.now) }
+    ensures { IfOk result (λ found. IfSome found (IsOuterOf lines.now)) }
 {
     if !has_open_flow(lines, known) {
         return Ok(None);
     }
-    let outer = Upper::of(alloc, lines, &[])?;
-    Ok(Some(outer))
+    if outer.is_some() {
+        return Ok(outer);
+    }
+    let made = Upper::of(alloc, lines, &[])?;
+    Ok(Some(made))
 }
 
 // Whether there is a `<=` line or a bound among the lines that isn't flagged.

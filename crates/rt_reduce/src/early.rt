@@ -181,12 +181,12 @@ fn has_low(
 {
     // The call says that the order is transitive.
     order.count();
-    if !is_there(alloc, witnesses, stands, left, x)? {
+    let from = lows(alloc, left, order, k)?;
+    if !inner.leads(alloc, &from, slice::from_ref(x))? {
         return Ok(false);
     }
-    let from = lows(alloc, left, order, k)?;
-    let led = inner.leads(alloc, &from, slice::from_ref(x))?;
-    Ok(led)
+    let there = is_there(alloc, witnesses, stands, left, x)?;
+    Ok(there)
 }
 
 // Whether the constant is an upper bound of the variable, as far as arcs say that lead to those of other upper bounds.
@@ -208,10 +208,10 @@ fn has_up(
 {
     // The call says that the order is transitive.
     order.count();
-    if !is_there(alloc, witnesses, stands, left, x)? {
+    let to = ups(alloc, left, order, k)?;
+    if !inner.leads(alloc, slice::from_ref(x), &to)? {
         return Ok(false);
     }
-    let to = ups(alloc, left, order, k)?;
-    let led = inner.leads(alloc, slice::from_ref(x), &to)?;
-    Ok(led)
+    let there = is_there(alloc, witnesses, stands, left, x)?;
+    Ok(there)
 }

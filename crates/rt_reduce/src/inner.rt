@@ -9,8 +9,7 @@ ghost use Rattle.rt_reduce.specs.Inside.Deciding.{IsLowerWith};
 ghost use Rattle.rt_sure.specs.Grounds.{IsTableOf};
 
 use crate::bounds::{lows, ups};
-use crate::copying::copies;
-use crate::dropping::fate_of;
+use crate::dropping::{fate_of, is_bound};
 use rt_base::Memory;
 use rt_lines::{Dtv, Line, Order};
 use rt_outline::Lower;
@@ -122,13 +121,13 @@ impl Inner {
         match &lines[i] {
             Line::Var(_) | Line::Same(_, _) | Line::Sub(_, _) => Ok(true),
             Line::Low(k, x) => {
-                let others = without(alloc, lines, i)?;
+                let others = other_bounds(alloc, lines, i)?;
                 let from = lows(alloc, &others, order, *k)?;
                 let led = self.leads(alloc, &from, slice::from_ref(x))?;
                 Ok(led)
             }
             Line::Up(x, k) => {
-                let others = without(alloc, lines, i)?;
+                let others = other_bounds(alloc, lines, i)?;
                 let to = ups(alloc, &others, order, *k)?;
                 let led = self.leads(alloc, slice::from_ref(x), &to)?;
                 Ok(led)
@@ -137,13 +136,16 @@ impl Inner {
     }
 }
 
-// The lines but the one at an index.
-fn without(alloc: Global, lines: &[Line], i: usize) -> Result<Vec<Line>, Memory>
-    requires { i < length lines.now }
+// The bounds among the lines but the one at an index.
+fn other_bounds(alloc: Global, lines: &[Line], i: usize) -> Result<Vec<Line>, Memory>
     ensures { IfOk result (λ others. (l : Given) → Contains others.items l → Contains lines.now l) }
 {
-    let mut others = copies(alloc, lines)?;
-    others.remove(i);
+    let mut others = Vec::new(alloc);
+    for j in 0..lines.len() {
+        if j != i && is_bound(&lines[j]) {
+            others.push(lines[j].copy()?)?;
+        }
+    }
     Ok(others)
 }
 

@@ -18,6 +18,7 @@ ghost use Rattle.rt_reduction.specs.Merges.{HasEqual, Merges};
 ghost use Rattle.rt_reduce.specs.Inside.Alike.{AreAlikeAt, IsAlike, HasNumber};
 ghost use Rattle.rt_reduce.specs.Inside.Bases.{IsAloneAt};
 ghost use Rattle.rt_reduce.specs.Inside.Compared.{IsCompared};
+ghost use Rattle.rt_reduce.specs.Inside.Deciding.{IsOwnOuter};
 ghost use Rattle.rt_reduce.specs.Inside.Merging.{IsEarlier, IsFirstAmong, IsFirstEqual};
 
 use crate::alike::{number, numbers};
@@ -27,16 +28,23 @@ use crate::copying::copies;
 use rt_base::{Memory, Sequence};
 use rt_equals::Comparison;
 use rt_lines::{Base, Dtv, Line, Lines, Order, Word};
+use rt_outline::Upper;
 use rt_polar::{put, put_in, tidy};
 use std::alloc::Global;
 use std::collections::BTreeSet;
 
 /// What is left of the lines when each existential that equals a side of another base gave its place to the first of its
 /// equals, the least such existential first, again and again until none has one; the lines are tidied each time. Each side
-/// is one of the lines, with letters more, and each existential is one of them. The variables are compared once: a side keeps
-/// its equals as others give their places away. The error is out of memory.
-pub fn merge_equal(alloc: Global, lines: &[Line], order: &Order) -> Result<Lines, Memory>
-    requires { All (HasConstantsBelow order.now.count) lines.now }
+/// is one of the lines, with letters more, and each existential is one of them. The variables are compared once, with arcs from
+/// outside of the lines, which are given: a side keeps its equals as others give their places away. The error is out of memory.
+pub fn merge_equal(
+    alloc: Global,
+    lines: &[Line],
+    outer: &Upper,
+    order: &Order,
+) -> Result<Lines, Memory>
+    requires constants { All (HasConstantsBelow order.now.count) lines.now }
+    requires outer { IsOwnOuter lines.now outer.now }
     ensures merges { IfOk result (λ left. Merges order.now left lines.now) }
     ensures scheme { IfOk result (λ left. AreOfScheme lines.now → AreOfScheme left) }
     ensures constants { IfOk result (λ left. All (HasConstantsBelow order.now.count) left) }
@@ -49,7 +57,7 @@ pub fn merge_equal(alloc: Global, lines: &[Line], order: &Order) -> Result<Lines
         return Ok(now);
     }
     let comparison = Comparison::of(alloc, lines)?;
-    let equals = comparison.equals(alloc)?;
+    let equals = comparison.equals(alloc, outer)?;
     let numbers = numbers(alloc, &comparison, &equals, &sides)?;
     let bases = noted(alloc, &sides, &numbers, equals.len())?;
     let pending = pending(alloc, &comparison, &equals, &sides, &bases)?;

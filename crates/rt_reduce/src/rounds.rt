@@ -1,9 +1,10 @@
 // Rounds of the steps.
-ghost use Rattle.std.specs.Prelude.{All, IfOk};
+ghost use Rattle.std.specs.Prelude.{All, IfOk, IfSome};
 ghost use Rattle.rt_lines.specs.Lines.{HasConstantsBelow};
 ghost use Rattle.rt_polar.specs.Tidied.{tidied};
 ghost use Rattle.rt_reduction.specs.Emits.{AreOfScheme};
 ghost use Rattle.rt_reduction.specs.Rounds.{IsRound};
+ghost use Rattle.rt_reduce.specs.Inside.Deciding.{IsOuterOf, IsOwnOuter};
 ghost use Rattle.rt_reduce.specs.Inside.Handing.{AreNeeded};
 ghost use Rattle.rt_reduce.specs.Rounds.{IsBegun};
 
@@ -12,6 +13,7 @@ use crate::merging::merge_equal;
 use rt_base::Memory;
 use rt_emit::emit_shape;
 use rt_lines::{Line, Lines, Order};
+use rt_outline::Upper;
 use rt_polar::tidy;
 use rt_simplify::prepare;
 use std::alloc::Global;
@@ -50,7 +52,19 @@ pub(crate) fn round_after(
     let start = tidy(alloc, lines)?;
     let simple = prepare(alloc, start)?;
     let emitted = emit_shape(alloc, simple.items())?;
-    let merged = merge_equal(alloc, emitted.items(), order)?;
-    let after = drop_known(alloc, merged.items(), before, order)?;
+    let all = emitted.items();
+    let outer = Upper::of(alloc, all, &[])?;
+    let merged = merge_equal(alloc, all, &outer, order)?;
+    let left = merged.items();
+    let outer = if_same(outer, all, left);
+    let after = drop_known(alloc, left, before, outer, order)?;
     Ok(after)
+}
+
+// Arcs from outside of lines, if other lines are the same.
+fn if_same(outer: Upper, lines: &[Line], others: &[Line]) -> Option<Upper>
+    requires { IsOwnOuter lines.now outer }
+    ensures { IfSome result (IsOuterOf others.now) }
+{
+    if lines == others { Some(outer) } else { None }
 }

@@ -2,7 +2,7 @@
 ghost use Rattle.std.specs.Prelude.{◌≡◌, ◌<◌, ℕ, List, Bool, All, IfOk, IfSome, OnOk, false, true, length, replicate, slice_index_or};
 ghost use Rattle.rt_lines.specs.Lines.{HasConstantsBelow};
 ghost use Rattle.rt_outline.specs.Lines.{standing};
-ghost use Rattle.rt_reduce.specs.Inside.Deciding.{IsOwnOuter};
+ghost use Rattle.rt_reduce.specs.Inside.Deciding.{IsOuterOf, IsOwnOuter};
 ghost use Rattle.rt_reduce.specs.Inside.Dropping.{AreFated, AreStaying, IsSettled, IsStaying};
 ghost use Rattle.rt_sure.specs.Fates.{fate_at};
 ghost use Rattle.rt_sure.specs.declared.fate.Fate.TheVariants.{Stays};
@@ -23,7 +23,7 @@ pub(crate) fn staying(
     known: &[bool],
     order: &Order,
 ) -> Result<Vec<bool>, Memory>
-    requires outer { IfSome outer (λ t. IsOwnOuter lines.now t.now) }
+    requires outer { IfSome outer (λ t. IsOuterOf lines.now t.now) }
     requires long { length known.now ≡ length lines.now }
     requires known { AreStaying order.now lines.now known.now }
     requires constants { All (HasConstantsBelow order.now.count) lines.now }
@@ -53,7 +53,7 @@ fn is_staying(
     i: usize,
 ) -> Result<bool, Memory>
     requires within { i < length lines.now }
-    requires outer { IsOwnOuter lines.now outer.now }
+    requires outer { IsOuterOf lines.now outer.now }
     requires flags { stands.old.items ≡ replicate (length lines.now) true }
     requires constants { All (HasConstantsBelow order.now.count) lines.now }
     ensures same { OnOk result (stands.new.items ≡ stands.old.items) }

@@ -15,7 +15,7 @@ use Rattle.rt_refine.proofs.Ranking.{use_ranks-one}
 abbrev IsFresh : Use → ℕ → ℕ → (List Rank → ℕ → Type 0) → List Rank → ℕ → Type 0
 IsFresh q bound number old r k = (r ≡ use_ranks q) × (k ≡ bound) × (number ≡ bound) × ((j : ℕ) → old (use_ranks q) j → ⊥)
 
-module _ (side : Side) (seen : List Line) (class : ℕ → ℕ) (l : Line) where
+module _ (side : Side) (seen : List Line) (class : ℕ → ℕ) (wanted : ℕ → Bool) (l : Line) where
   wider : (n : ℕ) (u : Use) → Stands side seen class n u → Stands side (seen ++ l ∷ []) class n u
   wider n u (v, c, e) = (v, Contains-append_left seen (l ∷ []) (use_line side n v) c, e)
 
@@ -28,32 +28,33 @@ module _ (side : Side) (seen : List Line) (class : ℕ → ℕ) (l : Line) where
       by (inl d) = inl (v, d, e)
       by (inr f) = inr (v, f, e)
 
-  -- a line of no existential changes nothing
+  -- a line of no existential that is asked for changes nothing
   pub index_stays : (bound : ℕ) (numbers : List Rank → ℕ → Type 0) (index : ℕ → ℕ → Bool) →
-      ((n : ℕ) (u : Use) → l ≡ use_line side n u → ⊥) →
-      IsIndexOf side seen class bound numbers index → IsIndexOf side (seen ++ l ∷ []) class (bound + 1) numbers index
+      ((n : ℕ) (u : Use) → wanted n ≡ true → l ≡ use_line side n u → ⊥) →
+      IsIndexOf side seen class wanted bound numbers index → IsIndexOf side (seen ++ l ∷ []) class wanted (bound + 1) numbers index
   index_stays bound numbers index none is = record {
     one_list = is.one_list;
     one_number = is.one_number;
     below = λ r k h. let lt = is.below r k h in omega (arith, lt);
-    here = λ n u s. by n u (stands_cases n u s);
+    here = λ n u may s. by n u may (stands_cases n u s);
     source = λ n k h. let s = is.source n k h in (s.0, wider n s.0 s.1, s.2);
   }
     where
-      by : (n : ℕ) (u : Use) → Stands side seen class n u ⊎ ((v : Use) × (l ≡ use_line side n v) × (move_use class v ≡ u)) →
+      by : (n : ℕ) (u : Use) → wanted n ≡ true →
+          Stands side seen class n u ⊎ ((v : Use) × (l ≡ use_line side n v) × (move_use class v ≡ u)) →
           (k : ℕ) × numbers (use_ranks u) k × (index n k ≡ true)
-      by n u (inl s) = is.here n u s
-      by n u (inr (v, e, f)) = absurd (none n v e)
+      by n u may (inl s) = is.here n u may s
+      by n u may (inr (v, e, f)) = absurd (none n v may e)
 
   -- one of an existential adds its use
   pub index_more : (m : ℕ) (q : Use) (number bound : ℕ) (old new : List Rank → ℕ → Type 0) (index next : ℕ → ℕ → Bool) →
       l ≡ use_line side m q → IsNumbered (use_ranks (move_use class q)) bound number old new → IsBareNoted m number index next →
-      IsIndexOf side seen class bound old index → IsIndexOf side (seen ++ l ∷ []) class (bound + 1) new next
+      IsIndexOf side seen class wanted bound old index → IsIndexOf side (seen ++ l ∷ []) class wanted (bound + 1) new next
   index_more m q number bound old new index next own numbered noted is = record {
     one_list = λ r s k h g. one_list r s k (numbered.source r k h) (numbered.source s k g);
     one_number = numbered.one;
     below = λ r k h. below r k (numbered.source r k h);
-    here = λ n u s. here n u (stands_cases n u s);
+    here = λ n u may s. here n u may (stands_cases n u s);
     source = λ n k h. source n k (noted.source n k h);
   }
     where
@@ -77,10 +78,11 @@ module _ (side : Side) (seen : List Line) (class : ℕ → ℕ) (l : Line) where
         subst (λ (j : ℕ). next j number ≡ true) e noted.added,
       )
 
-      here : (n : ℕ) (u : Use) → Stands side seen class n u ⊎ ((v : Use) × (l ≡ use_line side n v) × (move_use class v ≡ u)) →
+      here : (n : ℕ) (u : Use) → wanted n ≡ true →
+          Stands side seen class n u ⊎ ((v : Use) × (l ≡ use_line side n v) × (move_use class v ≡ u)) →
           (k : ℕ) × new (use_ranks u) k × (next n k ≡ true)
-      here n u (inl c) = let s = is.here n u c in (s.0, numbered.kept (use_ranks u) s.0 s.1, noted.kept n s.0 s.2)
-      here n u (inr (v, e, f)) = own_number n v u (use_parts side m n q v (sym own ∙ e)) f
+      here n u may (inl c) = let s = is.here n u may c in (s.0, numbered.kept (use_ranks u) s.0 s.1, noted.kept n s.0 s.2)
+      here n u may (inr (v, e, f)) = own_number n v u (use_parts side m n q v (sym own ∙ e)) f
 
       source : (n k : ℕ) → (index n k ≡ true) ⊎ ((n ≡ m) × (k ≡ number)) →
           (u : Use) × Stands side (seen ++ l ∷ []) class n u × new (use_ranks u) k
@@ -97,16 +99,17 @@ module _ (side : Side) (seen : List Line) (class : ℕ → ℕ) (l : Line) where
       )
 
 -- when all lines were seen
-pub index_whole : (side : Side) (lines : List Line) (class : ℕ → ℕ) (bound : ℕ) (numbers : List Rank → ℕ → Type 0)
-    (index : ℕ → ℕ → Bool) → IsIndexOf side lines class bound numbers index → IsUseIndex side lines class bound index
-index_whole side lines class bound numbers index is = record {
-  numbered = λ n u c. let s = is.here n u c in (s.0, number_of u s.0 s.1);
+pub index_whole : (side : Side) (lines : List Line) (class : ℕ → ℕ) (wanted : ℕ → Bool) (bound : ℕ)
+    (numbers : List Rank → ℕ → Type 0) (index : ℕ → ℕ → Bool) → IsIndexOf side lines class wanted bound numbers index →
+    IsUseIndex side lines class wanted bound index
+index_whole side lines class wanted bound numbers index is = record {
+  numbered = λ n u may c. let s = is.here n u may c in (s.0, number_of u s.0 s.1);
   source = λ n k h. let s = is.source n k h in (s.0, number_of s.0 k s.2);
   within = λ n k h. let s = is.source n k h in is.below (use_ranks s.0) k s.2;
 }
   where
-    number_of : (u : Use) (k : ℕ) → numbers (use_ranks u) k → IsNumberOf side lines class index k u
-    number_of u k numbered n = (forth, back)
+    number_of : (u : Use) (k : ℕ) → numbers (use_ranks u) k → IsNumberOf side lines class wanted index k u
+    number_of u k numbered n may = (forth, back)
       where
         forth : index n k ≡ true → Stands side lines class n u
         forth h =
@@ -116,5 +119,5 @@ index_whole side lines class bound numbers index is = record {
 
         back : Stands side lines class n u → index n k ≡ true
         back c =
-            let s = is.here n u c in
+            let s = is.here n u may c in
             subst (λ (j : ℕ). index n j ≡ true) (is.one_number (use_ranks u) s.0 k s.1 numbered) s.2

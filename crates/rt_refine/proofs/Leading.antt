@@ -41,6 +41,7 @@ module _ (key : ℕ → List ℕ) (named : ℕ → Type 0) where
     alone = λ v no_name. alone v no_name (place v) refl;
     one = λ v w a b e. one v w e (are.placed v a (none v)) (are.placed w b (none w));
     same = λ v. same v (place v) refl;
+    within = λ v a. within v (are.placed v a (none v));
   }
     where
       class_some : (v c : ℕ) → place v ≡ Some c → class_of place v ≡ c
@@ -69,6 +70,9 @@ module _ (key : ℕ → List ℕ) (named : ℕ → Type 0) where
       one v w e (a, f, g) (b, h, i) =
           let j : a ≡ b = are.one (key w) a b (subst (λ (list : List ℕ). leaders list a) e g) i in
           class_some v a f ∙ j ∙ sym (class_some w b h)
+
+      within : (v : ℕ) → (c : ℕ) × (place v ≡ Some c) × leaders (key v) c → named (class_of place v)
+      within v (c, e, h) = subst named (sym (class_some v c e)) (are.source c c (are.leader (key v) c h).0).0
 
       same : (v : ℕ) (o : Option ℕ) → place v ≡ o → (class_of place v ≡ v) ⊎ (named v × (key (class_of place v) ≡ key v))
       same v (Some c) e =

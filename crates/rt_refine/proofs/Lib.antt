@@ -6,6 +6,7 @@ pub mod Refining
 pub mod OneCoarsest
 pub mod Resting
 pub mod Noting
+pub mod Meeting
 pub mod Ranking
 pub mod Keys
 pub mod Below

@@ -1,14 +1,15 @@
 -- Numbers added to sets.
-use Rattle.std.proofs.Common.{◌≡◌, ℕ, ◌+◌, ◌<◌, ◌⊎◌, inl, inr, List, [], ◌∷◌, ◌++◌, length, take, get_or, Contains, Bool, true, false, cond}
+use Rattle.std.proofs.Common.{◌≡◌, ℕ, ◌+◌, ◌<◌, ◌⊎◌, inl, inr, List, [], ◌∷◌, ◌++◌, length, take, get_or, nat_eq, Contains, Bool, true, false, cond}
 use Rattle.std.proofs.Common.{refl, sym, ap, subst, ◌∙◌}
 use Rattle.std.specs.Ordering.{is_eq, nat_cmp}
 use Rattle.std.proofs.lemmas.List.{take_more}
 use Rattle.std.proofs.lemmas.List.Elements.{Contains-push_cases, Contains-append_left, Contains-append_right}
-use Rattle.rt_base.proofs.Lists.{Contains-here}
+use Rattle.std.specs.List.{list_any}
+use Rattle.rt_base.proofs.Lists.{Contains-here, found_from, found_to, list_any-at, list_any-from}
 use Rattle.rt_lines.specs.declared.line.Line.{Line}
 use Rattle.rt_polar.specs.Index.{Names}
 use Rattle.rt_polar.proofs.Pairs.{nat_cmp_self}
-use Rattle.rt_refine.specs.Groups.{AreNamed, AreNoted, IsNamed}
+use Rattle.rt_refine.specs.Groups.{AreListed, AreNamed, AreNoted, IsNamed}
 use Rattle.rt_base.proofs.Numbers.{equal_number}
 
 pub number_self : (v : ℕ) → is_eq (nat_cmp v v) ≡ true
@@ -61,3 +62,27 @@ named_more lines i l old new less is are noted n = (forth, back)
         by : Contains (take i lines) m ⊎ (l ≡ m) → new n ≡ true
         by (inl d) = noted.kept n ((are n).1 (m, d, p))
         by (inr e) = noted.added n (subst (Names n) (sym e) p)
+
+-- the elements of a set that has the existentials that the lines name
+pub listed_are : (lines : List Line) (keys : List ℕ) → AreNamed lines (λ n. list_any (λ (k : ℕ). is_eq (nat_cmp n k)) keys) →
+    AreListed lines keys
+listed_are lines keys are n = (forth, back)
+  where
+    test : ℕ → Bool
+    test k = is_eq (nat_cmp n k)
+
+    forth : Contains keys n → IsNamed lines n
+    forth c = (are n).0 (list_any-from test keys n c (number_self n))
+
+    back : IsNamed lines n → Contains keys n
+    back a =
+        let s = list_any-at test keys ((are n).1 a) in
+        subst (Contains keys) (sym (equal_number n s.0 s.2)) s.1
+
+-- whether it's named, by such a list
+pub named_or : (lines : List Line) (keys : List ℕ) → AreListed lines keys → (n : ℕ) → IsNamed lines n ⊎ (IsNamed lines n → ⊥)
+named_or lines keys are n = by (list_any (nat_eq n) keys) refl
+  where
+    by : (t : Bool) → list_any (nat_eq n) keys ≡ t → IsNamed lines n ⊎ (IsNamed lines n → ⊥)
+    by true e = inl ((are n).0 (found_from keys n e))
+    by false e = inr (λ a. let f : false ≡ true = sym e ∙ found_to keys n ((are n).1 a) in absurd (cc))

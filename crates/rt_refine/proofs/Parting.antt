@@ -1,5 +1,5 @@
 -- Classes split by the uses of their members.
-use Rattle.std.proofs.Common.{◌≡◌, ◌≢◌, ℕ, ◌⊎◌, inl, inr, List, [], ◌∷◌, ◌++◌, Contains, Bool, true, false, refl, sym, ap, subst, ◌∙◌}
+use Rattle.std.proofs.Common.{◌≡◌, ◌≢◌, ◌||◌, ℕ, ◌⊎◌, inl, inr, List, [], ◌∷◌, ◌++◌, Contains, Bool, true, false, refl, sym, ap, subst, ◌∙◌}
 use Rattle.rt_lines.specs.declared.label.Label.{Label}
 use Rattle.rt_lines.specs.declared.variable.Base.{Base}
 use Rattle.rt_lines.specs.declared.variable.Base.TheVariants.{Proc, Global, Exist, Outer}
@@ -13,11 +13,12 @@ use Rattle.rt_refine.specs.declared.uses.Side.{Side}
 use Rattle.rt_refine.specs.declared.uses.Side.TheVariants.{Left, Right}
 use Rattle.rt_refine.specs.Refinements.{of_exist, moved, move, AreMatched, IsRefinement}
 use Rattle.rt_refine.specs.Uses.{Use, Variable, Constant, Peer, move_use, Stands, HaveSameUses}
-use Rattle.rt_refine.specs.Numbers.{IsUseIndex, IsNumberOf, numbers_below}
-use Rattle.rt_refine.specs.Groups.{IsGrouped, IsNamed}
+use Rattle.rt_refine.specs.Numbers.{IsUseIndex, IsNumberOf, numbers_below, use_key}
+use Rattle.rt_refine.specs.Groups.{AreShared, IsGrouped, IsNamed}
 use Rattle.rt_refine.specs.Splits.{AreClasses, IsSplit}
+use Rattle.rt_polar.proofs.Holding.{same_or_apart}
 use Rattle.rt_refine.proofs.Below.{same_below, below_same}
-use Rattle.rt_refine.proofs.Shaping.{key_one, named_pair}
+use Rattle.rt_refine.proofs.Shaping.{named_one, named_pair}
 
 -- the last of two equal lists
 pub push_one : (xs ys : List ℕ) (a b : ℕ) → xs ++ a ∷ [] ≡ ys ++ b ∷ [] → (xs ≡ ys) × (a ≡ b)
@@ -33,12 +34,8 @@ push_one (x ∷ xs) (y ∷ ys) a b e =
     let i : xs ≡ ys = h.0 in
     (cc, h.1)
 
--- what the members of one class have in common that have the same uses
-abbrev pub use_key : (ℕ → ℕ) → ℕ → (ℕ → ℕ → Bool) → ℕ → List ℕ
-use_key old bound index n = numbers_below (index n) bound ++ old n ∷ []
-
-module _ (side : Side) (lines : List Line) (moves old : ℕ → ℕ) (bound : ℕ) (index : ℕ → ℕ → Bool)
-    (is_index : IsUseIndex side lines moves bound index) where
+module _ (side : Side) (lines : List Line) (moves old : ℕ → ℕ) (wanted : ℕ → Bool) (bound : ℕ) (index : ℕ → ℕ → Bool)
+    (is_index : IsUseIndex side lines moves wanted bound index) (are_shared : AreShared (IsNamed lines) old wanted) where
   abbrev numbers_of : ℕ → List ℕ
   numbers_of n = numbers_below (index n) bound
 
@@ -46,42 +43,92 @@ module _ (side : Side) (lines : List Line) (moves old : ℕ → ℕ) (bound : �
   key_of n = use_key old bound index n
 
   -- existentials with the same uses have the same numbers
-  index_same : (v w : ℕ) → HaveSameUses side lines moves v w → (k : ℕ) → index v k ≡ true → index w k ≡ true
-  index_same v w a k h =
-      let s : (u : Use) × IsNumberOf side lines moves index k u = is_index.source v k h in (s.1 w).1 ((a s.0).0 ((s.1 v).0 h))
+  index_same : (v w : ℕ) → wanted v ≡ true → wanted w ≡ true → HaveSameUses side lines moves v w → (k : ℕ) → index v k ≡ true →
+      index w k ≡ true
+  index_same v w p q a k h =
+      let s : (u : Use) × IsNumberOf side lines moves wanted index k u = is_index.source v k h in
+      (s.1 w q).1 ((a s.0).0 ((s.1 v p).0 h))
 
   uses_back : (v w : ℕ) → HaveSameUses side lines moves v w → HaveSameUses side lines moves w v
   uses_back v w a u = ((a u).1, (a u).0)
 
-  numbers_same : (v w : ℕ) → HaveSameUses side lines moves v w → numbers_of v ≡ numbers_of w
-  numbers_same v w a = below_same (index v) (index w) bound (index_same v w a) (index_same w v (uses_back v w a))
+  numbers_same : (v w : ℕ) → wanted v ≡ true → wanted w ≡ true → HaveSameUses side lines moves v w → numbers_of v ≡ numbers_of w
+  numbers_same v w p q a = below_same (index v) (index w) bound (index_same v w p q a) (index_same w v q p (uses_back v w a))
 
   -- and those with the same numbers have the same uses
-  use_same : (v w : ℕ) → numbers_of v ≡ numbers_of w → (u : Use) → Stands side lines moves v u → Stands side lines moves w u
-  use_same v w e u c =
-      let s : (k : ℕ) × IsNumberOf side lines moves index k u = is_index.numbered v u c in
-      let h : index v s.0 ≡ true = (s.1 v).1 c in
-      (s.1 w).0 (same_below (index v) (index w) bound s.0 e (is_index.within v s.0 h) h)
+  use_same : (v w : ℕ) → wanted v ≡ true → wanted w ≡ true → numbers_of v ≡ numbers_of w → (u : Use) →
+      Stands side lines moves v u → Stands side lines moves w u
+  use_same v w p q e u c =
+      let s : (k : ℕ) × IsNumberOf side lines moves wanted index k u = is_index.numbered v u p c in
+      let h : index v s.0 ≡ true = (s.1 v p).1 c in
+      (s.1 w q).0 (same_below (index v) (index w) bound s.0 e (is_index.within v s.0 h) h)
 
-  pub split_is : (new : ℕ → ℕ) (changed : Bool) → IsGrouped (use_key old bound index) (IsNamed lines) new →
-      (changed ≡ false → (v : ℕ) → (new v ≡ old v) ⊎ (IsNamed lines v → ⊥)) →
-      (changed ≡ true → (v : ℕ) × IsNamed lines v × (new v ≢ old v)) → IsSplit side lines moves old new changed
-  split_is new changed is stays differs = record {
+  abbrev IsWanted : ℕ → Type 0
+  IsWanted n = wanted n ≡ true
+
+  both : (v w : ℕ) → IsNamed lines v → IsNamed lines w → old v ≡ old w → v ≢ w → IsWanted v × IsWanted w
+  both v w a b e apart = (are_shared.all v w a b e apart, are_shared.all w v b a (sym e) (λ f. apart (sym f)))
+
+  pub split_is : (new : ℕ → ℕ) (moved changed : Bool) → IsGrouped (use_key old bound index) (λ n. wanted n ≡ true) new →
+      ((v : ℕ) → IsNamed lines v ⊎ (IsNamed lines v → ⊥)) →
+      (moved ≡ false → (v : ℕ) → IsNamed lines v → (wanted v ≡ true) ⊎ (old v ≡ v)) →
+      (moved ≡ true → (v : ℕ) × IsNamed lines v × (wanted v ≡ false) × (old v ≢ v)) →
+      (changed ≡ false → (v : ℕ) → (new v ≡ old v) ⊎ (wanted v ≡ true → ⊥)) →
+      (changed ≡ true → (v : ℕ) × (wanted v ≡ true) × (new v ≢ old v)) →
+      IsSplit side lines moves old new (moved || changed)
+  split_is new moved changed is named stay away stays differs = record {
     least = is.least;
     own = is.own;
-    alone = is.alone;
-    one = λ v w a b e same. is.one v w a b
-        (ap (λ (ks : List ℕ). ks ++ old v ∷ []) (numbers_same v w same) ∙ ap (λ (k : ℕ). numbers_of w ++ k ∷ []) e);
-    parts = λ v w e. parts v w (key_one (use_key old bound index) (IsNamed lines) new is v w e);
-    stays = stays;
-    differs = differs;
+    alone = λ v none. is.alone v (λ h. none (are_shared.among v h));
+    one = λ v w a b e same. one v w a b e same (same_or_apart v w);
+    parts = λ v w e. parts v w (named_one (use_key old bound index) IsWanted new is v w e);
+    stays = λ e v. let f = neither moved changed e in stays_at f.0 f.1 v (named v) (stays f.1 v);
+    differs = λ e. differs_at (which moved changed e);
   }
     where
-      parts : (v w : ℕ) → (v ≡ w) ⊎ (key_of v ≡ key_of w) → (v ≡ w) ⊎ ((old v ≡ old w) × HaveSameUses side lines moves v w)
+      one : (v w : ℕ) → IsNamed lines v → IsNamed lines w → old v ≡ old w → HaveSameUses side lines moves v w →
+          (v ≡ w) ⊎ (v ≢ w) → new v ≡ new w
+      one v w a b e same (inl f) = ap new f
+      one v w a b e same (inr apart) =
+          let h = both v w a b e apart in
+          is.one v w h.0 h.1 (ap (λ (ks : List ℕ). ks ++ old v ∷ []) (numbers_same v w h.0 h.1 same)
+          ∙ ap (λ (k : ℕ). numbers_of w ++ k ∷ []) e)
+
+      parts : (v w : ℕ) → (v ≡ w) ⊎ (IsWanted v × IsWanted w × (key_of v ≡ key_of w)) →
+          (v ≡ w) ⊎ ((old v ≡ old w) × HaveSameUses side lines moves v w)
       parts v w (inl e) = inl e
-      parts v w (inr e) =
+      parts v w (inr (a, b, e)) =
           let f = push_one (numbers_of v) (numbers_of w) (old v) (old w) e in
-          inr (f.1, λ u. (use_same v w f.0 u, use_same w v (sym f.0) u))
+          inr (f.1, λ u. (use_same v w a b f.0 u, use_same w v b a (sym f.0) u))
+
+      lone : (v : ℕ) → (IsWanted v → ⊥) → new v ≡ v
+      lone v none = is.alone v none
+
+      neither : (a b : Bool) → (a || b) ≡ false → (a ≡ false) × (b ≡ false)
+      neither false false e = (refl, refl)
+      neither false true e = absurd (cc)
+      neither true b e = absurd (cc)
+
+      which : (a b : Bool) → (a || b) ≡ true → (a ≡ true) ⊎ (b ≡ true)
+      which true b e = inl refl
+      which false true e = inr refl
+      which false false e = absurd (cc)
+
+      stays_at : moved ≡ false → changed ≡ false → (v : ℕ) → IsNamed lines v ⊎ (IsNamed lines v → ⊥) →
+          (new v ≡ old v) ⊎ (IsWanted v → ⊥) → (new v ≡ old v) ⊎ (IsNamed lines v → ⊥)
+      stays_at e f v (inr none) p = inr none
+      stays_at e f v (inl a) (inl g) = inl g
+      stays_at e f v (inl a) (inr none) = by (stay e v a)
+        where
+          by : (wanted v ≡ true) ⊎ (old v ≡ v) → (new v ≡ old v) ⊎ (IsNamed lines v → ⊥)
+          by (inl h) = absurd (none h)
+          by (inr g) = inl (lone v none ∙ sym g)
+
+      differs_at : (moved ≡ true) ⊎ (changed ≡ true) → (v : ℕ) × IsNamed lines v × (new v ≢ old v)
+      differs_at (inl e) =
+          let (v, a, h, apart) = away e in
+          (v, a, λ f. apart (sym f ∙ lone v (λ g. let k : false ≡ true = sym h ∙ g in absurd (cc))))
+      differs_at (inr e) = let s = differs e in (s.0, are_shared.among s.0 s.1, s.2)
 
 -- what is equal by finer classes is so by coarser ones
 module _ (fine coarse : ℕ → ℕ) (finer : (a b : ℕ) → fine a ≡ fine b → coarse a ≡ coarse b) where

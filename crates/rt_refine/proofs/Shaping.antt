@@ -29,6 +29,22 @@ key_one key named class is v w e = by (is.same v) (is.same w)
     by (inr (a, f)) (inl g) = inr (sym f ∙ ap key (e ∙ g))
     by (inr (a, f)) (inr (b, g)) = inr (sym f ∙ ap key e ∙ g)
 
+-- and are named, if they are two
+pub named_one : (key : ℕ → List ℕ) (named : ℕ → Type 0) (class : ℕ → ℕ) → IsGrouped key named class → (v w : ℕ) →
+    class v ≡ class w → (v ≡ w) ⊎ (named v × named w × (key v ≡ key w))
+named_one key named class is v w e = by (is.same v) (is.same w) (key_one key named class is v w e)
+  where
+    of : (n m : ℕ) → named n → class n ≡ m → named m
+    of n m a f = subst named f (is.within n a)
+
+    by : (class v ≡ v) ⊎ (named v × (key (class v) ≡ key v)) → (class w ≡ w) ⊎ (named w × (key (class w) ≡ key w)) →
+        (v ≡ w) ⊎ (key v ≡ key w) → (v ≡ w) ⊎ (named v × named w × (key v ≡ key w))
+    by p q (inl f) = inl f
+    by (inl f) (inl g) (inr h) = inl (sym f ∙ e ∙ g)
+    by (inl f) (inr (b, g)) (inr h) = inr (of w v b (sym e ∙ f), b, h)
+    by (inr (a, f)) (inl g) (inr h) = inr (a, of v w a (e ∙ g), h)
+    by (inr (a, f)) (inr (b, g)) (inr h) = inr (a, b, h)
+
 module _ (lines : List Line) where
   abbrev HaveOneShape : ℕ → ℕ → Type 0
   HaveOneShape v w = (order : Below) → Derivable order lines (Same (exist v) (exist w))

@@ -1,5 +1,5 @@
 -- Existentials in classes, each with the name of its least member.
-use Rattle.std.specs.Prelude.{◌≡◌, ◌↔◌, ℕ, ◌≤◌, ◌⊎◌, List, [], ◌∷◌, Contains, Bool, true, cond, Option, Some, None, unwrap_or}
+use Rattle.std.specs.Prelude.{◌≡◌, ◌≢◌, ◌↔◌, ℕ, ◌≤◌, ◌⊎◌, List, [], ◌∷◌, Contains, Bool, true, cond, Option, Some, None, unwrap_or}
 use Rattle.std.specs.Ordering.{is_eq, nat_cmp}
 use Rattle.rt_lines.specs.declared.line.Line.{Line}
 use Rattle.rt_polar.specs.Index.{Names}
@@ -38,3 +38,20 @@ pub record IsGrouped (key : ℕ → List ℕ) (named : ℕ → Type 0) (class : 
   pub alone : (v : ℕ) → (named v → ⊥) → class v ≡ v
   pub one : (v w : ℕ) → named v → named w → key v ≡ key w → class v ≡ class w
   pub same : (v : ℕ) → (class v ≡ v) ⊎ (named v × (key (class v) ≡ key v))
+  pub within : (v : ℕ) → named v → named (class v)
+
+-- each of those that were met has a first one of its class; the two are one, or both are noted
+pub record AreMet (class : ℕ → ℕ) (met : List ℕ) (firsts : ℕ → Option ℕ) (shared : ℕ → Bool) : Type 0 where
+  pub each : (n : ℕ) → Contains met n →
+      (first : ℕ) × (firsts (class n) ≡ Some first) × ((first ≡ n) ⊎ ((shared first ≡ true) × (shared n ≡ true)))
+  pub first : (c n : ℕ) → firsts c ≡ Some n → Contains met n
+  pub noted : (n : ℕ) → shared n ≡ true → Contains met n
+
+-- the set has each of some existentials that shares its class with another one of them, and no others
+pub record AreShared (named : ℕ → Type 0) (class : ℕ → ℕ) (shared : ℕ → Bool) : Type 0 where
+  pub all : (v w : ℕ) → named v → named w → class v ≡ class w → v ≢ w → shared v ≡ true
+  pub among : (v : ℕ) → shared v ≡ true → named v
+
+-- the list has the existentials that the lines name
+abbrev pub AreListed : List Line → List ℕ → Type 0
+AreListed lines named = (n : ℕ) → Contains named n ↔ IsNamed lines n

@@ -1,6 +1,7 @@
 // What stands beside existentials, by numbers.
 ghost use Rattle.std.specs.Prelude.{◌≡◌, ℕ, ◌+◌, ◌<◌, ◌≤◌, List, [], ◌∷◌, ◌++◌, true, IfOk, MatchOption, OnOk, length};
 ghost use Rattle.std.specs.BTreeMap.{get};
+ghost use Rattle.std.specs.BTreeSet.{contains};
 ghost use Rattle.std.specs.Ordering.{nat_cmp};
 ghost use Rattle.rt_lines.specs.declared.line.Line.{Line as TheLine};
 ghost use Rattle.rt_polar.specs.Index.{has};
@@ -34,44 +35,60 @@ fn number_of(numbers: &mut Numbers, ranks: Vec<Rank>, fresh: usize) -> Result<us
     Ok(fresh)
 }
 
-// Adds what stands beside the existential on the side of the line, if there is one.
+// Adds what stands beside the existential on the side of the line, if there is one and it is asked for.
 fn note_use(
     alloc: Global,
     numbers: &mut Numbers,
     index: &mut Index,
     classes: &Classes,
+    wanted: &BTreeSet<u32>,
     line: &Line,
     side: Side,
     fresh: usize,
 ) -> Result<(), Memory>
     ensures { OnOk result ((seen : List TheLine) →
-        IsIndexOf side seen (class_of (get nat_cmp classes.now)) fresh (HasNumber rank_cmp numbers.old) (has index.old) →
-        IsIndexOf side (seen ++ line.now ∷ []) (class_of (get nat_cmp classes.now)) (fresh + 1) (HasNumber rank_cmp numbers.new)
-        (has index.new)) }
+        IsIndexOf side seen (class_of (get nat_cmp classes.now)) (contains nat_cmp wanted.now) fresh
+        (HasNumber rank_cmp numbers.old) (has index.old) →
+        IsIndexOf side (seen ++ line.now ∷ []) (class_of (get nat_cmp classes.now)) (contains nat_cmp wanted.now) (fresh + 1)
+        (HasNumber rank_cmp numbers.new) (has index.new)) }
 {
     let Some(existential) = owner(line, side) else {
         return Ok(());
     };
+    if !wanted.contains(&existential) {
+        return Ok(());
+    }
     let ranks = use_ranks(alloc, classes, line, side)?;
     let number = number_of(numbers, ranks, fresh)?;
     index.insert((existential, number))?;
     Ok(())
 }
 
-/// For each existential the numbers of what stands beside it in the lines in which it stands on the side. The error is out
-/// of memory.
+/// For each existential that is asked for the numbers of what stands beside it in the lines in which it stands on the side.
+/// The error is out of memory.
 pub fn use_index(
     alloc: Global,
     lines: &[Line],
     classes: &Classes,
+    wanted: &BTreeSet<u32>,
     side: Side,
 ) -> Result<Index, Memory>
-    ensures { IfOk result (λ index. IsUseIndex side lines.now (class_of (get nat_cmp classes.now)) (length lines.now) (has index)) }
+    ensures { IfOk result (λ index. IsUseIndex side lines.now (class_of (get nat_cmp classes.now)) (contains nat_cmp wanted.now)
+        (length lines.now) (has index)) }
 {
     let mut numbers = BTreeMap::new(alloc);
     let mut index = BTreeSet::new(alloc);
     for (i, line) in lines.iter().enumerate() {
-        note_use(alloc, &mut numbers, &mut index, classes, line, side, i)?;
+        note_use(
+            alloc,
+            &mut numbers,
+            &mut index,
+            classes,
+            wanted,
+            line,
+            side,
+            i,
+        )?;
     }
     Ok(index)
 }

@@ -8,12 +8,13 @@ pub mod laws;
 mod listing;
 mod moving;
 mod ranks;
+mod sharing;
 mod splitting;
 mod uses;
 
 pub use coarsest::classes;
 pub use grouping::{Classes, Leaders, class_of, follow};
-pub use listing::existentials;
+pub use listing::{existentials, named};
 pub use moving::{move_lines, refine};
 pub use splitting::split;
 pub use uses::Side;

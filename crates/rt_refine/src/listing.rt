@@ -4,7 +4,7 @@ ghost use Rattle.std.specs.BTreeSet.{contains};
 ghost use Rattle.std.specs.Ordering.{nat_cmp};
 ghost use Rattle.rt_lines.specs.declared.variable.Base.TheVariants.{Exist as Existential};
 ghost use Rattle.rt_polar.specs.Index.{Names};
-ghost use Rattle.rt_refine.specs.Groups.{AreNamed, AreNoted};
+ghost use Rattle.rt_refine.specs.Groups.{AreListed, AreNamed, AreNoted};
 
 use rt_base::Memory;
 use rt_lines::{Base, Line};
@@ -43,4 +43,20 @@ pub fn existentials(alloc: Global, lines: &[Line]) -> Result<BTreeSet<u32>, Memo
         note_line(&mut found, line)?;
     }
     Ok(found)
+}
+
+// The existentials of a set, in order.
+fn listed(alloc: Global, set: &BTreeSet<u32>) -> Result<Vec<u32>, Memory>
+    ensures { IfOk result (λ list. list.items ≡ set.now.keys) }
+{
+    set.iter().copied().collect(alloc)
+}
+
+/// The existentials that the lines name, in order. The error is out of memory.
+pub fn named(alloc: Global, lines: &[Line]) -> Result<Vec<u32>, Memory>
+    ensures { IfOk result (λ named. AreListed lines.now named.items) }
+{
+    let found = existentials(alloc, lines)?;
+    let named = listed(alloc, &found)?;
+    Ok(named)
 }

@@ -19,6 +19,11 @@ use Rattle.rt_sure.specs.Grounds.{Grounded, HasFlagged}
 abbrev pub IsOwnOuter : List Line → Lined → Type 0
 IsOwnOuter lines outer = (outer.lines ≡ lines) × (outer.named ≡ named_by lines [])
 
+-- the same, but that they may name more
+abbrev pub IsOuterOf : List Line → Lined → Type 0
+IsOuterOf lines outer = (outer.lines ≡ lines) ×
+    ((l : Line) (x : Dtv) → Contains lines l → HasSide l x → Contains outer.named x)
+
 -- arcs of lines between the variables that they and others name, the given ones among these
 pub record IsLowerWith (lines : List Line) (sides : List Dtv) (lower : Lined) : Type 0 where
   pub extra : List Dtv
@@ -28,7 +33,7 @@ pub record IsLowerWith (lines : List Line) (sides : List Dtv) (lower : Lined) : 
 
 -- what is left are those of the lines of arcs whose flags are set, among them all before a place
 pub record AreStanding (left : List Line) (stands : List Bool) (place : ℕ) (outer : Lined) : Type 0 where
-  pub own : outer.named ≡ named_by outer.lines []
+  pub sides : (l : Line) (x : Dtv) → Contains outer.lines l → HasSide l x → Contains outer.named x
   pub left_are : left ≡ standing outer.lines stands
   pub before : (i : ℕ) → i < place → slice_index_or stands i false ≡ true
 

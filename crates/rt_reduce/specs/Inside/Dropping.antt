@@ -6,6 +6,7 @@ use Rattle.rt_lines.specs.declared.line.Line.{Line}
 use Rattle.rt_lines.specs.Orders.{Below}
 use Rattle.rt_rules.specs.Rules.{Derivable}
 use Rattle.rt_reduction.specs.Drops.{Drops}
+use Rattle.rt_reduction.specs.Emits.{is_flow}
 use Rattle.rt_witness.specs.declared.witnesses.Witnesses.{Witnesses as Witnessed}
 use Rattle.rt_witness.specs.Witnesses.{IsLeft, IsWitnesses}
 use Rattle.rt_sure.specs.declared.fate.Fate.{Fate}
@@ -54,6 +55,10 @@ pub record AreLeft (order : Below) (lines : List Line) (place : ℕ) (left : Lis
   pub within : place ≤ length lines
   pub stand : left ≡ take place lines ++ kept
   pub drops : Drops order (take place lines) (drop place lines) kept
+
+-- no line from a place on is a `<=` line or a bound
+abbrev pub AreShape : List Line → ℕ → Type 0
+AreShape lines place = (i : ℕ) (l : Line) → place ≤ i → slice_get lines i ≡ Some l → is_flow l ≡ false
 
 -- the line at an index follows from none of the others, however many of them stand
 abbrev pub IsStaying : Below → List Line → ℕ → Type 0

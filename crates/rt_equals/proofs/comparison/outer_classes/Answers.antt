@@ -5,5 +5,5 @@ use Rattle.rt_equals.proofs.comparison.outer_classes.Goals as goal
 
 pub returns : goal.returns
 returns c =
-    outer_of c.args.lines.now (named_by c.args.lines.now []) c.in_ok-upper.upper c.in_ok-classes.classes.count c.in_ok-classes.classes.numbers.items
-    c.in_ok-upper.ensures refl c.in_ok-classes.ensures
+    outer_of c.args.lines.now (named_by c.args.lines.now []) c.args.outer.now c.in_ok-classes.classes.count c.in_ok-classes.classes.numbers.items
+    c.requires refl c.in_ok-classes.ensures

@@ -5,5 +5,5 @@ use Rattle.rt_equals.proofs.comparison.outlined.Goals as goal
 
 pub are_exact-requires-clause-outer : goal.are_exact-requires-clause-outer
 are_exact-requires-clause-outer c =
-    subst (λ (xs : List Dtv). AreOuterEquals c.args.lines.now xs c.in_ok-outer.outer.count c.in_ok-outer.outer.numbers.items) (sym c.requires)
+    subst (λ (xs : List Dtv). AreOuterEquals c.args.lines.now xs c.in_ok-outer.outer.count c.in_ok-outer.outer.numbers.items) (sym c.requires.named)
     c.in_ok-outer.ensures

@@ -4,7 +4,7 @@ use Rattle.rt_sat.specs.declared.state.Edge.{Edge}
 use Rattle.rt_sat.proofs.Below.{table_within}
 use Rattle.rt_outline.specs.Together.{AreTogetherBy, HasPair}
 use Rattle.rt_equals.specs.Comparing.{AreEquals}
-use Rattle.rt_equals.specs.Plain.{ArePlainPairs, HasPlain}
+use Rattle.rt_equals.specs.Plain.{ArePlainPairs}
 use Rattle.rt_equals.proofs.Equal.{equals_whole}
 use Rattle.rt_equals.proofs.counted.counted.Goals as goal
 

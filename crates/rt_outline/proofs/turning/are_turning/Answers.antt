@@ -15,6 +15,6 @@ pub returns : goal.returns
 returns c = λ e. record {
   marked = c.are_marked.ensures c.if-not-are_marked.false;
   told = λ v less p d l made.
-      (let within : v < c.count-node-end.result = c.count-node-end.ensures v p l less made in
+      (let within : v < c.count-count.result = c.count-count.ensures v p l less made in
       c.loop-node.invariant v (omega (arith, within, c.loop-node-test.false)) p d l made);
 }

@@ -28,5 +28,5 @@ returns c = λ yes.
     c.from_ref.result.now
     (subst (λ (xs : List Dtv). AreAbove c.args.order.now c.args.left.now c.args.k xs) (sym c.deref.ensures.value) c.in_ok-from.ensures)
     c.from_ref.ensures.value
-    (low_below c.args.order.now c.args.left.now c.args.k c.args.x.now (λ other. (c.in_ok-is_there.ensures other).0 c.if-not-branch.false) c.args.inner.now c.requires.inner c.deref.result.now
-    c.from_ref.result.now (c.in_ok-led.ensures yes c.args.order.now))
+    (low_below c.args.order.now c.args.left.now c.args.k c.args.x.now (λ other. (c.in_ok-there.ensures other).0 yes) c.args.inner.now c.requires.inner c.deref.result.now
+    c.from_ref.result.now (c.in_ok-leads.ensures c.if-not-branch.false c.args.order.now))

@@ -28,5 +28,5 @@ returns c = λ yes.
     c.from_ref.result.now c.deref.result.now
     (subst (λ (xs : List Dtv). AreBelow c.args.order.now c.args.left.now c.args.k xs) (sym c.deref.ensures.value) c.in_ok-to.ensures)
     c.from_ref.ensures.value
-    (up_below c.args.order.now c.args.left.now c.args.k c.args.x.now (λ other. (c.in_ok-is_there.ensures other).0 c.if-not-branch.false) c.args.inner.now c.requires.inner c.from_ref.result.now
-    c.deref.result.now (c.in_ok-led.ensures yes c.args.order.now))
+    (up_below c.args.order.now c.args.left.now c.args.k c.args.x.now (λ other. (c.in_ok-there.ensures other).0 yes) c.args.inner.now c.requires.inner c.from_ref.result.now
+    c.deref.result.now (c.in_ok-leads.ensures c.if-not-branch.false c.args.order.now))

@@ -1,9 +1,10 @@
-use Rattle.std.proofs.Common.{ℕ, List, All, Contains, sym, ap, subst, ◌∙◌}
+use Rattle.std.proofs.Common.{◌≡◌, ℕ, List, [], All, Contains, sym, ap, subst, ◌∙◌}
 use Rattle.rt_lines.specs.declared.variable.Base.TheVariants.{Exist}
 use Rattle.rt_lines.specs.declared.variable.Dtv.{Dtv}
 use Rattle.rt_lines.specs.declared.line.Line.{Line}
 use Rattle.rt_lines.specs.Lines.{HasConstantsBelow}
 use Rattle.rt_rules.specs.Laws.{NamesBase}
+use Rattle.rt_named.specs.Naming.{named as named_by}
 use Rattle.rt_equals.specs.Comparing.{AreEquals, Lined}
 use Rattle.rt_reduction.specs.Emits.{AreOfScheme}
 use Rattle.rt_reduction.specs.Merges.{HasEqual, Merges}
@@ -22,6 +23,14 @@ returns-then-not-has_existential-clause-merges c =
     (none_left (λ n has. (let s = equal_side c.args.order.now c.args.lines.now n has in
     c.has_existential.ensures c.if-not-has_existential.true n s.0
     (subst (λ (xs : List Dtv). Contains xs s.0) (sym (c.deref.ensures.value ∙ c.in_ok-sides.ensures)) s.1) s.2)))
+
+pub equals-requires : goal.equals-requires
+equals-requires c =
+    let lines : c.args.outer.now.lines ≡ c.in_ok-comparison.comparison.lines =
+    c.requires.outer.0 ∙ sym (ap (λ (t : Lined). t.lines) c.in_ok-comparison.ensures) in
+    let named : c.args.outer.now.named ≡ named_by c.in_ok-comparison.comparison.lines [] =
+    c.requires.outer.1 ∙ ap (λ (ls : List Line). named_by ls []) (sym (ap (λ (t : Lined). t.lines) c.in_ok-comparison.ensures)) in
+    λ i. record { lines = lines i; named = named i }
 
 pub numbers-requires-clause-named : goal.numbers-requires-clause-named
 numbers-requires-clause-named c = λ x m.
@@ -81,7 +90,7 @@ returns-clause-scheme c = λ h.
 pub returns-clause-constants : goal.returns-clause-constants
 returns-clause-constants c =
     c.in_ok-left.ensures.constants c.args.order.now.count
-    (subst (All (HasConstantsBelow c.args.order.now.count)) (sym (c.from_vec-now.ensures ∙ c.in_ok-start.ensures)) c.requires)
+    (subst (All (HasConstantsBelow c.args.order.now.count)) (sym (c.from_vec-now.ensures ∙ c.in_ok-start.ensures)) c.requires.constants)
 
 pub returns-clause-named : goal.returns-clause-named
 returns-clause-named c = λ n h.

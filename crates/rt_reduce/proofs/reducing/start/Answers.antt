@@ -1,6 +1,4 @@
-use Rattle.std.proofs.Common.{List, subst}
-use Rattle.rt_lines.specs.declared.line.Line.{Line}
-use Rattle.rt_polar.specs.Tidied.{tidied}
+use Rattle.std.proofs.Common.{subst}
 use Rattle.rt_reduction.specs.Rounds.{Prepares}
 use Rattle.rt_reduce.proofs.Keeping.{prepared_below, prepared_scheme, split_below, split_scheme}
 use Rattle.rt_reduce.proofs.reducing.start.Goals as goal

@@ -1,8 +1,9 @@
-use Rattle.std.proofs.Common.{List, [], All, sym, subst}
+use Rattle.std.proofs.Common.{List, [], All, sym, ap, subst}
 use Rattle.rt_lines.specs.declared.variable.Base.TheVariants.{Exist}
 use Rattle.rt_lines.specs.declared.line.Line.{Line}
 use Rattle.rt_lines.specs.Lines.{HasConstantsBelow}
 use Rattle.rt_rules.specs.Laws.{NamesBase}
+use Rattle.rt_outline.specs.Lines.{Lined}
 use Rattle.rt_reduction.specs.Drops.{Drops}
 use Rattle.rt_reduction.specs.Emits.{AreOfScheme, IsEmitted}
 use Rattle.rt_reduction.specs.Merges.{Merges}
@@ -20,10 +21,18 @@ emit_shape-requires c = record {
       c.requires.scheme);
 }
 
-pub merge_equal-requires : goal.merge_equal-requires
-merge_equal-requires c =
+pub merge_equal-requires-clause-outer : goal.merge_equal-requires-clause-outer
+merge_equal-requires-clause-outer c =
+    (ap (λ (t : Lined). t.lines) c.in_ok-outer.ensures, ap (λ (t : Lined). t.named) c.in_ok-outer.ensures)
+
+pub if_same-outer-requires : goal.if_same-outer-requires
+if_same-outer-requires c =
+    (ap (λ (t : Lined). t.lines) c.in_ok-outer.ensures, ap (λ (t : Lined). t.named) c.in_ok-outer.ensures)
+
+pub merge_equal-requires-clause-constants : goal.merge_equal-requires-clause-constants
+merge_equal-requires-clause-constants c =
     let count = c.args.order.now.count in
-    subst (All (HasConstantsBelow count)) (sym c.items-2.ensures)
+    subst (All (HasConstantsBelow count)) (sym c.items-all.ensures)
     (emitted_below count c.args.order.now c.items.result.now c.in_ok-emitted.emitted (c.in_ok-emitted.ensures c.args.order.now)
     (subst (All (HasConstantsBelow count)) (sym c.items.ensures)
     (prepared_below count c.args.lines c.in_ok-start.start c.in_ok-simple.simple c.in_ok-start.ensures c.in_ok-simple.ensures
@@ -39,8 +48,8 @@ returns-clause-round c =
       merged = c.in_ok-merged.merged;
       is_simple = subst (Prepares c.in_ok-simple.simple) c.in_ok-start.ensures c.in_ok-simple.ensures;
       is_emitted = subst (λ (ls : List Line). IsEmitted order ls c.in_ok-emitted.emitted) c.items.ensures (c.in_ok-emitted.ensures order);
-      is_merged = subst (Merges order c.in_ok-merged.merged) c.items-2.ensures c.in_ok-merged.ensures.merges;
-      is_dropped = subst (λ (ls : List Line). Drops order [] ls c.in_ok-after.after) c.items-3.ensures c.in_ok-after.ensures.drops;
+      is_merged = subst (Merges order c.in_ok-merged.merged) c.items-all.ensures c.in_ok-merged.ensures.merges;
+      is_dropped = subst (λ (ls : List Line). Drops order [] ls c.in_ok-after.after) c.items-left.ensures c.in_ok-after.ensures.drops;
     }
 
 pub returns-clause-begun : goal.returns-clause-begun
@@ -50,9 +59,9 @@ returns-clause-begun c = record {
   is_simple = subst (Prepares c.in_ok-simple.simple) c.in_ok-start.ensures c.in_ok-simple.ensures;
   is_emitted = λ order. subst (λ (ls : List Line). IsEmitted order ls c.in_ok-emitted.emitted) c.items.ensures
       (c.in_ok-emitted.ensures order);
-  named = λ n h. subst (λ (ls : List Line). NamesBase ls (Exist n)) c.items-2.ensures
-      (c.in_ok-merged.ensures.named n (subst (λ (ls : List Line). NamesBase ls (Exist n)) c.items-3.ensures
-      (fewer_named c.items-3.result.now c.in_ok-after.after c.in_ok-after.ensures.stood n h)));
+  named = λ n h. subst (λ (ls : List Line). NamesBase ls (Exist n)) c.items-all.ensures
+      (c.in_ok-merged.ensures.named n (subst (λ (ls : List Line). NamesBase ls (Exist n)) c.items-left.ensures
+      (fewer_named c.items-left.result.now c.in_ok-after.after c.in_ok-after.ensures.stood n h)));
 }
 
 pub returns-clause-scheme : goal.returns-clause-scheme
@@ -60,18 +69,18 @@ returns-clause-scheme c =
     let simple : AreOfScheme c.items.result.now = subst AreOfScheme (sym c.items.ensures)
     (prepared_scheme c.args.lines c.in_ok-start.start c.in_ok-simple.simple c.in_ok-start.ensures c.in_ok-simple.ensures
     c.requires.scheme) in
-    let emitted : AreOfScheme c.items-2.result.now = subst AreOfScheme (sym c.items-2.ensures)
+    let emitted : AreOfScheme c.items-all.result.now = subst AreOfScheme (sym c.items-all.ensures)
     (emits_of_scheme_lem c.args.order.now c.items.result.now c.in_ok-emitted.emitted simple
     (c.in_ok-emitted.ensures c.args.order.now)) in
-    fewer_scheme c.items-3.result.now c.in_ok-after.after c.in_ok-after.ensures.stood
-    (subst AreOfScheme (sym c.items-3.ensures) (c.in_ok-merged.ensures.scheme emitted))
+    fewer_scheme c.items-left.result.now c.in_ok-after.after c.in_ok-after.ensures.stood
+    (subst AreOfScheme (sym c.items-left.ensures) (c.in_ok-merged.ensures.scheme emitted))
 
 pub returns-clause-constants : goal.returns-clause-constants
 returns-clause-constants c =
     let count = c.args.order.now.count in
-    fewer_below count c.items-3.result.now c.in_ok-after.after c.in_ok-after.ensures.stood
-    (subst (All (HasConstantsBelow count)) (sym c.items-3.ensures) c.in_ok-merged.ensures.constants)
+    fewer_below count c.items-left.result.now c.in_ok-after.after c.in_ok-after.ensures.stood
+    (subst (All (HasConstantsBelow count)) (sym c.items-left.ensures) c.in_ok-merged.ensures.constants)
 
 pub returns-clause-needed : goal.returns-clause-needed
 returns-clause-needed c = λ before after l e.
-    none_to_spare_lem c.args.order.now c.items-3.result.now c.in_ok-after.after c.in_ok-after.ensures.drops before after l e
+    none_to_spare_lem c.args.order.now c.items-left.result.now c.in_ok-after.after c.in_ok-after.ensures.drops before after l e

@@ -1,17 +1,16 @@
-use Rattle.std.proofs.Common.{◌≡◌, [], List, Bool, All, Contains, true, false, length, set, replicate, sym, ap, subst, ◌∙◌}
+use Rattle.std.proofs.Common.{◌≡◌, List, Bool, All, Contains, true, false, length, set, replicate, sym, ap, subst, ◌∙◌}
 use Rattle.std.proofs.lemmas.Option.{get_or_from_slice_get}
 use Rattle.rt_lines.specs.declared.line.Line.{Line}
 use Rattle.rt_lines.specs.Lines.{HasConstantsBelow}
 use Rattle.rt_rules.specs.Rules.{Derivable}
 use Rattle.rt_outline.specs.Lines.{standing}
-use Rattle.rt_sat.proofs.Frames.{side_named}
 use Rattle.rt_reduce.proofs.Cleared.{few_standing, others_derive, set_again}
 use Rattle.rt_reduce.proofs.staying.is_staying.Goals as goal
 
 pub told_by-requires-clause-sides : goal.told_by-requires-clause-sides
 told_by-requires-clause-sides c = λ x h.
     let there : Contains c.args.lines.now c.index-lines-i.result = (c.args.i, c.requires.within, sym c.index-lines-i.is) in
-    side_named c.args.lines.now [] c.args.outer.now.named c.requires.outer.1 c.index-lines-i.result x there h
+    c.requires.outer.1 c.index-lines-i.result x there h
 
 pub told_by-requires-clause-constants : goal.told_by-requires-clause-constants
 told_by-requires-clause-constants c =

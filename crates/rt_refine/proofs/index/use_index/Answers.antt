@@ -1,5 +1,6 @@
 use Rattle.std.proofs.Common.{◌≡◌, ℕ, ◌≤◌, List, length, subst, arith}
 use Rattle.std.specs.BTreeMap.{get}
+use Rattle.std.specs.BTreeSet.{contains}
 use Rattle.std.specs.Ordering.{nat_cmp}
 use Rattle.std.proofs.lemmas.List.{take_all}
 use Rattle.rt_lines.specs.declared.line.Line.{Line}
@@ -17,7 +18,8 @@ returns c =
     let numbers = HasNumber rank_cmp c.loop-i.numbers in
     let e : c.loop-i.i ≡ length c.args.lines.now = omega arith in
     let h : length c.args.lines.now ≤ c.loop-i.i = omega arith in
-    subst (λ (bound : ℕ). IsUseIndex c.args.side lines class bound (has c.loop-i.index)) e
-    (index_whole c.args.side lines class c.loop-i.i numbers (has c.loop-i.index)
-    (subst (λ (ls : List Line). IsIndexOf c.args.side ls class c.loop-i.i numbers (has c.loop-i.index)) (take_all c.loop-i.i lines h)
+    let wanted = contains nat_cmp c.args.wanted.now in
+    subst (λ (bound : ℕ). IsUseIndex c.args.side lines class wanted bound (has c.loop-i.index)) e
+    (index_whole c.args.side lines class wanted c.loop-i.i numbers (has c.loop-i.index)
+    (subst (λ (ls : List Line). IsIndexOf c.args.side ls class wanted c.loop-i.i numbers (has c.loop-i.index)) (take_all c.loop-i.i lines h)
     c.loop-i.invariant))

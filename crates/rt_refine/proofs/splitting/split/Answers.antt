@@ -1,78 +1,31 @@
-use Rattle.std.proofs.Common.{◌≡◌, ℕ, List, length, Some, None, true, false, sym, ap, subst, ◌∙◌}
+use Rattle.std.proofs.Common.{Bool, length, sym, subst}
 use Rattle.std.specs.BTreeMap.{get}
 use Rattle.std.specs.BTreeSet.{contains}
-use Rattle.std.specs.Map.{lookup}
-use Rattle.std.specs.Ordering.{is_eq, nat_cmp}
-use Rattle.std.proofs.lemmas.Map.Keys.{le_from_not_gt}
+use Rattle.std.specs.Ordering.{nat_cmp}
 use Rattle.rt_polar.specs.Index.{has}
-use Rattle.rt_polar.proofs.Turning.{none_in}
-use Rattle.rt_refine.specs.Groups.{class_of, IsNamed}
-use Rattle.rt_refine.specs.Numbers.{HasNumber, IsNumbered}
-use Rattle.rt_refine.proofs.Keys.{no_number}
-use Rattle.rt_refine.proofs.Leading.{led_first, led_more, led_last}
-use Rattle.rt_refine.proofs.Parting.{use_key, split_is}
-use Rattle.rt_refine.proofs.Changing.{same_more, differs_now, fresh_place, stays_last, differs_last}
+use Rattle.rt_refine.specs.Groups.{AreShared, class_of, IsNamed}
+use Rattle.rt_refine.specs.Splits.{IsSplit}
+use Rattle.rt_refine.proofs.Noting.{named_or}
+use Rattle.rt_refine.proofs.Parting.{split_is}
 use Rattle.rt_refine.proofs.splitting.split.Goals as goal
-
-pub loop-existential-init : goal.loop-existential-init
-loop-existential-init c =
-    let no_place : (n : ℕ) → get nat_cmp c.new-parts.result n ≡ None =
-    λ n. ap (λ (es : List (ℕ × ℕ)). lookup (λ (k : ℕ). is_eq (nat_cmp n k)) es) c.new-parts.ensures.empty in
-    record {
-      index = c.in_ok-index.ensures;
-      led =
-          led_first (use_key (class_of (get nat_cmp c.args.classes.now)) (length c.args.lines.now) (has c.in_ok-index.index))
-          (IsNamed c.args.lines.now)
-          (contains nat_cmp c.in_ok-pending.pending) (HasNumber nat_cmp c.new-leaders.result)
-          (get nat_cmp c.new-parts.result) (λ n h. (c.in_ok-pending.ensures n).0 h) (λ n h. (c.in_ok-pending.ensures n).1 h)
-          (no_number nat_cmp c.new-leaders.result c.new-leaders.ensures.empty) no_place;
-      same = λ e n v f. let g : None ≡ Some v = sym (no_place n) ∙ f in absurd (cc);
-      differs = λ e. absurd (cc);
-    }
-
-pub loop-existential-preserved : goal.loop-existential-preserved
-loop-existential-preserved c =
-    let v = c.loop-existential.invariant in
-    let w = c.in-Some.existential in
-    let class = class_of (get nat_cmp c.args.classes.now) in
-    let key = use_key class (length c.args.lines.now) (has c.in_ok-index.index) in
-    let leader = c.in_ok-leader.leader in
-    let old = get nat_cmp c.loop-existential.parts in
-    let new = get nat_cmp c.follow.new.classes in
-    record {
-      index = v.index;
-      led =
-          led_more key (IsNamed c.args.lines.now) w
-          (contains nat_cmp c.loop-existential.pending) (contains nat_cmp c.pop_first.new.self)
-          (HasNumber nat_cmp c.loop-existential.leaders) (HasNumber nat_cmp c.follow.new.leaders) old
-          new c.in-Some.ensures.member (λ q h. le_from_not_gt w q (c.in-Some.ensures.least q h))
-          (λ q. c.in-Some.ensures.updates.0 q) v.led leader
-          (subst (λ (ks : List ℕ). IsNumbered ks w leader (HasNumber nat_cmp c.loop-existential.leaders)
-          (HasNumber nat_cmp c.follow.new.leaders)) c.in_ok-key.ensures c.in_ok-leader.ensures.numbered)
-          c.in_ok-leader.ensures.put;
-      same = λ e.
-          let s = c.is_changed-changed.ensures.stays e in
-          same_more class w leader old new c.in_ok-leader.ensures.put (s.1 ∙ c.class_of.ensures) (v.same s.0);
-      differs = λ e.
-          differs_now class w leader old new c.in_ok-leader.ensures.put
-          (fresh_place key (IsNamed c.args.lines.now) class (contains nat_cmp c.loop-existential.pending)
-          (HasNumber nat_cmp c.loop-existential.leaders) old v.led w c.in-Some.ensures.member) c.loop-existential.changed c.class_of.result
-          c.class_of.ensures v.differs (c.is_changed-changed.ensures.differs e);
-    }
 
 pub returns : goal.returns
 returns c =
-    let v = c.loop-existential.invariant in
-    let class = class_of (get nat_cmp c.args.classes.now) in
-    let key = use_key class (length c.args.lines.now) (has c.in_ok-index.index) in
-    let named = IsNamed c.args.lines.now in
-    let pending = contains nat_cmp c.loop-existential.pending in
-    let leaders = HasNumber nat_cmp c.loop-existential.leaders in
-    let place = get nat_cmp c.loop-existential.parts in
-    let none : (n : ℕ) → pending n ≡ true → ⊥ =
-    λ n e. none_in (λ k. is_eq (nat_cmp n k)) c.loop-existential.pending.keys (λ h. let f : false ≡ true =
-    c.in_default.ensures.variant.1 h in cc) e in
-    split_is c.args.side c.args.lines.now (class_of (get nat_cmp c.args.moves.now)) class (length c.args.lines.now) (has c.in_ok-index.index) v.index (class_of place)
-    c.loop-existential.changed (led_last key named pending leaders place none v.led)
-    (λ e. stays_last key named class pending leaders place v.led none (v.same e))
-    (λ e. differs_last key named class pending leaders place v.led (v.differs e))
+    let lines = c.args.lines.now in
+    let named = c.args.named.now in
+    let moves = class_of (get nat_cmp c.args.moves.now) in
+    let old = class_of (get nat_cmp c.args.classes.now) in
+    let new = class_of (get nat_cmp c.in_ok-parts.parts) in
+    let shared = contains nat_cmp c.in_ok-shared.shared in
+    let s = c.in_ok-shared.ensures in
+    let are : AreShared (IsNamed lines) old shared = record {
+      all = λ v w a b. s.all v w ((c.requires v).1 a) ((c.requires w).1 b);
+      among = λ v h. (c.requires v).0 (s.among v h);
+    } in
+    let r = c.in_ok-parts.ensures in
+    let away = c.are_moved-moved.ensures in
+    subst (λ (changed : Bool). IsSplit c.args.side lines moves old new changed) (sym c.either.ensures)
+    (split_is c.args.side lines moves old shared (length lines) (has c.in_ok-index.index) c.in_ok-index.ensures are new
+    c.are_moved-moved.result c.in_ok-parts.changed r.grouped (named_or lines named c.requires)
+    (λ e v a. away.stay e v ((c.requires v).1 a))
+    (λ e. let t = away.moved e in (t.0, (c.requires t.0).0 t.1, t.2, t.3)) r.stays r.differs)
