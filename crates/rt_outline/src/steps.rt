@@ -7,11 +7,14 @@ ghost use Rattle.rt_outline.specs.Inside.Stepping.{group_of, place_of};
 use indexmap::IndexMap;
 use rt_base::Memory;
 use rt_lines::Label;
-use std::alloc::Global;
+use std::alloc::{AllocError, Global};
 use std::marker::Model;
 
 // How many groups of letters there are.
-const GROUPS: usize = 64;
+const GROUPS: usize = 65;
+
+// Of how many nodes hints of one group stand together.
+const NEAR: usize = 256;
 
 // From which node a letter leads to which, with hints that tell soon where none does, and where to look first.
 #[derive(Drop)]
@@ -81,7 +84,7 @@ impl Steps {
 fn place(node: u32, label: Label) -> usize
     ensures { result ≡ place_of node (group_of label) }
 {
-    node as usize * GROUPS + group(label)
+    (node as usize / NEAR * GROUPS + group(label)) * NEAR + node as usize % NEAR
 }
 
 // Which group a letter is of: fields by where they are, the others by their kind.
@@ -114,8 +117,11 @@ fn widen(hints: &mut Vec<u32>, place: usize) -> Result<(), Memory>
     ensures same { (n : ℕ) → slice_index_or hints.new.items n 0 ≡ slice_index_or hints.old.items n 0 }
     ensures room { OnOk result (place < length hints.new.items) }
 {
-    while hints.len() <= place {
-        hints.push(0)?;
+    if hints.len() <= place {
+        let Some(count) = place.checked_add(1) else {
+            return Err(AllocError);
+        };
+        hints.resize(count, 0)?;
     }
     Ok(())
 }

@@ -1,5 +1,5 @@
 // Whether closed arcs tell which nodes have a node below both, and which one above both.
-ghost use Rattle.std.specs.Prelude.{◌≡◌, ◌↔◌, ◌<◌, ℕ, List, Bool, true, false, Contains, IsTrue, None, Some, IfOk, IfSome, length};
+ghost use Rattle.std.specs.Prelude.{◌≡◌, ◌↔◌, ◌<◌, ℕ, [], List, Bool, true, false, Contains, IsTrue, None, Some, IfOk, IfSome, OnOk, length, replicate};
 ghost use Rattle.rt_lines.specs.declared.label.Label.{Label as Letter};
 ghost use Rattle.rt_lines.specs.Words.{label_variance};
 ghost use Rattle.rt_bridge.specs.Counted.{IsPointer};
@@ -9,7 +9,7 @@ ghost use Rattle.rt_outline.specs.Hubs.{HasAccess};
 ghost use Rattle.rt_outline.specs.Turning.{class_at, flag_at, AreTold, AreToldTo, AreTurning, HaveAbove, HaveBelow, HaveBoth};
 ghost use Rattle.rt_outline.specs.Turning.{IsMarkedAt, IsToldAt};
 ghost use Rattle.rt_outline.specs.Inside.Beside.{AreListed};
-ghost use Rattle.rt_outline.specs.Inside.Sides.{AreSides, AreSplitIn};
+ghost use Rattle.rt_outline.specs.Inside.Sides.{AreSplitIn, AreWhole, IsReach, IsWhole};
 
 use crate::arc::Arc;
 use crate::beside::Beside;
@@ -21,15 +21,13 @@ use rt_base::{Memory, Sequence};
 use rt_lines::{Label, Variance};
 use std::alloc::Global;
 
-// What lies above something below a node and below something above it, and the same of what the node is made of.
+// What lies above something below a node and below something above it.
 #[derive(Drop)]
-pub(crate) struct Sides {
-    // Of the node: those that have a node below both, with a load and a store if it needs them, and those that have one above.
+pub(crate) struct Reach {
+    // Those that have a node below both, with a load and a store if it needs them.
     low: Found,
+    // Those that have one above both.
     high: Found,
-    // Of what it is made of.
-    parents_low: Found,
-    parents_high: Found,
 }
 
 // Whether nodes behind letters of nodes of one class have a node below both and one above both as these have, where counts
@@ -49,12 +47,24 @@ pub(crate) fn are_turning(
     }
     let count = count(frame, sorts);
     let beside = Beside::of(alloc, frame, sorts, count)?;
+    let mut known = nothing(alloc, frame.origins.len())?;
     for node in 0..count {
-        if !is_told(alloc, frame, sorts, &beside, stands, node)? {
+        if !is_told(alloc, frame, sorts, &beside, stands, &mut known, node)? {
             return Ok(false);
         }
     }
     Ok(true)
+}
+
+// Nothing, for so many nodes.
+fn nothing(alloc: Global, count: usize) -> Result<Vec<Option<Reach>>, Memory>
+    ensures { IfOk result (λ known. known.items ≡ replicate count None) }
+{
+    let mut known = Vec::with_capacity(alloc, count)?;
+    for _ in 0..count {
+        known.push(None)?;
+    }
+    Ok(known)
 }
 
 // All numbers with a class that are made of another one are less.
@@ -99,11 +109,14 @@ fn is_told(
     sorts: &Sorts,
     beside: &Beside,
     stands: &[bool],
+    known: &mut Vec<Option<Reach>>,
     node: u32,
 ) -> Result<bool, Memory>
     requires frame { IsFrame frame.now.origins.items frame.now.steps frame.now.arcs.items frame.now.back.items }
     requires beside { AreListed frame.now.origins.items sorts.now.classes.items (length sorts.now.classes.items) beside.now }
-    ensures { IfOk result (λ yes. yes ≡ true → IsToldAt frame.now.origins.items (Leads frame.now.arcs.items stands.now true)
+    requires known { AreWhole frame.now.origins.items (Leads frame.now.arcs.items stands.now true) known.old.items }
+    ensures known { OnOk result (AreWhole frame.now.origins.items (Leads frame.now.arcs.items stands.now true) known.new.items) }
+    ensures told { IfOk result (λ yes. yes ≡ true → IsToldAt frame.now.origins.items (Leads frame.now.arcs.items stands.now true)
         sorts.now.classes.items sorts.now.flips.items sorts.now.marks.items (length sorts.now.classes.items) node) }
 {
     if !sorts.is_marked(node as usize) {
@@ -115,25 +128,27 @@ fn is_told(
     let Some(class) = sorts.class(*parent) else {
         return Ok(true);
     };
+    let none = no_reach(alloc)?;
     if is_told_with_all(
-        frame, sorts, beside, None, stands, node, *parent, *label, class,
+        frame, sorts, beside, &none, None, stands, node, *parent, *label, class,
     ) {
         return Ok(true);
     }
     let told = is_told_by_sides(
-        alloc, frame, sorts, beside, stands, node, *parent, *label, class,
+        alloc, frame, sorts, beside, stands, known, node, *parent, *label, class,
     )?;
     Ok(told)
 }
 
 // Whether a node behind a letter has with all others behind letters of nodes of a class what they must have, as its sides tell,
-// unless all nodes of the class have one node below all, and one above.
+// unless all nodes of the class have one node below all, and one above. Those of what it is made of are kept.
 fn is_told_by_sides(
     alloc: Global,
     frame: &Frame,
     sorts: &Sorts,
     beside: &Beside,
     stands: &[bool],
+    known: &mut Vec<Option<Reach>>,
     node: u32,
     parent: u32,
     label: Label,
@@ -141,19 +156,76 @@ fn is_told_by_sides(
 ) -> Result<bool, Memory>
     requires frame { IsFrame frame.now.origins.items frame.now.steps frame.now.arcs.items frame.now.back.items }
     requires beside { AreListed frame.now.origins.items sorts.now.classes.items (length sorts.now.classes.items) beside.now }
-    ensures { IfOk result (λ yes. yes ≡ true → AreToldTo frame.now.origins.items (Leads frame.now.arcs.items stands.now true)
+    requires known { AreWhole frame.now.origins.items (Leads frame.now.arcs.items stands.now true) known.old.items }
+    ensures known { OnOk result (AreWhole frame.now.origins.items (Leads frame.now.arcs.items stands.now true) known.new.items) }
+    ensures told { IfOk result (λ yes. yes ≡ true → AreToldTo frame.now.origins.items (Leads frame.now.arcs.items stands.now true)
         sorts.now.classes.items sorts.now.flips.items node parent class label (length sorts.now.classes.items)) }
 {
     if sorts.is_joined(class) {
         return Ok(false);
     }
-    let access = sorts.is_flip(node as usize);
-    let sides = sides_of(alloc, frame, stands, node, parent, access)?;
+    note(alloc, frame, stands, known, parent)?;
+    match known.get(parent as usize) {
+        Some(Some(parents)) => is_told_beside(
+            alloc, frame, sorts, beside, stands, parents, node, parent, label, class,
+        ),
+        Some(None) | None => Ok(false),
+    }
+}
+
+// Keeps what is known of a node that others are made of.
+fn note(
+    alloc: Global,
+    frame: &Frame,
+    stands: &[bool],
+    known: &mut Vec<Option<Reach>>,
+    parent: u32,
+) -> Result<(), Memory>
+    requires frame { IsFrame frame.now.origins.items frame.now.steps frame.now.arcs.items frame.now.back.items }
+    requires known { AreWhole frame.now.origins.items (Leads frame.now.arcs.items stands.now true) known.old.items }
+    ensures { OnOk result (AreWhole frame.now.origins.items (Leads frame.now.arcs.items stands.now true) known.new.items) }
+{
+    match known.get(parent as usize) {
+        Some(None) => {
+            let parents = reach_of(alloc, frame, stands, parent, false)?;
+            known[parent as usize] = Some(parents);
+            Ok(())
+        }
+        Some(Some(_)) | None => Ok(()),
+    }
+}
+
+// The same, where that is given of what the node is made of. That alone may tell enough.
+fn is_told_beside(
+    alloc: Global,
+    frame: &Frame,
+    sorts: &Sorts,
+    beside: &Beside,
+    stands: &[bool],
+    parents: &Reach,
+    node: u32,
+    parent: u32,
+    label: Label,
+    class: u32,
+) -> Result<bool, Memory>
+    requires frame { IsFrame frame.now.origins.items frame.now.steps frame.now.arcs.items frame.now.back.items }
+    requires beside { AreListed frame.now.origins.items sorts.now.classes.items (length sorts.now.classes.items) beside.now }
+    requires parents { IsWhole frame.now.origins.items (Leads frame.now.arcs.items stands.now true) false parent parents.now }
+    ensures { IfOk result (λ yes. yes ≡ true → AreToldTo frame.now.origins.items (Leads frame.now.arcs.items stands.now true)
+        sorts.now.classes.items sorts.now.flips.items node parent class label (length sorts.now.classes.items)) }
+{
+    if is_told_by_parents(
+        alloc, frame, sorts, beside, stands, parents, node, parent, label, class,
+    )? {
+        return Ok(true);
+    }
+    let own = reach_of(alloc, frame, stands, node, sorts.is_flip(node as usize))?;
     Ok(is_told_with_all(
         frame,
         sorts,
         beside,
-        Some(&sides),
+        &own,
+        Some(parents),
         stands,
         node,
         parent,
@@ -162,29 +234,67 @@ fn is_told_by_sides(
     ))
 }
 
-// What has a node below, or above, it and a node, and what this is made of.
-fn sides_of(
+// The same, where nothing is known of the node.
+fn is_told_by_parents(
+    alloc: Global,
+    frame: &Frame,
+    sorts: &Sorts,
+    beside: &Beside,
+    stands: &[bool],
+    parents: &Reach,
+    node: u32,
+    parent: u32,
+    label: Label,
+    class: u32,
+) -> Result<bool, Memory>
+    requires frame { IsFrame frame.now.origins.items frame.now.steps frame.now.arcs.items frame.now.back.items }
+    requires beside { AreListed frame.now.origins.items sorts.now.classes.items (length sorts.now.classes.items) beside.now }
+    requires parents { IsWhole frame.now.origins.items (Leads frame.now.arcs.items stands.now true) false parent parents.now }
+    ensures { IfOk result (λ yes. yes ≡ true → AreToldTo frame.now.origins.items (Leads frame.now.arcs.items stands.now true)
+        sorts.now.classes.items sorts.now.flips.items node parent class label (length sorts.now.classes.items)) }
+{
+    let none = no_reach(alloc)?;
+    Ok(is_told_with_all(
+        frame,
+        sorts,
+        beside,
+        &none,
+        Some(parents),
+        stands,
+        node,
+        parent,
+        label,
+        class,
+    ))
+}
+
+// Nothing known.
+fn no_reach(alloc: Global) -> Result<Reach, Memory>
+    ensures low { IfOk result (λ reach. reach.low ≡ []) }
+    ensures high { IfOk result (λ reach. reach.high ≡ []) }
+{
+    let low = Found::new(alloc, 0)?;
+    let high = Found::new(alloc, 0)?;
+    Ok(Reach { low, high })
+}
+
+// What has a node below, or above, it and a node.
+fn reach_of(
     alloc: Global,
     frame: &Frame,
     stands: &[bool],
     node: u32,
-    parent: u32,
     access: bool,
-) -> Result<Sides, Memory>
+) -> Result<Reach, Memory>
     requires frame { IsFrame frame.now.origins.items frame.now.steps frame.now.arcs.items frame.now.back.items }
-    ensures { IfOk result (λ sides. AreSides frame.now.origins.items (Leads frame.now.arcs.items stands.now true) access
-        node parent sides) }
+    ensures own { IfOk result (λ reach. IsReach frame.now.origins.items (Leads frame.now.arcs.items stands.now true) access
+        node reach) }
+    ensures whole { IfOk result (λ reach. IsWhole frame.now.origins.items (Leads frame.now.arcs.items stands.now true) access
+        node reach) }
 {
     let low = with_below(alloc, frame, stands, node, access)?;
     let high = with_above(alloc, frame, stands, node)?;
-    let parents_low = with_below(alloc, frame, stands, parent, false)?;
-    let parents_high = with_above(alloc, frame, stands, parent)?;
-    Ok(Sides {
-        low,
-        high,
-        parents_low,
-        parents_high,
-    })
+    Ok(Reach { low, high })
 }
 
 // The nodes that have a node below them and one, with a load and a store if it needs them.
@@ -248,7 +358,8 @@ fn is_told_with_all(
     frame: &Frame,
     sorts: &Sorts,
     beside: &Beside,
-    sides: Option<&Sides>,
+    own: &Reach,
+    parents: Option<&Reach>,
     stands: &[bool],
     node: u32,
     parent: u32,
@@ -257,14 +368,16 @@ fn is_told_with_all(
 ) -> bool
     requires frame { IsFrame frame.now.origins.items frame.now.steps frame.now.arcs.items frame.now.back.items }
     requires beside { AreListed frame.now.origins.items sorts.now.classes.items (length sorts.now.classes.items) beside.now }
-    requires sides { IfSome sides (λ s. AreSides frame.now.origins.items (Leads frame.now.arcs.items stands.now true)
-        (flag_at sorts.now.flips.items node) node parent s.now) }
+    requires own { IsReach frame.now.origins.items (Leads frame.now.arcs.items stands.now true)
+        (flag_at sorts.now.flips.items node) node own.now }
+    requires parents { IfSome parents (λ p.
+        IsWhole frame.now.origins.items (Leads frame.now.arcs.items stands.now true) false parent p.now) }
     ensures { result ≡ true → AreToldTo frame.now.origins.items (Leads frame.now.arcs.items stands.now true)
         sorts.now.classes.items sorts.now.flips.items node parent class label (length sorts.now.classes.items) }
 {
     for other in beside.nodes(class, label) {
         if !is_told_with(
-            frame, sorts, sides, stands, node, parent, label, class, *other,
+            frame, sorts, own, parents, stands, node, parent, label, class, *other,
         ) {
             return false;
         }
@@ -276,7 +389,8 @@ fn is_told_with_all(
 fn is_told_with(
     frame: &Frame,
     sorts: &Sorts,
-    sides: Option<&Sides>,
+    own: &Reach,
+    parents: Option<&Reach>,
     stands: &[bool],
     node: u32,
     parent: u32,
@@ -285,8 +399,10 @@ fn is_told_with(
     other: u32,
 ) -> bool
     requires frame { IsFrame frame.now.origins.items frame.now.steps frame.now.arcs.items frame.now.back.items }
-    requires sides { IfSome sides (λ s. AreSides frame.now.origins.items (Leads frame.now.arcs.items stands.now true)
-        (flag_at sorts.now.flips.items node) node parent s.now) }
+    requires own { IsReach frame.now.origins.items (Leads frame.now.arcs.items stands.now true)
+        (flag_at sorts.now.flips.items node) node own.now }
+    requires parents { IfSome parents (λ p.
+        IsWhole frame.now.origins.items (Leads frame.now.arcs.items stands.now true) false parent p.now) }
     ensures { result ≡ true → (q : ℕ) (m : Letter) → IsMade frame.now.origins.items other q m →
         class_at sorts.now.classes.items q ≡ Some class →
         AreTold frame.now.origins.items (Leads frame.now.arcs.items stands.now true) sorts.now.flips.items parent q label m node other }
@@ -304,8 +420,8 @@ fn is_told_with(
     if has_both(frame, node, other, sorts.is_flip(node as usize)) {
         return true;
     }
-    match sides {
-        Some(sides) => !pointers && is_split(sides, label, *above, other),
+    match parents {
+        Some(parents) => !pointers && is_split(own, parents, label, *above, other),
         None => false,
     }
 }
@@ -363,13 +479,13 @@ fn is_shared(frame: &Frame, arcs: &[Sequence<Arc>], arc: Arc, other: u32, access
 }
 
 // Whether a node has with another one what those have that they are made of, by the sign of a letter.
-fn is_split(sides: &Sides, label: Label, parent: u32, node: u32) -> bool
-    ensures { result ≡ true → AreSplitIn (label_variance label) sides.now parent node }
+fn is_split(own: &Reach, parents: &Reach, label: Label, parent: u32, node: u32) -> bool
+    ensures { result ≡ true → AreSplitIn (label_variance label) own.now parents.now parent node }
 {
     let (below, above) = match label.variance() {
-        Variance::Co => (&sides.parents_low, &sides.parents_high),
-        Variance::Contra => (&sides.parents_high, &sides.parents_low),
+        Variance::Co => (&parents.low, &parents.high),
+        Variance::Contra => (&parents.high, &parents.low),
     };
-    (!below.contains(parent) || sides.low.contains(node))
-        && (!above.contains(parent) || sides.high.contains(node))
+    (!below.contains(parent) || own.low.contains(node))
+        && (!above.contains(parent) || own.high.contains(node))
 }

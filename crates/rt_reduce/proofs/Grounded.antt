@@ -63,7 +63,8 @@ module _ (order : Below) (left : List Line) (stands : List Bool) (place : ℕ) (
   elsewhere j h e =
       let f : Open ≡ Stays = is.known (ap (λ i. get_or ground.stays i false) (sym e) ∙ h) in absurd (cc)
 
-  has_staying : HasFlagged ground.lines ground.stays (remove left place)
+  -- what is left without the line has those that stay
+  pub has_staying : HasFlagged ground.lines ground.stays (remove left place)
   has_staying = λ j m at flag. has j m at (elsewhere j flag) (is.staying j flag)
 
   has_before : HasBefore ground.lines place (remove left place)
@@ -93,3 +94,11 @@ grounds left stands place line order ground flags same within at is =
     IfSome_then ground is (λ g here.
     subst (λ (fs : List Bool). IsGroundFor order (remove left place) fs line place g.now) (sym same)
     (ground_for order left stands place g.now here line (slice_get-get_or left place line within ∙ ap Some (sym at)) within))
+
+-- it has those that stay, where there is a ground
+pub grounds_staying : (order : Below) (left now : List Line) (stands : List Bool) (place : ℕ) (ground : Option (Bor Grounded)) →
+    now ≡ remove left place → IfSome ground (λ g. IsGroundAt order Open left stands place g.now) →
+    IfSome ground (λ g. HasFlagged g.now.lines g.now.stays now)
+grounds_staying order left now stands place ground are is =
+    IfSome_then ground is (λ g here.
+    subst (λ (ls : List Line). HasFlagged g.now.lines g.now.stays ls) (sym are) (has_staying order left stands place g.now here))

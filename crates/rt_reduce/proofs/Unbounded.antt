@@ -120,3 +120,15 @@ one_named known sides x h e z c = elim (Contains-cons_cases x [] z (subst (λ xs
   | inl f ↦ subst (Contains known) f h
   | inr d ↦ absurd (Contains-none z d)
 ]
+
+-- where one variable lies below another one, each of a list of its own
+pub one_below : (order : Below) (lines : List Line) (x y : Dtv) → HasBelow order lines (x ∷ []) (y ∷ []) → Derivable order lines (Sub x y)
+one_below order lines x y (u, v, at, to, derived) =
+    subst (λ (z : Dtv). Derivable order lines (Sub z y)) (sym (the_one x u at))
+    (subst (λ (z : Dtv). Derivable order lines (Sub u z)) (sym (the_one y v to)) derived)
+  where
+    the_one : (z w : Dtv) → Contains (z ∷ []) w → z ≡ w
+    the_one z w c = elim (Contains-cons_cases z [] w c) [
+      | inl f ↦ f
+      | inr d ↦ absurd (Contains-none w d)
+    ]

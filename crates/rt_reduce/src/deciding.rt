@@ -7,12 +7,13 @@ ghost use Rattle.rt_lines.specs.Lines.{HasConstantsBelow};
 ghost use Rattle.rt_lines.specs.Orders.{Below};
 ghost use Rattle.rt_rules.specs.Rules.{Derivable, HasSide};
 ghost use Rattle.rt_outline.specs.Lines.{standing};
+ghost use Rattle.rt_sure.specs.Grounds.{HasFlagged};
 ghost use Rattle.rt_witness.specs.Witnesses.{IsLeft, IsWitnesses};
 ghost use Rattle.rt_reduce.specs.Inside.Deciding.{IsAskable, IsGroundFor, IsInnerFor, IsUpperWith, IsWaysFor, Tells};
 
 use crate::derivable::{are_one, derives_line};
 use crate::early::{decided, is_told};
-use crate::inner::Inner;
+use crate::inner::{Inner, is_tabled};
 use crate::merging::push_sides;
 use crate::opened::seen;
 use rt_base::Memory;
@@ -35,6 +36,7 @@ const PLENTY: usize = 2400;
 pub(crate) fn is_derivable_open(
     alloc: Global,
     inner: Option<&Inner>,
+    ground: Option<&Ground>,
     ways: Option<&Ways>,
     witnesses: &Witnesses,
     stands: &[bool],
@@ -43,6 +45,7 @@ pub(crate) fn is_derivable_open(
     line: &Line,
 ) -> Result<bool, Memory>
     requires inner { IfSome inner (λ t. IsInnerFor order.now (line.now ∷ left.now) t.now) }
+    requires ground { IfSome ground (λ g. HasFlagged g.now.lines g.now.stays left.now) }
     requires ways { IfSome ways (λ t. IsWaysFor order.now (line.now ∷ left.now) t.now) }
     requires witnesses { (lines : List Given) × IsWitnesses lines witnesses.now × IsLeft lines stands.now left.now }
     requires constants { All (HasConstantsBelow order.now.count) left.now }
@@ -52,7 +55,7 @@ pub(crate) fn is_derivable_open(
     if let Some(yes) = decided(alloc, ways, witnesses, stands, left, order, line)? {
         return Ok(yes);
     }
-    if is_told(alloc, inner, witnesses, stands, left, order, line)? {
+    if is_told(alloc, inner, ground, witnesses, stands, left, order, line)? {
         return Ok(true);
     }
     if ways.is_some() {
@@ -87,7 +90,7 @@ fn derives_anew(alloc: Global, left: &[Line], order: &Order, line: &Line) -> Res
     }
 }
 
-// The same, without narrower arcs.
+// The same, without narrower arcs, and by a table where there are many lines.
 fn derives_open(alloc: Global, left: &[Line], order: &Order, line: &Line) -> Result<bool, Memory>
     requires constants { All (HasConstantsBelow order.now.count) left.now }
     requires constant { HasConstantsBelow order.now.count line.now }
@@ -96,11 +99,28 @@ fn derives_open(alloc: Global, left: &[Line], order: &Order, line: &Line) -> Res
     if let Some(yes) = seen(alloc, left, order, line)? {
         return Ok(yes);
     }
+    if is_told_below(alloc, left, line)? {
+        return Ok(true);
+    }
     match told_anew(alloc, left, order, line)? {
         Led::No => Ok(false),
         Led::Yes => Ok(true),
         Led::Open => derives_line(alloc, left, order, line),
     }
+}
+
+// Whether a table of the lines left tells a `<=` line, if there are so many lines that it's worth while.
+fn is_told_below(alloc: Global, left: &[Line], line: &Line) -> Result<bool, Memory>
+    ensures { IfOk result (λ yes. yes ≡ true → (order : Below) → Derivable order left.now line.now) }
+{
+    let Line::Sub(x, y) = line else {
+        return Ok(false);
+    };
+    if left.len() < FEW {
+        return Ok(false);
+    }
+    let yes = is_tabled(alloc, left, x, y)?;
+    Ok(yes)
 }
 
 // What arcs from outside of the lines left alone say of a `<=` line or a bound, unless there are so many that it isn't worth while.

@@ -687,7 +687,9 @@ fn drop_at(
         Led::Open => {}
     }
     let line = left.remove(place);
-    let derived = is_derivable_open(alloc, inner, ways, witnesses, stands, left, order, &line)?;
+    let derived = is_derivable_open(
+        alloc, inner, ground, ways, witnesses, stands, left, order, &line,
+    )?;
     if derived {
         return Ok(());
     }

@@ -6,6 +6,7 @@ ghost use Rattle.rt_lines.specs.Lines.{HasConstantsBelow};
 ghost use Rattle.rt_lines.specs.Orders.{Below};
 ghost use Rattle.rt_rules.specs.Rules.{Derivable};
 ghost use Rattle.rt_witness.specs.Witnesses.{IsLeft, IsWitnesses};
+ghost use Rattle.rt_sure.specs.Grounds.{HasFlagged};
 ghost use Rattle.rt_reduce.specs.Inside.Deciding.{IsInnerFor, IsWaysFor};
 
 use crate::bounds::{lows, ups};
@@ -15,7 +16,7 @@ use crate::inner::Inner;
 use rt_base::Memory;
 use rt_lines::{Dtv, Line, Order};
 use rt_outline::Led;
-use rt_sure::Ways;
+use rt_sure::{Ground, Ways};
 use rt_witness::Witnesses;
 use std::alloc::Global;
 use std::slice;
@@ -78,7 +79,7 @@ fn is_low(
     if !led {
         return Ok(false);
     }
-    let there = is_there(alloc, witnesses, stands, left, x)?;
+    let there = is_there(alloc, None, witnesses, stands, left, x)?;
     Ok(there)
 }
 
@@ -107,7 +108,7 @@ fn is_up(
     if !led {
         return Ok(false);
     }
-    let there = is_there(alloc, witnesses, stands, left, x)?;
+    let there = is_there(alloc, None, witnesses, stands, left, x)?;
     Ok(there)
 }
 
@@ -116,6 +117,7 @@ fn is_up(
 pub(crate) fn is_told(
     alloc: Global,
     inner: Option<&Inner>,
+    ground: Option<&Ground>,
     witnesses: &Witnesses,
     stands: &[bool],
     left: &[Line],
@@ -123,6 +125,7 @@ pub(crate) fn is_told(
     line: &Line,
 ) -> Result<bool, Memory>
     requires inner { IfSome inner (λ t. IsInnerFor order.now (line.now ∷ left.now) t.now) }
+    requires ground { IfSome ground (λ g. HasFlagged g.now.lines g.now.stays left.now) }
     requires witnesses { (lines : List Given) × IsWitnesses lines witnesses.now × IsLeft lines stands.now left.now }
     requires constants { All (HasConstantsBelow order.now.count) left.now }
     requires constant { HasConstantsBelow order.now.count line.now }
@@ -131,31 +134,39 @@ pub(crate) fn is_told(
     match line {
         Line::Var(_) | Line::Same(_, _) | Line::Sub(_, _) => Ok(false),
         Line::Low(k, x) => match inner {
-            Some(inner) => has_low(alloc, inner, witnesses, stands, left, order, *k, x),
+            Some(inner) => has_low(alloc, inner, ground, witnesses, stands, left, order, *k, x),
             None => Ok(false),
         },
         Line::Up(x, k) => match inner {
-            Some(inner) => has_up(alloc, inner, witnesses, stands, left, order, x, *k),
+            Some(inner) => has_up(alloc, inner, ground, witnesses, stands, left, order, x, *k),
             None => Ok(false),
         },
     }
 }
 
-// Whether the variable exists, as far as the lines that stand say which name it, else by the shape of what is left.
+// Whether the variable exists, as far as the lines that stand say which name it, or the shape of lines that stay does, else by
+// the shape of what is left.
 fn is_there(
     alloc: Global,
+    ground: Option<&Ground>,
     witnesses: &Witnesses,
     stands: &[bool],
     left: &[Line],
     x: &Dtv,
 ) -> Result<bool, Memory>
-    requires { (lines : List Given) × IsWitnesses lines witnesses.now × IsLeft lines stands.now left.now }
+    requires ground { IfSome ground (λ g. HasFlagged g.now.lines g.now.stays left.now) }
+    requires witnesses { (lines : List Given) × IsWitnesses lines witnesses.now × IsLeft lines stands.now left.now }
     ensures { IfOk result (λ yes. (order : Below) → IsTrue yes ↔ Derivable order left.now (Exists x.now)) }
 {
     match told_named(witnesses, stands, x) {
         Led::No => Ok(false),
         Led::Yes => Ok(true),
         Led::Open => {
+            if let Some(ground) = ground
+                && ground.exists(x)
+            {
+                return Ok(true);
+            }
             let shape = rt_shape::of(alloc, left)?;
             Ok(exists(&shape, x))
         }
@@ -166,6 +177,7 @@ fn is_there(
 fn has_low(
     alloc: Global,
     inner: &Inner,
+    ground: Option<&Ground>,
     witnesses: &Witnesses,
     stands: &[bool],
     left: &[Line],
@@ -174,6 +186,7 @@ fn has_low(
     x: &Dtv,
 ) -> Result<bool, Memory>
     requires inner { IsInnerFor order.now (LowerBound k x.now ∷ left.now) inner.now }
+    requires ground { IfSome ground (λ g. HasFlagged g.now.lines g.now.stays left.now) }
     requires witnesses { (lines : List Given) × IsWitnesses lines witnesses.now × IsLeft lines stands.now left.now }
     requires constants { All (HasConstantsBelow order.now.count) left.now }
     requires constant { k < order.now.count }
@@ -185,7 +198,7 @@ fn has_low(
     if !inner.leads(alloc, &from, slice::from_ref(x))? {
         return Ok(false);
     }
-    let there = is_there(alloc, witnesses, stands, left, x)?;
+    let there = is_there(alloc, ground, witnesses, stands, left, x)?;
     Ok(there)
 }
 
@@ -193,6 +206,7 @@ fn has_low(
 fn has_up(
     alloc: Global,
     inner: &Inner,
+    ground: Option<&Ground>,
     witnesses: &Witnesses,
     stands: &[bool],
     left: &[Line],
@@ -201,6 +215,7 @@ fn has_up(
     k: u16,
 ) -> Result<bool, Memory>
     requires inner { IsInnerFor order.now (UpperBound x.now k ∷ left.now) inner.now }
+    requires ground { IfSome ground (λ g. HasFlagged g.now.lines g.now.stays left.now) }
     requires witnesses { (lines : List Given) × IsWitnesses lines witnesses.now × IsLeft lines stands.now left.now }
     requires constants { All (HasConstantsBelow order.now.count) left.now }
     requires constant { k < order.now.count }
@@ -212,6 +227,6 @@ fn has_up(
     if !inner.leads(alloc, slice::from_ref(x), &to)? {
         return Ok(false);
     }
-    let there = is_there(alloc, witnesses, stands, left, x)?;
+    let there = is_there(alloc, ground, witnesses, stands, left, x)?;
     Ok(there)
 }

@@ -149,6 +149,17 @@ fn other_bounds(alloc: Global, lines: &[Line], i: usize) -> Result<Vec<Line>, Me
     Ok(others)
 }
 
+// Whether a table of lines tells that a variable lies below another one. Where it doesn't, nothing is said.
+pub(crate) fn is_tabled(alloc: Global, lines: &[Line], x: &Dtv, y: &Dtv) -> Result<bool, Memory>
+    ensures { IfOk result (λ yes. yes ≡ true → (order : Below) → HasBelow order lines.now (x.now ∷ []) (y.now ∷ [])) }
+{
+    let mut sides = Vec::with_capacity(alloc, 2)?;
+    sides.push(x.copy()?)?;
+    sides.push(y.copy()?)?;
+    let table = table_of(alloc, lines, &sides)?;
+    Ok(tells_of(&table, x, slice::from_ref(y)))
+}
+
 // Whether a table tells that one of the variables lies below one of the others.
 fn tells(table: &GrowingTable, from: &[Dtv], to: &[Dtv]) -> bool
     requires { (lines : List Given) × IsTableOf lines table.now }

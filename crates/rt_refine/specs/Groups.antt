@@ -47,7 +47,7 @@ pub record AreMet (class : ℕ → ℕ) (met : List ℕ) (firsts : ℕ → Optio
   pub first : (c n : ℕ) → firsts c ≡ Some n → Contains met n
   pub noted : (n : ℕ) → shared n ≡ true → Contains met n
 
--- the set has each of some existentials that shares its class with another one of them, and no others
+-- the set has each of some existentials that shares its class with another one of them, and of the others none that isn't among them
 pub record AreShared (named : ℕ → Type 0) (class : ℕ → ℕ) (shared : ℕ → Bool) : Type 0 where
   pub all : (v w : ℕ) → named v → named w → class v ≡ class w → v ≢ w → shared v ≡ true
   pub among : (v : ℕ) → shared v ≡ true → named v

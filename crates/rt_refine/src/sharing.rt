@@ -30,7 +30,8 @@ fn note_class(
     Ok(())
 }
 
-/// Those of some existentials, no two of them equal, that share their class with another of them. The error is out of memory.
+/// Some of the existentials that are given, no two of which are equal: among them each that shares its class with another of them.
+/// The error is out of memory.
 pub(crate) fn sharing(
     alloc: Global,
     classes: &Classes,

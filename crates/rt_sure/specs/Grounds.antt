@@ -2,6 +2,8 @@
 use Rattle.std.specs.Prelude.{◌≡◌, ℕ, ◌∷◌, List, Bool, Contains, true, Some, slice_get}
 use Rattle.rt_lines.specs.declared.line.Line.{Line}
 use Rattle.rt_lines.specs.Orders.{Below}
+use Rattle.rt_shape.specs.Graphs.{Graph}
+use Rattle.rt_shape.specs.Shapes.{IsShapeOf}
 use Rattle.rt_sat.specs.declared.increments.GrowingTable.{GrowingTable as Growing}
 use Rattle.rt_sat.specs.declared.increments.Snapshot.{Snapshot}
 use Rattle.rt_sat.specs.Increments.{Tells, Told}
@@ -22,6 +24,12 @@ pub record Grounded : Type 0 where
 -- the list has each line that is flagged
 abbrev pub HasFlagged : List Line → List Bool → List Line → Type 0
 HasFlagged lines flags left = (j : ℕ) (m : Line) → slice_get lines j ≡ Some m → flag_at flags j ≡ true → Contains left m
+
+-- a shape of lines that are flagged
+pub record HasShape (lines : List Line) (flags : List Bool) (graph : Graph) : Type 0 where
+  pub sure : List Line
+  pub flagged : (l : Line) → Contains sure l → (j : ℕ) × (slice_get lines j ≡ Some l) × (flag_at flags j ≡ true)
+  pub shape : IsShapeOf sure graph
 
 -- what a table told at a time is derived by each list that has those that stay and those before a `<=` line, if this is joined,
 -- and that, with it, derives all

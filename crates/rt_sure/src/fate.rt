@@ -1,22 +1,24 @@
 // What becomes of lines.
 ghost use Rattle.std.specs.Prelude.{◌≡◌, ◌≤◌, ℕ, List, Some, ◌↔◌, true, IfOk, IfSome, OnOk};
-ghost use Rattle.std.specs.Prelude.{length, slice_index_or};
+ghost use Rattle.std.specs.Prelude.{Contains, length, slice_get, slice_index_or};
 ghost use Rattle.rt_lines.specs.declared.line.Line.{Line as Given};
 ghost use Rattle.rt_lines.specs.Orders.{Below};
 ghost use Rattle.rt_rules.specs.Rules.{Derivable};
 ghost use Rattle.rt_sat.specs.declared.increments.Snapshot.{Snapshot as Earlier};
 ghost use Rattle.rt_sat.specs.Increments.{IsAdded, Tells, Told};
 ghost use Rattle.rt_sure.specs.Fates.{fate_at, flag_at, AreGoing, DoStay};
+ghost use Rattle.rt_sure.specs.Grounds.{HasShape};
 ghost use Rattle.rt_sure.specs.Inside.Grounds.{IsTold};
 ghost use Rattle.rt_sure.specs.Inside.Shapes.{AreJoined, IsSubtype};
 ghost use Rattle.rt_sure.specs.declared.fate.Fate.TheVariants.{Stays as Staying, Goes as Going};
 
 use crate::ground::Ground;
-use crate::shapes::{is_below, joined, shaped_among};
+use crate::shapes::{is_below, is_set, joined, shaped_among};
 use crate::tables::table_of;
 use rt_base::Memory;
 use rt_lines::{Dtv, Line};
 use rt_sat::GrowingTable;
+use rt_shape::Shape;
 use std::alloc::Global;
 
 /// What becomes of a line, whatever becomes of others.
@@ -111,7 +113,8 @@ fn with_going(
     let mut growing = grown(alloc, lines, stays, among)?;
     let base = growing.snapshot(alloc)?;
     let fates = one_by_one(alloc, &mut growing, lines, stays, &joined)?;
-    let ground = Ground::of(alloc, growing, base, lines, stays, joined)?;
+    let shape = staying_shape(alloc, lines, stays)?;
+    let ground = Ground::of(alloc, growing, base, lines, stays, joined, shape)?;
     Ok(Fated {
         fates,
         ground: Some(ground),
@@ -206,4 +209,48 @@ fn going(
         return Ok(Fate::Open);
     }
     Ok(Fate::Goes)
+}
+
+// The shape of the lines that are flagged, if there is a bound that isn't; else that of no lines.
+fn staying_shape(alloc: Global, lines: &[Line], stays: &[bool]) -> Result<Shape, Memory>
+    ensures { IfOk result (HasShape lines.now stays.now) }
+{
+    let sure = staying_lines(alloc, lines, stays)?;
+    let shape = rt_shape::of(alloc, &sure)?;
+    Ok(shape)
+}
+
+// The lines that are flagged, if there is a bound that isn't.
+fn staying_lines(alloc: Global, lines: &[Line], stays: &[bool]) -> Result<Vec<Line>, Memory>
+    ensures { IfOk result (λ sure. (l : Given) → Contains sure.items l →
+        (j : ℕ) × (slice_get lines.now j ≡ Some l) × (flag_at stays.now j ≡ true)) }
+{
+    let mut sure = Vec::new(alloc);
+    if !has_open_bound(lines, stays) {
+        return Ok(sure);
+    }
+    for i in 0..lines.len() {
+        if is_set(stays, i) {
+            sure.push(lines[i].copy()?)?;
+        }
+    }
+    Ok(sure)
+}
+
+// Whether there is a bound among the lines that isn't flagged.
+fn has_open_bound(lines: &[Line], stays: &[bool]) -> bool {
+    for i in 0..lines.len() {
+        if is_bound(&lines[i]) && !is_set(stays, i) {
+            return true;
+        }
+    }
+    false
+}
+
+// Whether the line is a bound.
+fn is_bound(line: &Line) -> bool {
+    match line {
+        Line::Var(_) | Line::Same(_, _) | Line::Sub(_, _) => false,
+        Line::Low(_, _) | Line::Up(_, _) => true,
+    }
 }

@@ -1,15 +1,17 @@
 // What lines that stay say, with the shapes of others, to be asked with lines that stand.
 ghost use Rattle.std.specs.Prelude.{◌≡◌, ◌∷◌, List, Some, true, IfOk, slice_get};
 ghost use Rattle.rt_lines.specs.declared.line.Line.{Line as Given};
+ghost use Rattle.rt_lines.specs.declared.line.Line.TheVariants.{Var as Exists};
 ghost use Rattle.rt_lines.specs.Orders.{Below};
 ghost use Rattle.rt_rules.specs.Rules.{Derivable};
 ghost use Rattle.rt_sure.specs.Fates.{AreSure, DerivesAll, HasBefore};
-ghost use Rattle.rt_sure.specs.Grounds.{HasFlagged, IsGround};
+ghost use Rattle.rt_sure.specs.Grounds.{HasFlagged, HasShape, IsGround};
 
 use crate::shapes::{is_below, is_set};
 use rt_base::Memory;
-use rt_lines::Line;
+use rt_lines::{Dtv, Line};
 use rt_sat::{GrowingTable, Snapshot};
+use rt_shape::Shape;
 use std::alloc::Global;
 use std::marker::Model;
 
@@ -21,17 +23,20 @@ pub struct Ground {
     lines: Vec<Line>,
     stays: Vec<bool>,
     joined: Vec<bool>,
+    // The shape of lines that stay.
+    shape: Shape,
 }
 
 impl Model for Ground {
     ghost use Rattle.std.specs.Prelude.{};
-    ghost use Rattle.rt_sure.specs.Grounds.{Grounded, IsGround};
+    ghost use Rattle.rt_sure.specs.Grounds.{Grounded, HasShape, IsGround};
 
     ghost Value = { Grounded };
 
     ghost view = { λ g. record { lines = g.lines.items; stays = g.stays.items } };
 
-    ghost invariant = { λ g. IsGround g.lines.items g.stays.items g.joined.items g.base g.growing };
+    ghost invariant = { λ g. IsGround g.lines.items g.stays.items g.joined.items g.base g.growing ×
+        HasShape g.lines.items g.stays.items g.shape };
 }
 
 impl Ground {
@@ -44,8 +49,10 @@ impl Ground {
         lines: &[Line],
         stays: &[bool],
         joined: Vec<bool>,
+        shape: Shape,
     ) -> Result<Ground, Memory>
-        requires { IsGround lines.now stays.now joined.items base growing }
+        requires ground { IsGround lines.now stays.now joined.items base growing }
+        requires shape { HasShape lines.now stays.now shape }
         ensures { IfOk result (λ g. g ≡ record { lines = lines.now; stays = stays.now }) }
     {
         let lines = copied(alloc, lines)?;
@@ -56,7 +63,16 @@ impl Ground {
             lines,
             stays,
             joined,
+            shape,
         })
+    }
+
+    /// Whether it is found that a variable is there by lines that stay. Where it isn't, nothing is said.
+    pub fn exists(&self, x: &Dtv) -> bool
+        ensures { result ≡ true → (order : Below) (left : List Given) → HasFlagged self.now.lines self.now.stays left →
+            Derivable order left (Exists x.now) }
+    {
+        self.shape.node(x).is_some()
     }
 
     /// Whether it is found that the `<=` line at a place follows from the lines that stand: those that stay, those before it, and

@@ -1,5 +1,5 @@
 -- Steps with hints.
-use Rattle.std.specs.Prelude.{◌≡◌, ℕ, ◌+◌, ◌*◌, ◌%◌, ◌<◌, unsigned_abs, List, Some, slice_index_or}
+use Rattle.std.specs.Prelude.{◌≡◌, ℕ, ◌+◌, ◌*◌, ◌/◌, ◌%◌, ◌<◌, unsigned_abs, List, Some, slice_index_or}
 use Rattle.rt_lines.specs.declared.label.Label.{Label}
 use Rattle.rt_lines.specs.declared.label.Label.TheVariants.{In, Out, Load, Store, Field}
 use Rattle.rt_outline.specs.Frames.{step_of}
@@ -14,7 +14,7 @@ group_of (Field bits at) = 5 + unsigned_abs at % 59
 
 -- where the hint of a node and a group is
 abbrev pub place_of : ℕ → ℕ → ℕ
-place_of p group = p * 64 + group
+place_of p group = (p / 256 * 65 + group) * 256 + p % 256
 
 -- the hint is not zero wherever a letter leads on
 abbrev pub AreHinted : List ℕ → List ((ℕ × Label) × ℕ) → Type 0

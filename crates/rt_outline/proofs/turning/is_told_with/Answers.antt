@@ -1,10 +1,10 @@
-use Rattle.std.proofs.Common.{◌≡◌, true, Bor, IfSome, Option, get_or, sym, ap, subst, ◌∙◌}
+use Rattle.std.proofs.Common.{◌≡◌, true, false, Bor, IfSome, Option, get_or, sym, ap, subst, ◌∙◌}
 use Rattle.rt_bridge.specs.Counted.{IsPointer}
 use Rattle.rt_outline.specs.Arcs.{Leads}
 use Rattle.rt_outline.specs.Frames.{Origins}
 use Rattle.rt_outline.specs.Turning.{flag_at, AreTold, HaveBoth}
-use Rattle.rt_outline.specs.Inside.Sides.{AreSides}
-use Rattle.rt_outline.specs.declared.turning.Sides.{Sides}
+use Rattle.rt_outline.specs.Inside.Sides.{IsWhole}
+use Rattle.rt_outline.specs.declared.turning.Reach.{Reach}
 use Rattle.rt_outline.proofs.Told.{letters_differ, made_read, told_apart, told_both, told_split}
 use Rattle.rt_outline.proofs.turning.is_told_with.Goals.{then-is_pointer, else-is_pointer, then-is_pointer-2, else-is_pointer-2}
 use Rattle.rt_outline.proofs.turning.is_told_with.Goals as goal
@@ -63,10 +63,10 @@ returns-then-not-pointers-2 c = λ e q m made class.
         | else-is_pointer u ↦ absurd (let g = sym u.if-is_pointer.false ∙ c.is_pointer.ensures.1 a in cc)
       ]
     ] in
-    let sides : AreSides origins Edge (flag_at flips c.args.node) c.args.node c.args.parent c.in-Some.sides.now =
-    subst (λ (o : Option (Bor Sides)). IfSome o (λ s. AreSides origins Edge (flag_at flips c.args.node) c.args.node c.args.parent s.now))
-    c.in-Some.is c.requires.sides in
+    let whole : IsWhole origins Edge false c.args.parent c.in-Some.parents.now =
+    subst (λ (o : Option (Bor Reach)). IfSome o (λ s. IsWhole origins Edge false c.args.parent s.now))
+    c.in-Some.is c.requires.parents in
     made_read origins c.args.other above letter c.in-Some-Some.field-0.now
     (λ k n. AreTold origins Edge flips c.args.parent k c.args.label n c.args.node c.args.other) read c.in-Some-Some.field-0-is
     (told_split origins Edge flips c.args.parent above c.args.label letter c.args.node c.args.other
-    c.in-Some.sides.now sides (c.is_split.ensures e) none) q m made
+    c.args.own.now c.in-Some.parents.now c.requires.own whole (c.is_split.ensures e) none) q m made

@@ -9,7 +9,7 @@ use Rattle.rt_outline.specs.Lines.{standing}
 use Rattle.rt_reduce.specs.Inside.Deciding.{IsInnerFor, IsOuterFor, IsWaysFor, Tells}
 use Rattle.rt_witness.specs.Witnesses.{IsLeft}
 use Rattle.rt_reduce.proofs.Flags.{left_gone, outer_for, standing_gone}
-use Rattle.rt_reduce.proofs.Grounded.{grounds}
+use Rattle.rt_reduce.proofs.Grounded.{grounds, grounds_staying}
 use Rattle.rt_reduce.proofs.Made.{inner_out, ways_out}
 use Rattle.rt_reduce.proofs.Places.{All-removed}
 use Rattle.rt_reduce.proofs.dropping.drop_at.Goals as goal
@@ -37,6 +37,11 @@ is_derivable_open-requires-clause-inner c =
     IfSome_then c.args.inner c.requires.inner (λ t is.
     subst (λ (ls : List Line). IsInnerFor c.args.order.now (line ∷ ls) t.now) (sym (c.deref-3.ensures.value ∙ c.remove-line.ensures.items))
     (inner_out c.args.order.now left c.args.place t.now is line c.requires.within c.remove-line.ensures.value))
+
+pub is_derivable_open-requires-clause-ground : goal.is_derivable_open-requires-clause-ground
+is_derivable_open-requires-clause-ground c =
+    grounds_staying c.args.order.now c.args.left.now.items c.deref-3.result.now c.args.stands.now.items c.args.place c.args.ground
+    (c.deref-3.ensures.value ∙ c.remove-line.ensures.items) c.requires.ground
 
 pub is_derivable_open-requires-clause-ways : goal.is_derivable_open-requires-clause-ways
 is_derivable_open-requires-clause-ways c =

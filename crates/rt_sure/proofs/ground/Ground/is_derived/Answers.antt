@@ -16,7 +16,7 @@ returns c = λ e order l at left has before stand all.
     let joined : List Bool = c.self.inside.joined.items in
     let place = c.args.place in
     let view : record { lines = lines; stays = stays } ≡ c.args.self.now = c.self.view_is in
-    let is : IsGround lines stays joined c.self.inside.base c.self.inside.growing = c.self.invariant in
+    let is : IsGround lines stays joined c.self.inside.base c.self.inside.growing = c.self.invariant.0 in
     let line : Line = c.in-Some-Sub.field-0.now in
     let more : List Line = c.in_ok-more.more.items in
     let small : place < length lines =
