@@ -54,7 +54,7 @@ impl Inner {
         if plain.open_count(alloc, lines, fates, order)? == 0 {
             return Ok(plain);
         }
-        let sides = plain.asked(alloc, lines, fates, order)?;
+        let sides = bounded(alloc, lines)?;
         let table = table_of(alloc, lines, &sides)?;
         Ok(plain.with_table(table))
     }
@@ -104,27 +104,6 @@ impl Inner {
             }
         }
         Ok(count)
-    }
-
-    // The variables of bounds of which nothing is known and arcs don't tell, and of those that may tell of them. Effort alone
-    // rests on which they are.
-    fn asked(
-        &self,
-        alloc: Global,
-        lines: &[Line],
-        fates: &[Fate],
-        order: &Order,
-    ) -> Result<Vec<Dtv>, Memory>
-        requires own { IsLowerWith lines.now [] self.now }
-        requires constants { All (HasConstantsBelow order.now.count) lines.now }
-    {
-        let mut sides = Vec::new(alloc);
-        for i in 0..lines.len() {
-            if fate_of(fates, i) == Fate::Open && !self.is_told(alloc, lines, order, i)? {
-                add_asked(alloc, lines, order, i, &mut sides)?;
-            }
-        }
-        Ok(sides)
     }
 
     // Whether the line at the index is no bound, or one of which it is known that the others derive it, if its variable exists.
@@ -209,32 +188,14 @@ fn tells_of(table: &GrowingTable, x: &Dtv, to: &[Dtv]) -> bool
     false
 }
 
-// Adds the variable of the bound at the index, and those of others that may tell of it.
-fn add_asked(
-    alloc: Global,
-    lines: &[Line],
-    order: &Order,
-    i: usize,
-    sides: &mut Vec<Dtv>,
-) -> Result<(), Memory>
-    requires within { i < length lines.now }
-    requires constants { All (HasConstantsBelow order.now.count) lines.now }
-{
-    match &lines[i] {
-        Line::Var(_) | Line::Same(_, _) | Line::Sub(_, _) => Ok(()),
-        Line::Low(k, x) => {
-            let others = other_bounds(alloc, lines, i)?;
-            let mut from = lows(alloc, &others, order, *k)?;
-            sides.push(x.copy()?)?;
-            sides.append(&mut from)?;
-            Ok(())
-        }
-        Line::Up(x, k) => {
-            let others = other_bounds(alloc, lines, i)?;
-            let mut to = ups(alloc, &others, order, *k)?;
-            sides.push(x.copy()?)?;
-            sides.append(&mut to)?;
-            Ok(())
+// The variables of bounds. Effort alone rests on which they are.
+fn bounded(alloc: Global, lines: &[Line]) -> Result<Vec<Dtv>, Memory> {
+    let mut sides = Vec::new(alloc);
+    for line in lines {
+        match line {
+            Line::Low(_, x) | Line::Up(x, _) => sides.push(x.copy()?)?,
+            Line::Var(_) | Line::Same(_, _) | Line::Sub(_, _) => {}
         }
     }
+    Ok(sides)
 }

@@ -15,7 +15,6 @@ mod dropping;
 mod early;
 mod handing;
 mod inner;
-mod loose;
 mod merging;
 mod opened;
 mod parting;
