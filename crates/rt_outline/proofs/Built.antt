@@ -122,12 +122,12 @@ pub crossed_outer : (lines : List Line) (known : List Dtv) (named : AreNamed lin
     IsCrossed lines known flips stands origins arcs → AreTurning origins (Leads arcs stands true) classes flips marks (length classes) →
     AreOuterArcs lines known origins arcs
 crossed_outer lines known named classes flips marks stands sorted whole origins arcs is told = record {
-  nodes = (let h : length is.first ≤ length origins = grown_length is.first origins is.more is.behind in omega (arith, is.are.each, h));
-  lines_all = is.lines_all;
+  nodes = (let h : length is.laid.first ≤ length origins = grown_length is.laid.first origins is.laid.more is.laid.behind in omega (arith, is.laid.are.each, h));
+  lines_all = is.laid.lines_all;
   outer =
-      outer_turning lines named.0 known named.1 sorted.graph sorted.shape classes flips sorted.classed sorted.flagged is.first origins is.are
-      (grown_made is.first origins is.more is.behind) arcs stands (all_set stands (length lines) whole) is.closed is.pointers is.accesses
-      is.lines_all marks told;
+      outer_turning lines named.0 known named.1 sorted.graph sorted.shape classes flips sorted.classed sorted.flagged is.laid.first origins is.laid.are
+      (grown_made is.laid.first origins is.laid.more is.laid.behind) arcs stands (all_set stands (length lines) whole) is.closed is.laid.pointers is.laid.accesses
+      is.laid.lines_all marks told;
 }
 
 pub crossed_found : (lines : List Line) (known : List Dtv) (named : AreNamed lines known) (classes : List (Option ℕ)) (flips marks stands : List Bool) →

@@ -1,12 +1,13 @@
 -- Hubs of any nodes entered one by one, and arcs that are closed with them.
-use Rattle.std.proofs.Common.{◌≡◌, ℕ, ◌<◌, ◌≤◌, List, Bool, true, Option, Some, length, arith, ap, ◌++◌, sym, subst, ◌∙◌}
+use Rattle.std.proofs.Common.{◌≡◌, ℕ, ◌<◌, ◌≤◌, List, Bool, true, Option, Some, None, Result, Ok, Err, IfOk, IfSome, length, arith, ap, ◌++◌, sym, subst, ◌∙◌}
 use Rattle.std.specs.Prelude.{slice_get}
 use Rattle.std.proofs.lemmas.List.{append_assoc}
 use Rattle.rt_lines.specs.declared.variable.Dtv.{Dtv}
 use Rattle.rt_lines.specs.declared.line.Line.{Line}
 use Rattle.rt_outline.specs.declared.arc.Arc.{Arc}
+use Rattle.rt_outline.specs.declared.frame.Frame.{Frame}
 use Rattle.rt_outline.specs.Arcs.{HasArc}
-use Rattle.rt_outline.specs.Built.{IsCrossed}
+use Rattle.rt_outline.specs.Built.{IsCrossed, IsLaid}
 use Rattle.rt_outline.specs.Frames.{Origins, IsClosed, IsPushedMore, IsStepped, AreOriginsOf, AreKept, AreMore, HavePointers, IsPointerPair}
 use Rattle.rt_outline.specs.Hubs.{HasAccess, IsGrownBy}
 use Rattle.rt_outline.specs.Lines.{AreLineArcs}
@@ -23,30 +24,68 @@ node_kept old new arcs next m n h =
     omega (arith, h, k)
 
 -- before the arcs of lines are entered there are none
-pub none_before : (first stepped grown : Origins) (none some hubbed : List (List Arc)) → ((v w : ℕ) (line : Option ℕ) → HasArc none v w line → ⊥) →
-    IsStepped first none stepped some → IsGrownBy stepped some grown hubbed → (v w i : ℕ) → HasArc hubbed v w (Some i) → ⊥
-none_before first stepped grown none some hubbed absent steps grows v w i h = absent v w (Some i) (steps.same v w (Some i) (grows.lines v w i h))
+pub none_before : (first stepped : Origins) (none some : List (List Arc)) → ((v w : ℕ) (line : Option ℕ) → HasArc none v w line → ⊥) →
+    IsStepped first none stepped some → (v w i : ℕ) → HasArc some v w (Some i) → ⊥
+none_before first stepped none some absent steps v w i h = absent v w (Some i) (steps.same v w (Some i) h)
 
--- what the steps of building give
-pub crossed_by : (lines : List Line) (known : List Dtv) (flips stands : List Bool) (first stepped grown lined pointed last : Origins)
-    (none some hubbed entered opened all : List (List Arc)) →
+-- what the steps of building give, before there are hubs
+pub laid_by : (lines : List Line) (known : List Dtv) (flips : List Bool) (first stepped lined pointed : Origins) (none some entered opened : List (List Arc)) →
     AreOriginsOf known first → IsStepped first none stepped some → ((n : ℕ) → slice_get flips n ≡ Some true → HasAccess stepped n) →
-    IsGrownBy stepped some grown hubbed → lined ≡ grown → AreLineArcs lines (length lines) known entered →
+    lined ≡ stepped → AreLineArcs lines (length lines) known entered →
     pointed ≡ lined → AreKept entered opened → HavePointers pointed opened → AreMore (IsPointerPair lined) entered opened →
-    last ≡ pointed → IsPushedMore pointed stands opened all → IsClosed last all stands → IsCrossed lines known flips stands last all
-crossed_by lines known flips stands first stepped grown lined pointed last none some hubbed entered opened all
-    are steps accesses grows same_lined are_lines same_pointed kept_opened pointers only same_last pushed closed = record {
-      first = first;
-      more = steps.more ++ grows.more;
-      are = are;
-      behind = same ∙ grows.behind ∙ ap (λ (xs : Origins). xs ++ grows.more) steps.behind ∙ append_assoc first steps.more grows.more;
-      accesses = λ n f. subst (λ (os : Origins). HasAccess os n) (sym same) (grown_access stepped grown grows.more grows.behind n (accesses n f));
-      lines_all =
-          lines_kept lines (length lines) known opened all pushed.kept pushed.lines
-          (lines_kept lines (length lines) known entered opened kept_opened (pointers_lines lined entered opened only) are_lines);
-      pointers = pointers_kept last opened all pushed.kept (subst (λ (os : Origins). HavePointers os opened) (sym same_last) pointers);
-      closed = closed;
-    }
+    IsLaid lines known flips pointed opened
+laid_by lines known flips first stepped lined pointed none some entered opened are steps accesses same_lined are_lines same_pointed kept pointers only = record {
+  first = first;
+  more = steps.more;
+  are = are;
+  behind = same ∙ steps.behind;
+  accesses = λ n f. subst (λ (os : Origins). HasAccess os n) (sym same) (accesses n f);
+  lines_all = lines_kept lines (length lines) known entered opened kept (pointers_lines lined entered opened only) are_lines;
+  pointers = pointers;
+}
   where
-    same : last ≡ grown
-    same = same_last ∙ same_pointed ∙ same_lined
+    same : pointed ≡ stepped
+    same = same_pointed ∙ same_lined
+
+-- nodes and arcs more
+pub laid_grown : (lines : List Line) (known : List Dtv) (flips : List Bool) (old new : Origins) (arcs next : List (List Arc)) →
+    IsGrownBy old arcs new next → HavePointers new next → IsLaid lines known flips old arcs → IsLaid lines known flips new next
+laid_grown lines known flips old new arcs next grown pointers is = record {
+  first = is.first;
+  more = is.more ++ grown.more;
+  are = is.are;
+  behind = grown.behind ∙ ap (λ (xs : Origins). xs ++ grown.more) is.behind ∙ append_assoc is.first is.more grown.more;
+  accesses = λ n f. grown_access old new grown.more grown.behind n (is.accesses n f);
+  lines_all = lines_kept lines (length lines) known arcs next grown.kept grown.lines is.lines_all;
+  pointers = pointers;
+}
+
+-- arcs that are pushed more
+pub laid_pushed : (lines : List Line) (known : List Dtv) (flips stands : List Bool) (old new : Origins) (arcs next : List (List Arc)) →
+    new ≡ old → IsPushedMore old stands arcs next → IsLaid lines known flips old arcs → IsLaid lines known flips new next
+laid_pushed lines known flips stands old new arcs next same pushed is = record {
+  first = is.first;
+  more = is.more;
+  are = is.are;
+  behind = same ∙ is.behind;
+  accesses = λ n f. subst (λ (os : Origins). HasAccess os n) (sym same) (is.accesses n f);
+  lines_all = lines_kept lines (length lines) known arcs next pushed.kept pushed.lines is.lines_all;
+  pointers = subst (λ (os : Origins). HavePointers os next) (sym same) (pointers_kept old arcs next pushed.kept is.pointers);
+}
+
+-- the same nodes and arcs
+pub crossed_same : (lines : List Line) (known : List Dtv) (flips stands : List Bool) (old new : Origins) (arcs next : List (List Arc)) →
+    new ≡ old → next ≡ arcs → IsLaid lines known flips new next → IsClosed old arcs stands → IsCrossed lines known flips stands new next
+crossed_same lines known flips stands old new arcs next e f laid closed = record {
+  laid = laid;
+  closed = subst (λ (os : Origins). IsClosed os next stands) (sym e) (subst (λ (xs : List (List Arc)). IsClosed old xs stands) (sym f) closed);
+}
+
+-- of what is found, if it is the same frame
+pub crossed_if : {E : Type 0} (lines : List Line) (known : List Dtv) (flips stands : List Bool) (frame : Frame) (result : Result (Option Frame) E) →
+    IsCrossed lines known flips stands frame.origins.items frame.arcs.items → IfOk result (λ found. IfSome found (λ same. same ≡ frame)) →
+    IfOk result (λ found. IfSome found (λ f. IsCrossed lines known flips stands f.origins.items f.arcs.items))
+crossed_if lines known flips stands frame (Err e) is same = tt
+crossed_if lines known flips stands frame (Ok None) is same = tt
+crossed_if lines known flips stands frame (Ok (Some f)) is same =
+    subst (λ (g : Frame). IsCrossed lines known flips stands g.origins.items g.arcs.items) (sym same) is

@@ -18,7 +18,7 @@ use Rattle.rt_outline.specs.Arcs.{HasArc}
 use Rattle.rt_outline.specs.Frames.{Origins, AreOriginsTo, IsFrame, IsFresh, IsMade, IsSetAt, origin_of, step_of, variable_at}
 use Rattle.rt_base.proofs.Lists.{slice_get-front, slice_get-last}
 
-slice_cases : {X : Type 0} (xs : List X) (y : X) (n : ℕ) (x : X) → slice_get (xs ++ y ∷ []) n ≡ Some x → (slice_get xs n ≡ Some x) ⊎ ((n ≡ length xs) × (y ≡ x))
+pub slice_cases : {X : Type 0} (xs : List X) (y : X) (n : ℕ) (x : X) → slice_get (xs ++ y ∷ []) n ≡ Some x → (slice_get xs n ≡ Some x) ⊎ ((n ≡ length xs) × (y ≡ x))
 slice_cases [] y zero x e = inr (refl, cc)
 slice_cases [] y (suc n) x e = absurd (cc)
 slice_cases (z ∷ xs) y zero x e = inl e

@@ -17,6 +17,7 @@ pub mod Leading
 pub mod Naming
 pub mod Outer
 pub mod Built
+pub mod Placed
 pub mod Crossed
 pub mod Gathered
 pub mod Behind

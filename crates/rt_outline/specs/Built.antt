@@ -45,9 +45,9 @@ pub record AreOuterArcs (lines : List Line) (named : List Dtv) (origins : Origin
   pub lines_all : AreLineArcs lines (length lines) named arcs
   pub outer : IsOuter lines named arcs
 
--- arcs of lines and pushed ones, closed, with nodes of the variables first, a load and a store of each that can be read and written through,
--- and whatever hubs
-pub record IsCrossed (lines : List Line) (named : List Dtv) (flips stands : List Bool) (origins : Origins) (arcs : List (List Arc)) : Type 0 where
+-- arcs of lines and pushed ones, with nodes of the variables first, a load and a store of each that can be read and written through, and
+-- whatever hubs
+pub record IsLaid (lines : List Line) (named : List Dtv) (flips : List Bool) (origins : Origins) (arcs : List (List Arc)) : Type 0 where
   pub first : Origins
   pub more : Origins
   pub are : AreOriginsOf named first
@@ -55,6 +55,10 @@ pub record IsCrossed (lines : List Line) (named : List Dtv) (flips stands : List
   pub accesses : (n : ℕ) → slice_get flips n ≡ Some true → HasAccess origins n
   pub lines_all : AreLineArcs lines (length lines) named arcs
   pub pointers : HavePointers origins arcs
+
+-- so laid, and closed
+pub record IsCrossed (lines : List Line) (named : List Dtv) (flips stands : List Bool) (origins : Origins) (arcs : List (List Arc)) : Type 0 where
+  pub laid : IsLaid lines named flips origins arcs
   pub closed : IsClosed origins arcs stands
 
 -- classes of the variables are nodes of the lines' shape, and flags say which can be read and written through

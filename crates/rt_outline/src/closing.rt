@@ -22,8 +22,26 @@ pub(crate) fn close(alloc: Global, frame: &mut Frame, stands: &[bool]) -> Result
     ensures closed { OnOk result (IsClosed frame.new.origins.items frame.new.arcs.items stands.now) }
 {
     let mut reached = Vec::new(alloc);
+    close_on(alloc, frame, stands, &mut reached)
+}
+
+// The same, where it is noted of some nodes what pushed arcs lead to.
+pub(crate) fn close_on(
+    alloc: Global,
+    frame: &mut Frame,
+    stands: &[bool],
+    reached: &mut Vec<Sequence<u32>>,
+) -> Result<(), Memory>
+    requires frame { IsFrame frame.old.origins.items frame.old.steps frame.old.arcs.items frame.old.back.items }
+    requires followed { AreFollowed reached.old.items frame.old.arcs.items }
+    ensures frame { OnOk result (IsFrame frame.new.origins.items frame.new.steps frame.new.arcs.items frame.new.back.items) }
+    ensures origins { OnOk result (frame.new.origins.items ≡ frame.old.origins.items) }
+    ensures more { OnOk result (IsPushedMore frame.old.origins.items stands.now frame.old.arcs.items frame.new.arcs.items) }
+    ensures closed { OnOk result (IsClosed frame.new.origins.items frame.new.arcs.items stands.now) }
+    ensures followed { OnOk result (AreFollowed reached.new.items frame.new.arcs.items) }
+{
     for _round in 0..PASSES {
-        let added = pass(alloc, frame, stands, &mut reached)?;
+        let added = pass(alloc, frame, stands, reached)?;
         if !added {
             return Ok(());
         }
@@ -33,7 +51,7 @@ pub(crate) fn close(alloc: Global, frame: &mut Frame, stands: &[bool]) -> Result
 
 // Adds what is pushed to the nearest nodes from each node, those first of which others are made. Whether there was any. Of some
 // nodes it is noted what pushed arcs lead to.
-fn pass(
+pub(crate) fn pass(
     alloc: Global,
     frame: &mut Frame,
     stands: &[bool],

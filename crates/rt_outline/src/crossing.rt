@@ -1,27 +1,31 @@
 // Arcs that tell common lower nodes and common upper ones apart.
-ghost use Rattle.std.specs.Prelude.{◌≡◌, ◌<◌, true, IfOk, IfSome, OnOk, length};
+ghost use Rattle.std.specs.Prelude.{◌≡◌, ℕ, ◌<◌, false, true, IfOk, IfSome, OnOk, length};
+ghost use Rattle.rt_lines.specs.declared.label.Label.{Label as Letter};
 ghost use Rattle.rt_outline.specs.Arcs.{Leads};
-ghost use Rattle.rt_outline.specs.Built.{AreNamed, AreOuterArcs, IsCrossed, IsSorted};
-ghost use Rattle.rt_outline.specs.Frames.{AreDistinct, IsFrame};
+ghost use Rattle.rt_outline.specs.Built.{AreNamed, AreOuterArcs, IsCrossed, IsLaid, IsSorted};
+ghost use Rattle.rt_outline.specs.Frames.{AreDistinct, HavePointers, IsFrame, IsMade};
 ghost use Rattle.rt_outline.specs.Hubs.{IsGrownBy};
 ghost use Rattle.rt_outline.specs.Turning.{AreTurning};
 
 use crate::arc::Arc;
-use crate::closing::close;
+use crate::closing::{close_on, pass};
 use crate::entering::{enter_lines, enter_pointers};
 use crate::frame::Frame;
-use crate::hubs::{enter_access, enter_accesses};
+use crate::hubs::enter_accesses;
 use crate::meeting::{Hub, first_hubs, widen};
 use crate::sorting::Sorts;
 use crate::turning::are_turning;
 use rt_base::Memory;
-use rt_lines::Line;
+use rt_lines::{Label, Line};
 use rt_named::Named;
 use rt_named::nodes::{flips, nodes};
 use std::alloc::Global;
 
-// How often hubs are added at most.
+// How often hubs are added at most once arcs are closed.
 const ROUNDS: usize = 8;
+
+// How often arcs are pushed before hubs are looked for the first time.
+const AHEAD: usize = 2;
 
 // Nodes of the variables and of hubs, with the arcs of the lines and of hubs, closed under what is pushed from ways of them, if
 // hubs were found that tell common lower nodes and common upper ones apart.
@@ -95,13 +99,45 @@ fn crossed_by(
         (Leads frame.arcs.items stands.now true) sorts.now.classes.items sorts.now.flips.items sorts.now.marks.items
         (length sorts.now.classes.items))) }
 {
+    let mut frame = framed_with(alloc, lines, named, sorts, hubs)?;
+    let mut reached = Vec::new(alloc);
+    for _ in 0..AHEAD {
+        pass(alloc, &mut frame, stands, &mut reached)?;
+    }
+    add_hubs(alloc, &mut frame, sorts, stands, hubs)?;
+    close_on(alloc, &mut frame, stands, &mut reached)?;
     for _ in 0..ROUNDS {
-        let frame = framed_with(alloc, lines, named, sorts, hubs, stands)?;
-        if !widen(alloc, &frame, sorts, stands, hubs)? {
+        if !add_hubs(alloc, &mut frame, sorts, stands, hubs)? {
             return if_turning(alloc, frame, sorts, stands);
         }
+        close_on(alloc, &mut frame, stands, &mut reached)?;
     }
     Ok(None)
+}
+
+// Adds hubs for what ways of arcs show. Whether there was one.
+fn add_hubs(
+    alloc: Global,
+    frame: &mut Frame,
+    sorts: &Sorts,
+    stands: &[bool],
+    hubs: &mut Vec<Hub>,
+) -> Result<bool, Memory>
+    requires frame { IsFrame frame.old.origins.items frame.old.steps frame.old.arcs.items frame.old.back.items }
+    requires pointers { HavePointers frame.old.origins.items frame.old.arcs.items }
+    ensures frame { OnOk result (IsFrame frame.new.origins.items frame.new.steps frame.new.arcs.items frame.new.back.items) }
+    ensures more { OnOk result (IsGrownBy frame.old.origins.items frame.old.arcs.items frame.new.origins.items frame.new.arcs.items) }
+    ensures pointers { OnOk result (HavePointers frame.new.origins.items frame.new.arcs.items) }
+    ensures same { IfOk result (λ any. any ≡ false → (frame.new.origins.items ≡ frame.old.origins.items) ×
+        (frame.new.arcs.items ≡ frame.old.arcs.items)) }
+{
+    let known = hubs.len();
+    if !widen(alloc, frame, sorts, stands, hubs)? {
+        return Ok(false);
+    }
+    let added = hubs.get(known..).unwrap_or(&[]);
+    enter_hubs(alloc, frame, added)?;
+    Ok(true)
 }
 
 // The nodes and arcs, if they tell common lower nodes and common upper ones apart.
@@ -123,35 +159,34 @@ fn if_turning(
     Ok(None)
 }
 
-// Nodes of the variables and of hubs, with the arcs of the lines and of the hubs, closed under what is pushed from ways of them.
+// Nodes of the variables and of hubs, with the arcs of the lines and of the hubs.
 fn framed_with(
     alloc: Global,
     lines: &[Line],
     named: &Named,
     sorts: &Sorts,
     hubs: &[Hub],
-    stands: &[bool],
 ) -> Result<Frame, Memory>
     requires named { AreNamed lines.now named.now }
     requires flips { length sorts.now.flips.items ≡ length named.now }
     ensures frame { IfOk result (λ frame. IsFrame frame.origins.items frame.steps frame.arcs.items frame.back.items) }
-    ensures crossed { IfOk result (λ frame. IsCrossed lines.now named.now sorts.now.flips.items stands.now frame.origins.items
-        frame.arcs.items) }
+    ensures laid { IfOk result (λ frame. IsLaid lines.now named.now sorts.now.flips.items frame.origins.items frame.arcs.items) }
 {
     let mut frame = Frame::of(alloc, named)?;
     enter_accesses(alloc, &mut frame, &sorts.flips)?;
-    enter_hubs(alloc, &mut frame, hubs)?;
     enter_lines(named, lines, &mut frame)?;
     enter_pointers(&mut frame)?;
-    close(alloc, &mut frame, stands)?;
+    enter_hubs(alloc, &mut frame, hubs)?;
     Ok(frame)
 }
 
-// Adds hubs, with an arc to each of their nodes, or from each.
+// Adds hubs, with an arc to each of their nodes, or from each, and one from store to load of each.
 fn enter_hubs(alloc: Global, frame: &mut Frame, hubs: &[Hub]) -> Result<(), Memory>
-    requires { IsFrame frame.old.origins.items frame.old.steps frame.old.arcs.items frame.old.back.items }
+    requires frame { IsFrame frame.old.origins.items frame.old.steps frame.old.arcs.items frame.old.back.items }
+    requires pointers { HavePointers frame.old.origins.items frame.old.arcs.items }
     ensures frame { OnOk result (IsFrame frame.new.origins.items frame.new.steps frame.new.arcs.items frame.new.back.items) }
     ensures more { OnOk result (IsGrownBy frame.old.origins.items frame.old.arcs.items frame.new.origins.items frame.new.arcs.items) }
+    ensures pointers { OnOk result (HavePointers frame.new.origins.items frame.new.arcs.items) }
 {
     for hub in hubs {
         enter_hub(alloc, frame, hub)?;
@@ -161,17 +196,54 @@ fn enter_hubs(alloc: Global, frame: &mut Frame, hubs: &[Hub]) -> Result<(), Memo
 
 // Adds a hub, with a load and a store if it lies below its nodes.
 fn enter_hub(alloc: Global, frame: &mut Frame, hub: &Hub) -> Result<(), Memory>
-    requires { IsFrame frame.old.origins.items frame.old.steps frame.old.arcs.items frame.old.back.items }
+    requires frame { IsFrame frame.old.origins.items frame.old.steps frame.old.arcs.items frame.old.back.items }
+    requires pointers { HavePointers frame.old.origins.items frame.old.arcs.items }
     ensures frame { OnOk result (IsFrame frame.new.origins.items frame.new.steps frame.new.arcs.items frame.new.back.items) }
     ensures more { OnOk result (IsGrownBy frame.old.origins.items frame.old.arcs.items frame.new.origins.items frame.new.arcs.items) }
+    ensures pointers { OnOk result (HavePointers frame.new.origins.items frame.new.arcs.items) }
 {
-    let node = frame.enter(alloc, None)?;
-    if hub.is_lower {
-        enter_access(alloc, frame, node)?;
-    }
+    let node = hub_node(alloc, frame, hub.is_lower)?;
     for member in hub.members.items() {
         join(frame, node, *member, hub.is_lower)?;
     }
+    Ok(())
+}
+
+// Adds the node of a hub, with a load and a store and an arc between these, if it lies below others.
+fn hub_node(alloc: Global, frame: &mut Frame, is_lower: bool) -> Result<u32, Memory>
+    requires frame { IsFrame frame.old.origins.items frame.old.steps frame.old.arcs.items frame.old.back.items }
+    requires pointers { HavePointers frame.old.origins.items frame.old.arcs.items }
+    ensures frame { OnOk result (IsFrame frame.new.origins.items frame.new.steps frame.new.arcs.items frame.new.back.items) }
+    ensures more { OnOk result (IsGrownBy frame.old.origins.items frame.old.arcs.items frame.new.origins.items frame.new.arcs.items) }
+    ensures pointers { OnOk result (HavePointers frame.new.origins.items frame.new.arcs.items) }
+    ensures node { IfOk result (λ node. node < length frame.new.origins.items) }
+{
+    let node = frame.enter(alloc, None)?;
+    if is_lower {
+        enter_both(alloc, frame, node)?;
+    }
+    Ok(node)
+}
+
+// Adds load and store of a node of which nothing is made, and an arc between these.
+fn enter_both(alloc: Global, frame: &mut Frame, node: u32) -> Result<(), Memory>
+    requires frame { IsFrame frame.old.origins.items frame.old.steps frame.old.arcs.items frame.old.back.items }
+    requires node { node < length frame.old.origins.items }
+    requires none { (n : ℕ) (l : Letter) → IsMade frame.old.origins.items n node l → ⊥ }
+    requires pointers { HavePointers frame.old.origins.items frame.old.arcs.items }
+    ensures frame { OnOk result (IsFrame frame.new.origins.items frame.new.steps frame.new.arcs.items frame.new.back.items) }
+    ensures more { OnOk result (IsGrownBy frame.old.origins.items frame.old.arcs.items frame.new.origins.items frame.new.arcs.items) }
+    ensures pointers { OnOk result (HavePointers frame.new.origins.items frame.new.arcs.items) }
+{
+    let load = frame.enter(alloc, Some((node, Label::Load)))?;
+    let store = frame.enter(alloc, Some((node, Label::Store)))?;
+    frame.join(
+        store,
+        Arc {
+            to: load,
+            line: None,
+        },
+    )?;
     Ok(())
 }
 
@@ -180,6 +252,7 @@ fn join(frame: &mut Frame, hub: u32, node: u32, is_lower: bool) -> Result<(), Me
     requires frame { IsFrame frame.old.origins.items frame.old.steps frame.old.arcs.items frame.old.back.items }
     requires hub { hub < length frame.old.origins.items }
     ensures frame { OnOk result (IsFrame frame.new.origins.items frame.new.steps frame.new.arcs.items frame.new.back.items) }
+    ensures origins { OnOk result (frame.new.origins.items ≡ frame.old.origins.items) }
     ensures more { OnOk result (IsGrownBy frame.old.origins.items frame.old.arcs.items frame.new.origins.items frame.new.arcs.items) }
 {
     if node as usize >= frame.origins.len() {

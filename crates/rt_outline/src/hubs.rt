@@ -30,7 +30,7 @@ pub(crate) fn enter_accesses(alloc: Global, frame: &mut Frame, flips: &[bool]) -
 }
 
 // Adds load and store of a node.
-pub(crate) fn enter_access(alloc: Global, frame: &mut Frame, node: u32) -> Result<(), Memory>
+fn enter_access(alloc: Global, frame: &mut Frame, node: u32) -> Result<(), Memory>
     requires frame { IsFrame frame.old.origins.items frame.old.steps frame.old.arcs.items frame.old.back.items }
     requires node { node < length frame.old.origins.items }
     ensures frame { OnOk result (IsFrame frame.new.origins.items frame.new.steps frame.new.arcs.items frame.new.back.items) }

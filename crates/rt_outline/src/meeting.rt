@@ -20,11 +20,10 @@ pub(crate) struct Hub {
     part: Option<Part>,
 }
 
-// The tops of a group that are reached from a node, or from which it is reached.
+// Tops of a group that are reached from one node, or from which it is reached.
 #[derive(Drop)]
 struct Part {
     group: usize,
-    node: u32,
     is_forth: bool,
     tops: Vec<bool>,
 }
@@ -157,8 +156,7 @@ impl Reached {
     }
 }
 
-// Adds hubs for the other groups, as far as tops are reached from one node for which there is no hub, or made wider. Whether there
-// was one.
+// Adds hubs for the other groups, as far as tops are reached from one node for which there is no hub. Whether there was one.
 pub(crate) fn widen(
     alloc: Global,
     frame: &Frame,
@@ -228,7 +226,6 @@ fn widen_by(
         if tops != last && !is_covered(sets, tops) {
             let part = Part {
                 group: number,
-                node: *node,
                 is_forth,
                 tops: set(alloc, group.tops.len(), tops)?,
             };
@@ -284,7 +281,7 @@ fn has_all(set: &[bool], tops: &[u32]) -> bool {
     true
 }
 
-// Adds a hub for a part of a group, unless there is one that has all of it. One for the same node is made wider.
+// Adds a hub for a part of a group, unless there is one that has all of it.
 fn add_part(
     alloc: Global,
     group: &Group,
@@ -309,12 +306,6 @@ fn add_part(
         members,
         part: Some(part),
     };
-    for index in 0..hubs.len() {
-        if is_for_same(&hubs[index], &hub) {
-            hubs[index] = hub;
-            return Ok(true);
-        }
-    }
     hubs.push(hub)?;
     Ok(true)
 }
@@ -326,18 +317,6 @@ fn has_part(hub: &Hub, part: &Part, tops: &[u32]) -> bool {
             own.group == part.group && own.is_forth == part.is_forth && has_all(&own.tops, tops)
         }
         None => false,
-    }
-}
-
-// Whether two hubs are for the tops that one node reaches.
-fn is_for_same(first: &Hub, second: &Hub) -> bool {
-    match (&first.part, &second.part) {
-        (Some(first), Some(second)) => {
-            first.group == second.group
-                && first.is_forth == second.is_forth
-                && first.node == second.node
-        }
-        _ => false,
     }
 }
 

@@ -10,7 +10,8 @@ use rt_lines::Label;
 use std::alloc::{AllocError, Global};
 use std::marker::Model;
 
-// How many groups of letters there are.
+// Room for so many groups of letters. There are 64: with room for one more the hints of the next nodes don't fall onto the same
+// lines of a cache.
 const GROUPS: usize = 65;
 
 // Of how many nodes hints of one group stand together.

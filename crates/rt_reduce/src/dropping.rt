@@ -25,7 +25,7 @@ use crate::staying::{staying, staying_beside};
 use rt_base::{Memory, Sequence};
 use rt_lines::{Line, Lines, Order};
 use rt_outline::{Led, Upper};
-use rt_sure::{Fate, Fated, Ground, Ways};
+use rt_sure::{Fate, Fated, Ground, Ways, is_bound};
 use rt_witness::Witnesses;
 use std::alloc::Global;
 
@@ -411,14 +411,6 @@ fn has_open_bound(lines: &[Line], fates: &[Fate]) -> bool {
         }
     }
     false
-}
-
-// Whether the line is a bound.
-pub(crate) fn is_bound(line: &Line) -> bool {
-    match line {
-        Line::Var(_) | Line::Same(_, _) | Line::Sub(_, _) => false,
-        Line::Low(_, _) | Line::Up(_, _) => true,
-    }
 }
 
 // The same, where which lines name which variables isn't given.

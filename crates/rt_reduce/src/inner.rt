@@ -9,12 +9,12 @@ ghost use Rattle.rt_reduce.specs.Inside.Deciding.{IsLowerWith};
 ghost use Rattle.rt_sure.specs.Grounds.{IsTableOf};
 
 use crate::bounds::{lows, ups};
-use crate::dropping::{fate_of, is_bound};
+use crate::dropping::fate_of;
 use rt_base::Memory;
 use rt_lines::{Dtv, Line, Order};
 use rt_outline::Lower;
 use rt_sat::GrowingTable;
-use rt_sure::{Fate, table_of};
+use rt_sure::{Fate, is_bound, table_of};
 use std::alloc::Global;
 use std::marker::Model;
 use std::slice;

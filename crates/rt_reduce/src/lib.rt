@@ -15,6 +15,7 @@ mod dropping;
 mod early;
 mod handing;
 mod inner;
+mod loose;
 mod merging;
 mod opened;
 mod parting;

@@ -6,9 +6,9 @@ ghost use Rattle.rt_reduce.specs.Inside.Dropping.{AreStaying, IsStaying};
 ghost use Rattle.rt_reduce.specs.Inside.Parting.{pointed as pointed_variable, pointed_letter, AreAdded, AreJoins};
 
 use crate::derivable::are_one;
+use crate::loose::Loose;
 use rt_base::Memory;
 use rt_lines::{Dtv, Label, Line, Word};
-use rt_shape::Shape;
 use std::alloc::Global;
 
 // Of so many lines at most it is asked whether others join their sides.
@@ -28,28 +28,39 @@ pub(crate) fn with_parted(
 {
     let joins = joins(alloc, lines, stays)?;
     let shape = rt_shape::of(alloc, &joins)?;
+    let loose = Loose::of(alloc, lines, &shape)?;
     let mut others = vec![in alloc; true; lines.len()]?;
     let mut now = Vec::with_capacity(alloc, stays.len())?;
     let mut asked: usize = 0;
     for i in 0..stays.len() {
         let mut yes = stays[i];
-        if !yes && asked < MOST && is_loose(alloc, &shape, &lines[i])? {
+        if !yes && asked < MOST && loose.has(i) {
             asked += 1;
-            yes = is_parted(alloc, lines, &mut others, i)?;
+            yes = is_parted_there(alloc, &loose, lines, &mut others, i)?;
         }
         now.push(yes)?;
     }
     Ok(now)
 }
 
-// Whether the line is a `<=` line whose sides don't have one shape. Effort alone rests on it.
-fn is_loose(alloc: Global, shape: &Shape, line: &Line) -> Result<bool, Memory> {
-    let Line::Sub(x, y) = line else {
+// Whether the line at the index is a `<=` line whose sides no others join, where all flags are set but the one that is cleared
+// meanwhile. It isn't looked at where loose lines go round it.
+fn is_parted_there(
+    alloc: Global,
+    loose: &Loose,
+    lines: &[Line],
+    others: &mut Vec<bool>,
+    i: usize,
+) -> Result<bool, Memory>
+    requires within { i < length lines.now }
+    requires flags { others.old.items ≡ replicate (length lines.now) true }
+    ensures same { OnOk result (others.new.items ≡ others.old.items) }
+    ensures staying { IfOk result (λ yes. yes ≡ true → (order : Below) → IsStaying order lines.now i) }
+{
+    if loose.goes_round(alloc, i)? {
         return Ok(false);
-    };
-    let left = pointed(alloc, x)?;
-    let right = pointed(alloc, y)?;
-    Ok(!are_one(shape, &left, &right))
+    }
+    is_parted(alloc, lines, others, i)
 }
 
 // Whether the line at the index is a `<=` line whose sides no others join, where all flags are set but the one that is cleared
@@ -108,7 +119,7 @@ fn add(joins: &mut Vec<Line>, left: Dtv, right: Dtv, are_one: bool) -> Result<()
 }
 
 // The variable, but that stores count as loads.
-fn pointed(alloc: Global, x: &Dtv) -> Result<Dtv, Memory>
+pub(crate) fn pointed(alloc: Global, x: &Dtv) -> Result<Dtv, Memory>
     ensures { IfOk result (λ pointed. pointed ≡ pointed_variable x.now) }
 {
     let mut word = Word::empty(alloc);

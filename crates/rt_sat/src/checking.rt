@@ -11,9 +11,9 @@ ghost use Rattle.rt_sat.specs.Pushes.{asked_of, pushed_of, AreChildren, AreDone,
 
 use crate::building::built;
 use crate::complete::is_complete;
+use crate::ends::child_of;
 use crate::family::Family;
 use crate::filling::filled;
-use crate::gathering::child_of;
 use crate::halving::between;
 use crate::hints::{MANY, above, below, group_nodes, groups, member_state};
 use crate::layers::Layers;

@@ -13,8 +13,9 @@ ghost use Rattle.rt_sat.specs.Inside.Links.{AreLinked};
 ghost use Rattle.rt_sat.specs.Numbered.{AreDistinct, AreWithin};
 
 use crate::count::Count;
+use crate::ends::readied;
 use crate::family::{Family, Home, class_count};
-use crate::gathering::{Group, Kid, Kin, push_apart, readied, spread};
+use crate::gathering::{Group, Kid, Kin, push_apart, spread};
 use crate::links::Links;
 use crate::passing::without_passing;
 use crate::pushing::{Frame, flag, is_pointer, numbers_at};
@@ -62,7 +63,7 @@ pub(crate) fn hints(alloc: Global, frame: &Frame, lines: &[Edge]) -> Result<Hint
         });
     }
     let above = above(alloc, frame)?;
-    let inner = inner(frame, lines, above);
+    let inner = inner(alloc, frame, lines, above)?;
     let used = without_passing(alloc, frame, lines, &[], inner)?;
     let mut family = Family::of(alloc, &frame.nodes, &used)?;
     enter_lines(alloc, &mut family, lines)?;
@@ -77,24 +78,83 @@ pub(crate) fn hints(alloc: Global, frame: &Frame, lines: &[Edge]) -> Result<Hint
     })
 }
 
-// The flags, but for those of variables with a letter more than another one and with none more themselves. An edge between two
-// of these sets that of its start. So ways through such a variable go along edges of others, which are links.
-pub(crate) fn inner(frame: &Frame, lines: &[Edge], flags: Vec<bool>) -> Vec<bool>
+// The flags, but for those of variables with a letter more than another one and with none more themselves, and of bases at which
+// a way ends. An edge between two of the former sets that of the one with more edges. So ways through such a variable go along
+// edges of others, which are links. Effort alone rests on which flags these are.
+pub(crate) fn inner(
+    alloc: Global,
+    frame: &Frame,
+    lines: &[Edge],
+    flags: Vec<bool>,
+) -> Result<Vec<bool>, Memory>
     requires { length flags.items ≡ length frame.now.named }
-    ensures { length result.items ≡ length flags.items }
+    ensures { IfOk result (λ inner. length inner.items ≡ length flags.items) }
 {
+    let degrees = degrees(alloc, lines, frame.named.len())?;
     let mut flags = flags;
     for number in 0..frame.named.len() {
-        if is_leaf(frame, number as u32) {
+        if is_leaf(frame, number as u32) || is_end(frame, &degrees, number as u32) {
             flags[number] = false;
         }
     }
     for edge in lines {
-        if !flag(&flags, edge.from.variable) && !flag(&flags, edge.to.variable) {
-            set(&mut flags, edge.from.variable);
+        cover(frame, &degrees, edge, &mut flags);
+    }
+    Ok(flags)
+}
+
+// For each variable how many edges begin or end there.
+fn degrees(alloc: Global, lines: &[Edge], count: usize) -> Result<Vec<usize>, Memory> {
+    let mut degrees = vec![in alloc; 0usize; count]?;
+    for edge in lines {
+        for number in [edge.from.variable, edge.to.variable] {
+            if let Some(degree) = degrees.get_mut(number as usize) {
+                *degree = degree.saturating_add(1);
+            }
         }
     }
-    flags
+    Ok(degrees)
+}
+
+// Sets the flag of one of the variables of an edge, that with more edges, if it has none yet and no way ends there.
+fn cover(frame: &Frame, degrees: &[usize], edge: &Edge, flags: &mut Vec<bool>)
+    ensures { length flags.new.items ≡ length flags.old.items }
+{
+    let from = edge.from.variable;
+    let to = edge.to.variable;
+    if flag(flags, from)
+        || flag(flags, to)
+        || is_end(frame, degrees, from)
+        || is_end(frame, degrees, to)
+    {
+        return;
+    }
+    if degree(degrees, from) >= degree(degrees, to) {
+        set(flags, from);
+    } else {
+        set(flags, to);
+    }
+}
+
+// How many edges begin or end at a variable.
+fn degree(degrees: &[usize], number: u32) -> usize {
+    match degrees.get(number as usize) {
+        Some(degree) => *degree,
+        None => 0,
+    }
+}
+
+// Whether the variable is a base with no letter more, at which one line ends at most: each has two edges.
+fn is_end(frame: &Frame, degrees: &[usize], number: u32) -> bool {
+    if number as usize >= frame.named.len() {
+        return false;
+    }
+    match frame.named.origin(number) {
+        Origin::Bare(_) => {
+            degree(degrees, number) <= 2 && numbers_at(&frame.children, number).is_empty()
+        }
+        Origin::Longer(_, _) => false,
+    }
 }
 
 // Sets a flag, if there is one of this number.

@@ -14,9 +14,10 @@ ghost use Rattle.rt_shape.specs.Shapes.{IsShapeOf};
 ghost use Rattle.rt_sat.specs.Increments.{named_of, AreEdgesAmong, IsAdded, IsWith, Tells, Told};
 ghost use Rattle.rt_sat.specs.Tables.{place, AreThere};
 
+use crate::ends::readied;
 use crate::entering::{enter_line, line_edges};
 use crate::family::Family;
-use crate::gathering::{Kin, clocks, readied, spread, spread_from};
+use crate::gathering::{Kin, clocks, spread, spread_from};
 use crate::hints::{dead, enter_lines, inner, kin, revive, set};
 use crate::links::Links;
 use crate::passing::without_passing;
@@ -60,7 +61,7 @@ impl GrowingTable {
         let begun = begin(alloc, lines, shape, extra)?;
         let Begun { frame, first } = begun;
         let all = vec![in alloc; true; frame.named.len()]?;
-        let inner = inner(&frame, &first, all);
+        let inner = inner(alloc, &frame, &first, all)?;
         let used = with_named(&frame.named, extra, inner);
         let used = without_passing(alloc, &frame, &first, extra, used)?;
         let mut family = Family::of(alloc, &frame.nodes, &used)?;

@@ -10,6 +10,7 @@ mod closing;
 mod complete;
 mod count;
 mod digits;
+mod ends;
 mod entering;
 mod family;
 mod filling;

@@ -4,7 +4,7 @@ use Rattle.std.proofs.lemmas.Bool.{cases_eq}
 use Rattle.rt_lines.specs.declared.label.Label.{Label}
 use Rattle.rt_lines.specs.declared.variable.Base.{Base}
 use Rattle.rt_lines.specs.declared.variable.Dtv.{Dtv}
-use Rattle.rt_shape.specs.Graphs.{Graph, base_of, step_of, node_of, Has, IsTree}
+use Rattle.rt_shape.specs.Graphs.{Graph, base_of, step_of, node_of, Has, IsKept, IsTree}
 
 -- each variable's node stays, and what is new is one node, of which a test tells the variables
 pub record GrowsBy (old new : Graph) (IsNew : Dtv → Type 0) : Type 0 where
@@ -38,8 +38,8 @@ tree_grown old new IsNew tree grows unique here bases_in edges_in = record {
     single x y n (inr (e, h)) (inr (f, k)) = unique x y h k
 
 -- what an entering function says, where the tree before is seen by its fields and by its value
-pub has_kept : (inside old new : Graph) (IsNew : Dtv → Type 0) → inside ≡ old → GrowsBy inside new IsNew → (x : Dtv) → Has old x → Has new x
-has_kept inside old new IsNew same grows x (n, e) = (n, grows.kept x n (subst (λ g. node_of g x ≡ Some n) (sym same) e))
+pub node_kept : (inside old new : Graph) (IsNew : Dtv → Type 0) → inside ≡ old → GrowsBy inside new IsNew → IsKept old new
+node_kept inside old new IsNew same grows x n e = grows.kept x n (subst (λ g. node_of g x ≡ Some n) (sym same) e)
 
 pub has_cases : (inside old new : Graph) (IsNew : Dtv → Type 0) → inside ≡ old → GrowsBy inside new IsNew → (x : Dtv) → Has new x → Has old x ⊎ IsNew x
 has_cases inside old new IsNew same grows x (n, e) = by (grows.cases x n e)

@@ -5,9 +5,10 @@ use Rattle.std.proofs.lemmas.List.Elements.{Contains-append_left, Contains-push,
 use Rattle.rt_base.proofs.Lists.{Contains-none}
 use Rattle.rt_lines.specs.declared.variable.Dtv.{Dtv}
 use Rattle.rt_lines.specs.declared.line.Line.{Line}
+use Rattle.rt_lines.specs.declared.line.Line.TheVariants.{Var, Same, Sub, Low, Up}
 use Rattle.rt_rules.specs.Rules.{HasSide}
-use Rattle.rt_shape.specs.Graphs.{Graph, Has}
-use Rattle.rt_shape.specs.Shapes.{IsFront, IsNamed, IsNaming, ArePairOf, ArePairs}
+use Rattle.rt_shape.specs.Graphs.{Graph, Has, IsKept, node_of}
+use Rattle.rt_shape.specs.Shapes.{IsFront, IsNamed, IsNaming, ArePairOf, ArePairs, Equates}
 
 -- the lines of a loop, one turn further
 pub turn : (lines : List Line) (i : ℕ) (l : Line) → i < length lines → l ≡ get_or lines i l → take (i + 1) lines ≡ take i lines ++ l ∷ []
@@ -21,10 +22,10 @@ IsNaming-nil graph empty = record {
 
 -- a line more, whose sides the second tree has besides what the first one has
 module _ (lines : List Line) (l : Line) (old new : Graph) (naming : IsNaming lines old)
-    (sides : (x : Dtv) → HasSide l x → Has new x) (kept : (x : Dtv) → Has old x → Has new x)
+    (sides : (x : Dtv) → HasSide l x → Has new x) (kept : IsKept old new)
     (only : (x : Dtv) → Has new x → Has old x ⊎ ((y : Dtv) × HasSide l y × IsFront x y)) where
   all_sides : (k : Line) (x : Dtv) → Contains lines k ⊎ (l ≡ k) → HasSide k x → Has new x
-  all_sides k x (inl c) h = kept x (naming.sides k x c h)
+  all_sides k x (inl c) h = let there = naming.sides k x c h in (there.0, kept x there.0 there.1)
   all_sides k x (inr e) h = sides x (subst (λ m. HasSide m x) (sym e) h)
 
   named_more : (x : Dtv) → Has old x ⊎ ((y : Dtv) × HasSide l y × IsFront x y) → IsNamed (lines ++ l ∷ []) x
@@ -42,6 +43,38 @@ ArePairs-nil graph = record {
   found = λ l i j c h. absurd (Contains-none l c);
   only = λ i j c. absurd (Contains-none (i, j) c);
 }
+
+-- the line names what it says has one shape
+pub equated_first : (l : Line) (x y : Dtv) → Equates l x y → HasSide l x
+equated_first (Var z) x y e = absurd e
+equated_first (Same u v) x y e = inl e.0
+equated_first (Sub u v) x y e = inl e.0
+equated_first (Low k z) x y e = absurd e
+equated_first (Up z k) x y e = absurd e
+
+pub equated_second : (l : Line) (x y : Dtv) → Equates l x y → HasSide l y
+equated_second (Var z) x y e = absurd e
+equated_second (Same u v) x y e = inr e.1
+equated_second (Sub u v) x y e = inr e.1
+equated_second (Low k z) x y e = absurd e
+equated_second (Up z k) x y e = absurd e
+
+-- pairs stay those of lines whose sides keep their nodes
+module _ (lines : List Line) (old new : Graph) (pairs : List (ℕ × ℕ)) (naming : IsNaming lines old) (kept : IsKept old new)
+    (are : ArePairs lines old pairs) where
+  back : (x : Dtv) (n : ℕ) → Has old x → node_of new x ≡ Some n → node_of old x ≡ Some n
+  back x n (m, e) f = by (sym (kept x m e) ∙ f)
+    where
+      by : ◌≡◌ {A = Option ℕ} (Some m) (Some n) → node_of old x ≡ Some n
+      by g = e ∙ g
+
+  pub ArePairs-kept : ArePairs lines new pairs
+  ArePairs-kept = record {
+    found = λ l i j c (x, y, e, f, g). are.found l i j c
+        (x, y, e, back x i (naming.sides l x c (equated_first l x y e)) f, back y j (naming.sides l y c (equated_second l x y e)) g);
+    only = λ i j c. let o = are.only i j c in
+        (o.0, o.1, (o.2.0, o.2.1, o.2.2, kept o.2.0 i o.2.3, kept o.2.1 j o.2.4));
+  }
 
 -- a line more, with its pair, if it has one
 module _ (lines : List Line) (l : Line) (graph : Graph) (pairs : List (ℕ × ℕ)) (are : ArePairs lines graph pairs) where

@@ -43,6 +43,10 @@ node_of graph x = walk graph.edges (base_of graph x.base) x.word
 abbrev pub Has : Graph → Dtv → Type 0
 Has graph x = (n : ℕ) × (node_of graph x ≡ Some n)
 
+-- each variable that has a node keeps it
+abbrev pub IsKept : Graph → Graph → Type 0
+IsKept old new = (x : Dtv) (n : ℕ) → node_of old x ≡ Some n → node_of new x ≡ Some n
+
 -- what is in the graph is below the count, and each node is the node of some variable
 pub record IsGraph (graph : Graph) : Type 0 where
   pub bases_in : (b : Base) (n : ℕ) → base_of graph b ≡ Some n → n < graph.count

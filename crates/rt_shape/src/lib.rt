@@ -15,6 +15,7 @@ mod shape;
 mod tree;
 mod walking;
 
+use naming::named;
 use rt_base::Memory;
 use rt_lines::Line;
 pub use shape::Shape;
@@ -26,8 +27,7 @@ use std::alloc::Global;
 pub fn of(alloc: Global, lines: &[Line]) -> Result<Shape, Memory>
     ensures { IfOk result (IsShapeOf lines.now) }
 {
-    let tree = naming::named(alloc, lines)?;
-    let pairs = naming::pairs(alloc, lines, &tree)?;
-    let class = joining::joined(alloc, &tree, &pairs)?;
-    quotient::shape_of(alloc, &tree, &pairs, class)
+    let naming = named(alloc, lines)?;
+    let class = joining::joined(alloc, &naming.tree, &naming.pairs)?;
+    quotient::shape_of(alloc, &naming.tree, &naming.pairs, class)
 }

@@ -4,7 +4,7 @@ ghost use Rattle.std.specs.Prelude.{IfOk};
 ghost use Rattle.rt_shape.specs.Shapes.{IsShapeOf};
 
 use crate::closing::own_classes;
-use crate::naming::{named, pairs};
+use crate::naming::named;
 use crate::quotient::shape_of;
 use crate::shape::Shape;
 use rt_base::Memory;
@@ -15,8 +15,7 @@ use std::alloc::Global;
 pub fn of(alloc: Global, lines: &[Line]) -> Result<Shape, Memory>
     ensures { IfOk result (IsShapeOf lines.now) }
 {
-    let tree = named(alloc, lines)?;
-    let pairs = pairs(alloc, lines, &tree)?;
-    let class = own_classes(alloc, tree.count())?;
-    shape_of(alloc, &tree, &pairs, class)
+    let naming = named(alloc, lines)?;
+    let class = own_classes(alloc, naming.tree.count())?;
+    shape_of(alloc, &naming.tree, &naming.pairs, class)
 }

@@ -1,7 +1,7 @@
 // The variables that lines name, each with a node of its own.
 ghost use Rattle.std.specs.Prelude.{◌≡◌, ◌<◌, ◌⊎◌, length, slice_get, Some, IfOk, OnOk};
 ghost use Rattle.rt_rules.specs.Rules.{longer};
-ghost use Rattle.rt_shape.specs.Graphs.{bare, base_of, node_of, step_of, Has, IsTree};
+ghost use Rattle.rt_shape.specs.Graphs.{bare, base_of, node_of, step_of, Has, IsKept, IsTree};
 ghost use Rattle.rt_shape.specs.Shapes.{IsFront};
 
 use crate::walking::walk;
@@ -52,7 +52,7 @@ impl Tree {
     fn enter_base(&mut self, base: Base) -> Result<u32, Memory>
         ensures within { IfOk result (λ n. n < self.new.count) }
         ensures here { IfOk result (λ n. node_of self.new (bare base) ≡ Some n) }
-        ensures kept { OnOk result ((x : Dtv) → Has self.old x → Has self.new x) }
+        ensures kept { OnOk result (IsKept self.old self.new) }
         ensures only { OnOk result ((x : Dtv) → Has self.new x → Has self.old x ⊎ (x ≡ bare base)) }
     {
         if let Some(node) = self.bases.get(&base) {
@@ -72,7 +72,7 @@ impl Tree {
         requires { node < self.old.count }
         ensures within { IfOk result (λ n. n < self.new.count) }
         ensures here { IfOk result (λ n. (x : Dtv) → node_of self.old x ≡ Some node → node_of self.new (longer x label) ≡ Some n) }
-        ensures kept { OnOk result ((x : Dtv) → Has self.old x → Has self.new x) }
+        ensures kept { OnOk result (IsKept self.old self.new) }
         ensures only { OnOk result ((x y : Dtv) → node_of self.old x ≡ Some node → Has self.new y →
             Has self.old y ⊎ (y ≡ longer x label)) }
     {
@@ -88,18 +88,18 @@ impl Tree {
         Ok(next)
     }
 
-    /// Gives a node to the variable, and to each with a prefix of its word, in time linear in the word. When out of
-    /// memory, some of them may have one.
-    pub fn enter(&mut self, x: &Dtv) -> Result<(), Memory>
-        ensures here { OnOk result (Has self.new x.now) }
-        ensures kept { OnOk result ((y : Dtv) → Has self.old y → Has self.new y) }
+    /// Gives a node to the variable, and to each with a prefix of its word, in time linear in the word. It is the node of the
+    /// variable. When out of memory, some of them may have one.
+    pub fn enter(&mut self, x: &Dtv) -> Result<u32, Memory>
+        ensures here { IfOk result (λ n. node_of self.new x.now ≡ Some n) }
+        ensures kept { OnOk result (IsKept self.old self.new) }
         ensures only { OnOk result ((y : Dtv) → Has self.new y → Has self.old y ⊎ IsFront y x.now) }
     {
         let mut node = self.enter_base(x.base)?;
         for label in x.word.items() {
             node = self.enter_step(node, *label)?;
         }
-        Ok(())
+        Ok(node)
     }
 
     /// How many nodes there are.

@@ -247,8 +247,8 @@ fn has_open_bound(lines: &[Line], stays: &[bool]) -> bool {
     false
 }
 
-// Whether the line is a bound.
-fn is_bound(line: &Line) -> bool {
+/// Whether the line is a bound. Effort alone rests on it.
+pub fn is_bound(line: &Line) -> bool {
     match line {
         Line::Var(_) | Line::Same(_, _) | Line::Sub(_, _) => false,
         Line::Low(_, _) | Line::Up(_, _) => true,

@@ -12,7 +12,7 @@ mod shortening;
 mod tables;
 mod ways;
 
-pub use fate::{Fate, Fated, fates};
+pub use fate::{Fate, Fated, fates, is_bound};
 pub use ground::Ground;
 pub use tables::table_of;
 pub use ways::Ways;

@@ -3,7 +3,7 @@ use Rattle.rt_lines.specs.Orders.{Below}
 use Rattle.rt_reduce.specs.Inside.Dropping.{AreStaying, IsStaying}
 use Rattle.rt_reduce.proofs.Cleared.{more_staying}
 use Rattle.rt_reduce.proofs.parting.with_parted.Goals as goal
-use Rattle.rt_reduce.proofs.parting.with_parted.Goals.{then-not-yes+then-asked-lt-MOST+in_ok-is_loose+then-branch+in_ok-yes, else-not-yes}
+use Rattle.rt_reduce.proofs.parting.with_parted.Goals.{then-not-yes+then-asked-lt-MOST+then-has+in_ok-yes, else-not-yes}
 
 pub loop-i-preserved : goal.loop-i-preserved
 loop-i-preserved c =
@@ -13,13 +13,13 @@ loop-i-preserved c =
     let new = c.push.new.self.items in
     let yes = c.if-not-yes.yes in
     let flags : c.if-not-yes.others.items ≡ replicate (length lines) true = elim c.if-not-yes.branch [
-      | then-not-yes+then-asked-lt-MOST+in_ok-is_loose+then-branch+in_ok-yes w ↦
+      | then-not-yes+then-asked-lt-MOST+then-has+in_ok-yes w ↦
           ap (λ v. v.items) w.others-is ∙ w.in_ok-yes.ensures.same ∙ c.loop-i.invariant.flags
       | else-not-yes w ↦ ap (λ v. v.items) w.others-is ∙ c.loop-i.invariant.flags
     ] in
     let here : (order : Below) → AreStaying order lines stays → yes ≡ true → IsStaying order lines c.loop-i.i =
     elim c.if-not-yes.branch [
-      | then-not-yes+then-asked-lt-MOST+in_ok-is_loose+then-branch+in_ok-yes w ↦
+      | then-not-yes+then-asked-lt-MOST+then-has+in_ok-yes w ↦
           λ order are set. w.in_ok-yes.ensures.staying (sym w.yes-is ∙ set) order
       | else-not-yes w ↦ λ order are set. are c.loop-i.i (sym w.yes-is ∙ set)
     ] in

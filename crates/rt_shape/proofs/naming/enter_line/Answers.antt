@@ -1,5 +1,4 @@
 use Rattle.std.proofs.Common.{rules, ◌≡◌, ◌⊎◌, inl, inr, refl, sym, subst}
-use Rattle.std.proofs.lemmas.Result.{on_ok_weaker}
 use Rattle.rt_lines.specs.declared.variable.Dtv.{Dtv}
 use Rattle.rt_lines.specs.declared.line.Line.{Line}
 use Rattle.rt_lines.specs.declared.line.Line.TheVariants.{Same, Sub}
@@ -15,17 +14,12 @@ second_side : (l : Line) (x y : Dtv) → (l ≡ Same x y) ⊎ (l ≡ Sub x y) �
 second_side l x y (inl e) = subst (λ m. HasSide m y) (sym e) (inr refl)
 second_side l x y (inr e) = subst (λ m. HasSide m y) (sym e) (inr refl)
 
-pub returns-in_ok-enter-in-Same-clause-kept : goal.returns-in_ok-enter-in-Same-clause-kept
-returns-in_ok-enter-in-Same-clause-kept c =
-    on_ok_weaker c.enter-in-Same.result (λ kept x h. kept x (c.in_ok-enter-in-Same.ensures.kept x h)) c.enter-in-Same.ensures.kept
+pub returns-in_ok-right-in-Same-clause-only : goal.returns-in_ok-right-in-Same-clause-only
+returns-in_ok-right-in-Same-clause-only c =
+    two_sides c.args.line.now c.in-Same.x c.in-Same.y c.args.tree.now c.enter.new.self c.enter-in-Same.new.self
+    (first_side _ _ _ c.in-Same.is) (second_side _ _ _ c.in-Same.is) c.in_ok-left-in-Same.ensures.only c.in_ok-right-in-Same.ensures.only
 
-pub returns-in_ok-enter-in-Same-clause-only : goal.returns-in_ok-enter-in-Same-clause-only
-returns-in_ok-enter-in-Same-clause-only c =
-    on_ok_weaker c.enter-in-Same.result
-    (two_sides c.args.line.now c.in-Same.x c.in-Same.y c.args.tree.now c.enter.new.self c.enter-in-Same.new.self (first_side _ _ _ c.in-Same.is) (second_side _ _ _ c.in-Same.is) c.in_ok-enter-in-Same.ensures.only)
-    c.enter-in-Same.ensures.only
-
-pub returns-in-Var-clause-only : goal.returns-in-Var-clause-only
-returns-in-Var-clause-only c =
+pub returns-in_ok-enter-in-Var-clause-only : goal.returns-in_ok-enter-in-Var-clause-only
+returns-in_ok-enter-in-Var-clause-only c =
     let side : HasSide c.args.line.now c.in-Var.x = search rules in
-    on_ok_weaker c.enter-in-Var.result (one_side c.args.line.now c.in-Var.x c.args.tree.now c.enter-in-Var.new.self side) c.enter-in-Var.ensures.only
+    one_side c.args.line.now c.in-Var.x c.args.tree.now c.enter-in-Var.new.self side c.in_ok-enter-in-Var.ensures.only

@@ -42,7 +42,7 @@ loop-label-preserved c =
       letters = c.items-label-items.ensures.letters;
       within = c.in_ok-node-2.ensures.within;
       here = subst (λ v. node_of c.enter_step.new.self v ≡ Some c.in_ok-node-2.node) more (c.in_ok-node-2.ensures.here (front_of x n) c.loop-label.invariant.here);
-      kept = λ y h. c.in_ok-node-2.ensures.kept y (c.loop-label.invariant.kept y h);
+      kept = λ y n h. c.in_ok-node-2.ensures.kept y n (c.loop-label.invariant.kept y n h);
       only = λ y h. on c.args.self.now c.loop-label.self c.enter_step.new.self (front_of x n) y (front_of x (n + 1)) letter more (c.loop-label.invariant.only y) (c.in_ok-node-2.ensures.only (front_of x n) y c.loop-label.invariant.here h);
     }
 

@@ -1,6 +1,6 @@
 use Rattle.std.proofs.Common.{◌≡◌, ◌<◌, ◌⊎◌, Some, take}
 use Rattle.rt_lines.specs.declared.variable.Dtv.{Dtv}
-use Rattle.rt_shape.specs.Graphs.{Has, node_of}
+use Rattle.rt_shape.specs.Graphs.{Has, IsKept, node_of}
 use Rattle.rt_shape.specs.Shapes.{IsFront}
 use Rattle.rt_shape.proofs.tree.Tree.enter.Given as goal
 
@@ -11,6 +11,6 @@ invariant-loop-label l =
       letters : l.label-items ≡ l.x.word;
       within : l.node < l.self.count;
       here : node_of l.self front ≡ Some l.node;
-      kept : (y : Dtv) → Has l.fn.self y → Has l.self y;
+      kept : IsKept l.fn.self l.self;
       only : (y : Dtv) → Has l.self y → Has l.fn.self y ⊎ IsFront y front;
     }

@@ -4,8 +4,8 @@ use Rattle.rt_lines.specs.declared.label.Label.{Label}
 use Rattle.rt_lines.specs.declared.variable.Base.{Base}
 use Rattle.rt_lines.specs.declared.variable.Dtv.{Dtv}
 use Rattle.rt_lines.specs.Equality.{base_eq}
-use Rattle.rt_shape.specs.Graphs.{Graph, bare, Has, IsTree}
-use Rattle.rt_shape.proofs.Growth.{GrowsBy, has_kept, has_cases}
+use Rattle.rt_shape.specs.Graphs.{Graph, bare, Has, IsKept, IsTree}
+use Rattle.rt_shape.proofs.Growth.{GrowsBy, node_kept, has_cases}
 use Rattle.rt_shape.proofs.GrowthByBase.{grown_by_base}
 use Rattle.rt_shape.proofs.tree.Tree.enter_base.Goals as goal
 
@@ -22,8 +22,8 @@ module _ (count : ℕ) (bases after : List (Base × ℕ)) (edges : List ((ℕ ×
     grown : IsTree after_graph × GrowsBy before_graph after_graph (λ x. x ≡ bare base)
     grown = grown_by_base before_graph after_graph tree base (sym absent) refl updates (λ m l. refl)
 
-    kept : (x : Dtv) → Has old x → Has after_graph x
-    kept x h = has_kept before_graph old after_graph _ same grown.1 x h
+    kept : IsKept old after_graph
+    kept = node_kept before_graph old after_graph _ same grown.1
 
     only : (x : Dtv) → Has after_graph x → Has old x ⊎ (x ≡ bare base)
     only x h = has_cases before_graph old after_graph _ same grown.1 x h

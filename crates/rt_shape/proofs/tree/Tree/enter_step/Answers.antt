@@ -4,9 +4,9 @@ use Rattle.rt_lines.specs.declared.label.Label.{Label}
 use Rattle.rt_lines.specs.declared.variable.Base.{Base}
 use Rattle.rt_lines.specs.declared.variable.Dtv.{Dtv}
 use Rattle.rt_rules.specs.Rules.{longer}
-use Rattle.rt_shape.specs.Graphs.{Graph, letter_eq, node_of, step_of, Has, IsTree}
+use Rattle.rt_shape.specs.Graphs.{Graph, letter_eq, node_of, step_of, Has, IsKept, IsTree}
 use Rattle.rt_shape.proofs.Walks.{node_of-longer}
-use Rattle.rt_shape.proofs.Growth.{GrowsBy, has_kept, has_cases}
+use Rattle.rt_shape.proofs.Growth.{GrowsBy, node_kept, has_cases}
 use Rattle.rt_shape.proofs.GrowthByStep.{grown_by_step, here_by_step}
 use Rattle.rt_shape.proofs.tree.Tree.enter_step.Goals as goal
 
@@ -29,8 +29,8 @@ module _ (count : ℕ) (bases : List (Base × ℕ)) (edges after : List ((ℕ ×
     here : (x : Dtv) → node_of old x ≡ Some node → node_of after_graph (longer x label) ≡ Some count
     here x e = here_by_step before_graph after_graph tree node label inside (sym absent) refl (λ b. refl) (λ m l. updates (m, l)) x (subst (λ g. node_of g x ≡ Some node) (sym same) e)
 
-    kept : (x : Dtv) → Has old x → Has after_graph x
-    kept x h = has_kept before_graph old after_graph _ same grown.1 x h
+    kept : IsKept old after_graph
+    kept = node_kept before_graph old after_graph _ same grown.1
 
     only : (x y : Dtv) → node_of old x ≡ Some node → Has after_graph y → Has old y ⊎ (y ≡ longer x label)
     only x y e h = by (has_cases before_graph old after_graph _ same grown.1 y h)

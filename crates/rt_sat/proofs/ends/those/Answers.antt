@@ -2,8 +2,8 @@ use Rattle.std.proofs.Common.{Contains, get_or, inl, inr, subst}
 use Rattle.std.proofs.lemmas.List.Elements.{Contains-get_or, Contains-push_cases}
 use Rattle.rt_sat.specs.declared.gathering.End.{End}
 use Rattle.rt_sat.proofs.ToldPushes.{no_end}
-use Rattle.rt_sat.proofs.gathering.those.Goals as goal
-use Rattle.rt_sat.proofs.gathering.those.Goals.{then-end-lead_on+in_ok-push, else-end-lead_on}
+use Rattle.rt_sat.proofs.ends.those.Goals as goal
+use Rattle.rt_sat.proofs.ends.those.Goals.{then-end-lead_on+in_ok-push, else-end-lead_on}
 
 pub loop-end-preserved : goal.loop-end-preserved
 loop-end-preserved c =

@@ -2,7 +2,7 @@ use Rattle.std.proofs.Common.{List}
 use Rattle.rt_sat.specs.declared.state.Edge.{Edge}
 use Rattle.rt_sat.specs.Hints.{AreEnds}
 use Rattle.rt_sat.specs.Inside.Links.{AreBefore, AreBehind, AreSources, AreTargets}
-use Rattle.rt_sat.proofs.gathering.add_kid.Given as goal
+use Rattle.rt_sat.proofs.ends.add_kid.Given as goal
 
 abbrev pub invariant-loop-stand : goal.invariant-loop-stand
 invariant-loop-stand l = record {

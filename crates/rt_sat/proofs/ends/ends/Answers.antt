@@ -1,7 +1,7 @@
 use Rattle.std.proofs.Common.{None, get_or, Contains, subst}
 use Rattle.std.proofs.lemmas.List.Elements.{Contains-get_or}
 use Rattle.rt_rules.proofs.Lists.{Contains-none}
-use Rattle.rt_sat.proofs.gathering.ends.Goals as goal
+use Rattle.rt_sat.proofs.ends.ends.Goals as goal
 
 pub loop-kid-init : goal.loop-kid-init
 loop-kid-init c = record {

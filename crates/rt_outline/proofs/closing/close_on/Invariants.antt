@@ -1,7 +1,7 @@
 use Rattle.std.proofs.Common.{◌≡◌}
 use Rattle.rt_outline.specs.Frames.{IsFrame, IsPushedMore}
 use Rattle.rt_outline.specs.Inside.Sweeps.{AreFollowed}
-use Rattle.rt_outline.proofs.closing.close.Given as goal
+use Rattle.rt_outline.proofs.closing.close_on.Given as goal
 
 abbrev pub invariant-loop-round : goal.invariant-loop-round
 invariant-loop-round l = record {

@@ -2,7 +2,7 @@ use Rattle.std.proofs.Common.{◌≡◌, ◌<◌, Contains, length, subst, sym}
 use Rattle.rt_sat.specs.Hints.{members_of, AreEnds}
 use Rattle.rt_sat.specs.Inside.Links.{AreBefore, AreBehind}
 use Rattle.rt_sat.proofs.ToldPushes.{list_read}
-use Rattle.rt_sat.proofs.gathering.ready_of.Goals as goal
+use Rattle.rt_sat.proofs.ends.ready_of.Goals as goal
 
 pub ends-requires-clause-kids : goal.ends-requires-clause-kids
 ends-requires-clause-kids c =

@@ -1,7 +1,7 @@
 use Rattle.std.proofs.Common.{subst, sym}
 use Rattle.std.proofs.lemmas.List.Elements.{All-push}
 use Rattle.rt_sat.specs.Inside.Links.{AreReady, IsReady}
-use Rattle.rt_sat.proofs.gathering.readied.Goals as goal
+use Rattle.rt_sat.proofs.ends.readied.Goals as goal
 
 pub loop-group-preserved : goal.loop-group-preserved
 loop-group-preserved c =

@@ -1,6 +1,6 @@
 use Rattle.std.proofs.Common.{Contains}
 use Rattle.rt_sat.specs.declared.gathering.End.{End}
-use Rattle.rt_sat.proofs.gathering.those.Given as goal
+use Rattle.rt_sat.proofs.ends.those.Given as goal
 
 abbrev pub invariant-loop-end : goal.invariant-loop-end
 invariant-loop-end l = record {

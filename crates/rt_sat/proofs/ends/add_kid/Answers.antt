@@ -7,8 +7,8 @@ use Rattle.rt_sat.specs.Hints.{state_at, AreEnds, IsEnd}
 use Rattle.rt_sat.specs.Inside.Links.{noted_at, AreSources, AreTargets}
 use Rattle.rt_sat.proofs.Standing.{sources_more, targets_more}
 use Rattle.rt_sat.proofs.ToldPushes.{digit_small, ends_more, state_placed}
-use Rattle.rt_sat.proofs.gathering.add_kid.Goals as goal
-use Rattle.rt_sat.proofs.gathering.add_kid.Goals.{in-Some-home+in_ok-push, in_default-home}
+use Rattle.rt_sat.proofs.ends.add_kid.Goals as goal
+use Rattle.rt_sat.proofs.ends.add_kid.Goals.{in-Some-home+in_ok-push, in_default-home}
 
 pub loop-stand-preserved : goal.loop-stand-preserved
 loop-stand-preserved c =

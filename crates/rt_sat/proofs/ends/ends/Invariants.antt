@@ -2,7 +2,7 @@ use Rattle.std.proofs.Common.{List}
 use Rattle.rt_sat.specs.declared.state.Edge.{Edge}
 use Rattle.rt_sat.specs.Hints.{AreEnds}
 use Rattle.rt_sat.specs.Inside.Links.{AreBefore, AreBehind, AreSources, AreTargets}
-use Rattle.rt_sat.proofs.gathering.ends.Given as goal
+use Rattle.rt_sat.proofs.ends.ends.Given as goal
 
 abbrev pub invariant-loop-kid : goal.invariant-loop-kid
 invariant-loop-kid l = record {
