@@ -4,17 +4,28 @@ ghost use Rattle.std.specs.Prelude.{MatchOption, Some, length, slice_get, slice_
 ghost use Rattle.rt_lines.specs.declared.line.Line.{Line as Given};
 ghost use Rattle.rt_named.specs.Naming.{named as named_by};
 ghost use Rattle.rt_outline.specs.Equal.{AreOuterEquals};
+ghost use Rattle.rt_sat.specs.Increments.{Tells};
 ghost use Rattle.rt_equals.specs.Comparing.{AreEquals};
 
 use crate::agreeing::agree;
 use crate::counted::counted;
-use crate::growing::{apart, are_told};
+use crate::growing::{Finding, apart, told};
 use rt_base::Memory;
 use rt_lines::{Dtv, Line};
 use rt_named::Named;
 use rt_outline::{Classes, Lower, Upper};
+use rt_sat::GrowingTable;
 use std::alloc::Global;
 use std::marker::Model;
+
+/// Numbers by which equals of existentials are found, and what was found besides.
+#[derive(Drop)]
+pub struct Equals {
+    /// A number for each variable.
+    pub numbers: Vec<usize>,
+    /// What the lines say of variables, if a table was made.
+    pub table: Option<GrowingTable>,
+}
 
 /// Lines, and the variables that they name, each of which has its index for its number.
 #[derive(Drop)]
@@ -53,37 +64,36 @@ impl Comparison {
     }
 
     /// A number for each variable; another one has that of an existential exactly where each of the two lies below the
-    /// other by the lines, of which arcs from outside are given. The error is out of memory.
-    pub fn equals(&self, alloc: Global, outer: &Upper) -> Result<Vec<usize>, Memory>
+    /// other by the lines, of which arcs from outside are given. With them comes the table of ways, if one was made, with places
+    /// for the variables of bounds. The error is out of memory.
+    pub fn equals(&self, alloc: Global, outer: &Upper) -> Result<Equals, Memory>
         requires { outer.now ≡ record { lines = self.now.lines; named = named_by self.now.lines [] } }
-        ensures { IfOk result (λ numbers. AreEquals self.now.lines self.now.named numbers.items) }
+        ensures numbers { IfOk result (λ equals. AreEquals self.now.lines self.now.named equals.numbers.items) }
+        ensures table { IfOk result (λ equals. IfSome equals.table (Tells self.now.lines)) }
     {
-        match outlined(alloc, &self.named, &self.lines, outer)? {
-            Some(numbers) => Ok(numbers),
-            None => {
-                let numbers = counted(alloc, &self.lines)?;
-                Ok(numbers)
-            }
-        }
+        let classes = outer_classes(alloc, &self.lines, outer)?;
+        let told = found(alloc, &self.named, &self.lines, &classes)?;
+        let Finding { exact, table } = told;
+        let numbers = numbers_by(alloc, &self.lines, classes, exact)?;
+        Ok(Equals { numbers, table })
     }
 }
 
-// Such numbers, where arcs from outside, and arcs from inside or a table of ways, say the same of existentials.
-fn outlined(
+// The numbers of classes from outside, if they are exact, else those that a saturation tells.
+fn numbers_by(
     alloc: Global,
-    named: &Named,
     lines: &[Line],
-    outer: &Upper,
-) -> Result<Option<Vec<usize>>, Memory>
-    requires named { named.now ≡ named_by lines.now [] }
-    requires outer { outer.now ≡ record { lines = lines.now; named = named_by lines.now [] } }
-    ensures { IfOk result (λ found. IfSome found (λ numbers. AreEquals lines.now named.now numbers.items)) }
+    classes: Classes,
+    exact: bool,
+) -> Result<Vec<usize>, Memory>
+    requires { IsTrue exact → AreEquals lines.now (named_by lines.now []) classes.numbers.items }
+    ensures { IfOk result (λ numbers. AreEquals lines.now (named_by lines.now []) numbers.items) }
 {
-    let outer = outer_classes(alloc, lines, outer)?;
-    if are_exact(alloc, named, lines, &outer)? {
-        return Ok(Some(outer.numbers));
+    if exact {
+        return Ok(classes.numbers);
     }
-    Ok(None)
+    let numbers = counted(alloc, lines)?;
+    Ok(numbers)
 }
 
 // Classes by arcs from outside.
@@ -96,20 +106,27 @@ fn outer_classes(alloc: Global, lines: &[Line], outer: &Upper) -> Result<Classes
 }
 
 // Whether arcs from inside, or else a table of ways, say the same of existentials as classes from outside.
-fn are_exact(alloc: Global, named: &Named, lines: &[Line], outer: &Classes) -> Result<bool, Memory>
+fn found(alloc: Global, named: &Named, lines: &[Line], outer: &Classes) -> Result<Finding, Memory>
     requires named { named.now ≡ named_by lines.now [] }
     requires outer { AreOuterEquals lines.now named.now outer.now.count outer.now.numbers.items }
-    ensures { IfOk result (λ yes. IsTrue yes → AreEquals lines.now named.now outer.now.numbers.items) }
+    ensures exact { IfOk result (λ told. IsTrue told.exact → AreEquals lines.now named.now outer.now.numbers.items) }
+    ensures table { IfOk result (λ told. IfSome told.table (Tells lines.now)) }
 {
     if are_apart(alloc, named, outer)? {
-        return Ok(true);
+        return Ok(Finding {
+            exact: true,
+            table: None,
+        });
     }
     let lower = Lower::of(alloc, lines, &[])?;
     let inner = lower.equals(alloc)?;
     if agree(alloc, named, outer, &inner.numbers)? {
-        return Ok(true);
+        return Ok(Finding {
+            exact: true,
+            table: None,
+        });
     }
-    let told = are_told(alloc, named, lines, outer)?;
+    let told = told(alloc, named, lines, outer)?;
     Ok(told)
 }
 

@@ -1,5 +1,5 @@
 // Whether a table of ways has all that classes from outside say of existentials.
-ghost use Rattle.std.specs.Prelude.{◌≡◌, ◌⊎◌, [], ℕ, ◌<◌, List, Contains, IfOk, IsTrue, OnOk, length, slice_index_or};
+ghost use Rattle.std.specs.Prelude.{◌≡◌, ◌⊎◌, [], ℕ, ◌<◌, List, Contains, IfOk, IfSome, IsTrue, OnOk, length, slice_index_or};
 ghost use Rattle.rt_lines.specs.declared.line.Line.{Line as Given};
 ghost use Rattle.rt_lines.specs.declared.variable.Dtv.{Dtv as Variable};
 ghost use Rattle.rt_named.specs.Naming.{named as named_by};
@@ -16,23 +16,35 @@ use rt_outline::Classes;
 use rt_sat::GrowingTable;
 use std::alloc::Global;
 
-// Whether a table of ways has each below the other of what the classes put together with an existential.
-pub(crate) fn are_told(
+// Whether it is known that classes from outside are exact, and a table of ways, if one was made.
+#[derive(Drop)]
+pub(crate) struct Finding {
+    pub exact: bool,
+    pub table: Option<GrowingTable>,
+}
+
+// Whether a table of ways has each below the other of what the classes put together with an existential, and the table.
+pub(crate) fn told(
     alloc: Global,
     named: &Named,
     lines: &[Line],
     outer: &Classes,
-) -> Result<bool, Memory>
+) -> Result<Finding, Memory>
     requires named { named.now ≡ named_by lines.now [] }
     requires outer { AreOuterEquals lines.now named.now outer.now.count outer.now.numbers.items }
-    ensures { IfOk result (λ yes. IsTrue yes → AreEquals lines.now named.now outer.now.numbers.items) }
+    ensures exact { IfOk result (λ told. IsTrue told.exact → AreEquals lines.now named.now outer.now.numbers.items) }
+    ensures table { IfOk result (λ told. IfSome told.table (Tells lines.now)) }
 {
     let own = apart(alloc, named.len())?;
     let marks = marked(alloc, named, outer, &own)?;
     let sides = marked_sides(alloc, named, lines, outer, &marks)?;
     let shape = rt_shape::of(alloc, lines)?;
     let growing = GrowingTable::of(alloc, lines, &shape, &sides)?;
-    Ok(are_joined(&growing, &outer.numbers, &marks))
+    let exact = are_joined(&growing, &outer.numbers, &marks);
+    Ok(Finding {
+        exact,
+        table: Some(growing),
+    })
 }
 
 // So many numbers, no two of them equal.
@@ -47,7 +59,7 @@ pub(crate) fn apart(alloc: Global, count: usize) -> Result<Vec<usize>, Memory>
     Ok(numbers)
 }
 
-// The sides of the lines that have a marked number.
+// The sides of the lines that have a marked number, and the variables of bounds.
 fn marked_sides(
     alloc: Global,
     named: &Named,
@@ -64,7 +76,7 @@ fn marked_sides(
     Ok(sides)
 }
 
-// Adds those sides of a line that have a marked number.
+// Adds those sides of a line that have a marked number, and the variable of a bound.
 fn add_sides(
     named: &Named,
     outer: &Classes,
@@ -75,14 +87,23 @@ fn add_sides(
     ensures { OnOk result ((x : Variable) → Contains sides.new.items x → Contains sides.old.items x ⊎ Contains named.now x) }
 {
     match line {
-        Line::Var(x) | Line::Low(_, x) | Line::Up(x, _) => add_marked(
-            named, outer, marks, x, sides,
-        ),
+        Line::Var(x) => add_marked(named, outer, marks, x, sides),
+        Line::Low(_, x) | Line::Up(x, _) => add_named(named, x, sides),
         Line::Same(x, y) | Line::Sub(x, y) => {
             add_marked(named, outer, marks, x, sides)?;
             add_marked(named, outer, marks, y, sides)
         }
     }
+}
+
+// Adds a variable, if it is named.
+fn add_named(named: &Named, side: &Dtv, sides: &mut Vec<Dtv>) -> Result<(), Memory>
+    ensures { OnOk result ((x : Variable) → Contains sides.new.items x → Contains sides.old.items x ⊎ Contains named.now x) }
+{
+    if named.index(side).is_some() {
+        sides.push(side.copy()?)?;
+    }
+    Ok(())
 }
 
 // Adds a variable, if it has a marked number.

@@ -7,4 +7,4 @@ mod comparison;
 mod counted;
 mod growing;
 
-pub use comparison::Comparison;
+pub use comparison::{Comparison, Equals};

@@ -102,7 +102,7 @@ module _ (lines : List Line) (n : ℕ) (z : Dtv) where
         by (inr m) f = m (sym (ap (λ (v : Dtv). v.base) (put-apart n z x m)) ∙ f)
 
     -- the existential isn't named any more
-    gone : (m : ℕ) → NamesBase after (Exist m) → m ≡ n → ⊥
+    pub gone : (m : ℕ) → NamesBase after (Exist m) → m ≡ n → ⊥
     gone m (l, y, c, h, e) f =
         let s : (x : Dtv) × IsSide lines x × (put n z x ≡ y) = side_put y (l, c, h) in
         put_base s.0 (ap (λ (v : Dtv). v.base) s.2 ∙ e ∙ ap Exist f)
@@ -141,8 +141,8 @@ module _ (lines : List Line) (n : ℕ) (z : Dtv) where
       outside x y a b v (inr e) = subst (λ (w : Dtv). only w.base ≡ false) e (out y b)
 
       -- other variables lie below each other as before
-      kept : (x y : Dtv) → x.base ≢ Exist n → y.base ≢ Exist n → Derivable order lines (Sub x y) ↔ Derivable order after (Sub x y)
-      kept x y a b = (
+      pub below_kept : (x y : Dtv) → x.base ≢ Exist n → y.base ≢ Exist n → Derivable order lines (Sub x y) ↔ Derivable order after (Sub x y)
+      below_kept x y a b = (
         λ d. subst (λ ls. Derivable order ls (Sub x y)) (append-nil after) (alike.0 [] (JudgeSub x y) (none_outside only) (outside x y a b)
             (subst (λ ls. Derivable order ls (Sub x y)) (sym (append-nil lines)) d)),
         λ d. subst (λ ls. Derivable order ls (Sub x y)) (append-nil lines) (alike.1 [] (JudgeSub x y) (none_outside only) (outside x y a b)
@@ -158,8 +158,8 @@ module _ (lines : List Line) (n : ℕ) (z : Dtv) where
       equals_kept m x other side =
           let own : (exist m).base ≢ Exist n = λ e. other (exist_number e) in
           let r = near_side x side in
-          let up = kept (exist m) (put n z x) own (put_base x) in
-          let down = kept (put n z x) (exist m) (put_base x) own in (
+          let up = below_kept (exist m) (put n z x) own (put_base x) in
+          let down = below_kept (put n z x) (exist m) (put_base x) own in (
             λ a. (up.0 (sub_chain a.0 r.1), down.0 (sub_chain r.0 a.1)),
             λ a. (sub_chain (up.1 a.0) r.0, sub_chain r.1 (down.1 a.1)),
           )

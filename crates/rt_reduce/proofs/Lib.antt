@@ -31,3 +31,4 @@ pub mod Apart
 pub mod Inners
 pub mod Handed
 pub mod Rejoined
+pub mod Tabled

@@ -1,5 +1,5 @@
 // Lines that others derive, dropped from the end.
-ghost use Rattle.std.specs.Prelude.{◌≡◌, ℕ, ◌+◌, ◌<◌, ◌≤◌, ◌↔◌, [], List, All, Contains, IsTrue, true, false, OnOk, IfOk, IfSome};
+ghost use Rattle.std.specs.Prelude.{◌≡◌, ℕ, ◌+◌, ◌<◌, ◌≤◌, [], List, All, Contains, true, false, OnOk, IfOk, IfSome};
 ghost use Rattle.std.specs.Prelude.{MatchBool, length, replicate, slice_index_or};
 ghost use Rattle.std.specs.List.{remove_range};
 ghost use Rattle.rt_lines.specs.declared.line.Line.{Line as Given};
@@ -8,7 +8,7 @@ ghost use Rattle.rt_reduction.specs.Drops.{Drops};
 ghost use Rattle.rt_reduction.specs.Emits.{is_flow as is_flow_line};
 ghost use Rattle.rt_outline.specs.Lines.{HaveSameFlow};
 ghost use Rattle.rt_witness.specs.Witnesses.{IsWitnesses};
-ghost use Rattle.rt_reduce.specs.Inside.Deciding.{AreStanding, AreWitnessed, IsGroundAt, IsInnerFor, IsLowerWith, IsOuterOf, IsOwnGround, IsOwnOuter};
+ghost use Rattle.rt_reduce.specs.Inside.Deciding.{AreStanding, AreWitnessed, IsGroundAt, IsInnerFor, IsLowerWith, IsOuterOf, IsOwnGround, IsOwnOuter, IsTableAbout};
 ghost use Rattle.rt_reduce.specs.Inside.Deciding.{IsWaysFor};
 ghost use Rattle.rt_reduce.specs.Inside.Handing.{AreNeeded};
 ghost use Rattle.rt_sure.specs.Fates.{fate_at};
@@ -25,6 +25,7 @@ use crate::staying::{staying, staying_beside};
 use rt_base::{Memory, Sequence};
 use rt_lines::{Line, Lines, Order};
 use rt_outline::{Led, Upper};
+use rt_sat::GrowingTable;
 use rt_sure::{Fate, Fated, Ground, Ways, is_bound};
 use rt_witness::Witnesses;
 use std::alloc::Global;
@@ -47,19 +48,21 @@ pub fn drop_derivable(alloc: Global, lines: &[Line], order: &Order) -> Result<Li
     ensures drops { IfOk result (λ left. Drops order.now [] lines.now left) }
     ensures stood { IfOk result (λ left. (l : Given) → Contains left l → Contains lines.now l) }
 {
-    drop_known(alloc, lines, &[], None, order)
+    drop_known(alloc, lines, &[], None, None, order)
 }
 
 // The same, where lines that stood before are given, of which none follows from the others, and maybe arcs from outside of all
-// lines.
+// lines, and a table of what they say.
 pub(crate) fn drop_known(
     alloc: Global,
     lines: &[Line],
     before: &[Line],
     outer: Option<Upper>,
+    table: Option<GrowingTable>,
     order: &Order,
 ) -> Result<Lines, Memory>
     requires outer { IfSome outer (IsOuterOf lines.now) }
+    requires table { IfSome table (IsTableAbout lines.now) }
     requires needed { AreNeeded order.now before.now }
     requires below { All (HasConstantsBelow order.now.count) before.now }
     requires constants { All (HasConstantsBelow order.now.count) lines.now }
@@ -69,7 +72,7 @@ pub(crate) fn drop_known(
     let first = shape_place(lines);
     let shaped = drop_shapes(alloc, lines, order, first)?;
     let outer = outer_for(alloc, outer, lines, &shaped)?;
-    let left = drop_flow(alloc, &shaped, before, outer, order, first)?;
+    let left = drop_flow(alloc, &shaped, before, outer, table, order, first)?;
     Ok(Sequence::from_vec(left))
 }
 
@@ -135,12 +138,13 @@ fn drop_shapes(
     Ok(left)
 }
 
-// What is left when lines before a place go, where those from the place on stay, and arcs from outside may be given.
+// What is left when lines before a place go, where those from the place on stay, and arcs from outside may be given, and a table.
 fn drop_flow(
     alloc: Global,
     lines: &[Line],
     before: &[Line],
     outer: Option<Upper>,
+    table: Option<GrowingTable>,
     order: &Order,
     first: usize,
 ) -> Result<Vec<Line>, Memory>
@@ -148,6 +152,7 @@ fn drop_flow(
     requires needed { AreNeeded order.now before.now }
     requires below { All (HasConstantsBelow order.now.count) before.now }
     requires outer { IfSome outer (IsOuterOf lines.now) }
+    requires table { IfSome table (IsTableAbout lines.now) }
     requires constants { All (HasConstantsBelow order.now.count) lines.now }
     ensures drops { IfOk result (λ left. Drops order.now [] lines.now left.items) }
     ensures stood { IfOk result (λ left. (l : Given) → Contains left.items l → Contains lines.now l) }
@@ -156,7 +161,7 @@ fn drop_flow(
     let told = vec![in alloc; false; lines.len()]?;
     let outer = outer_of(alloc, lines, &known, outer)?;
     let fated = fates_of(alloc, outer.as_ref(), lines, &known, order)?;
-    let left = drop_fated(alloc, lines, outer.as_ref(), &told, &fated, order)?;
+    let left = drop_fated(alloc, lines, outer.as_ref(), table, &told, &fated, order)?;
     Ok(left)
 }
 
@@ -182,17 +187,19 @@ fn known(
     Ok(known)
 }
 
-// What is left when lines go, where arcs from outside of all lines may be given, and which of them follow from those before them
-// is, and what is known of what becomes of them.
+// What is left when lines go, where arcs from outside of all lines may be given, and a table, and which of them follow from those
+// before them is, and what is known of what becomes of them.
 fn drop_fated(
     alloc: Global,
     lines: &[Line],
     outer: Option<&Upper>,
+    table: Option<GrowingTable>,
     told: &[bool],
     fated: &Fated,
     order: &Order,
 ) -> Result<Vec<Line>, Memory>
     requires outer { IfSome outer (λ t. IsOuterOf lines.now t.now) }
+    requires table { IfSome table (IsTableAbout lines.now) }
     requires each { length lines.now ≤ length told.now }
     requires told { AreTold lines.now told.now }
     requires long { length fated.now.fates.items ≡ length lines.now }
@@ -202,7 +209,7 @@ fn drop_fated(
     ensures drops { IfOk result (λ left. Drops order.now [] lines.now left.items) }
     ensures stood { IfOk result (λ left. (l : Given) → Contains left.items l → Contains lines.now l) }
 {
-    let inner = inner_beside(alloc, lines, &fated.fates, order)?;
+    let inner = inner_beside(alloc, lines, table, &fated.fates, order)?;
     let left = drop_by(
         alloc,
         lines,
@@ -386,20 +393,22 @@ fn settled(
     Ok(now)
 }
 
-// Arcs from inside of the lines, if there is a bound among them of which nothing is known.
+// Arcs from inside of the lines, if there is a bound among them of which nothing is known. A table of what they say may be given.
 fn inner_beside(
     alloc: Global,
     lines: &[Line],
+    table: Option<GrowingTable>,
     fates: &[Fate],
     order: &Order,
 ) -> Result<Option<Inner>, Memory>
-    requires { All (HasConstantsBelow order.now.count) lines.now }
+    requires table { IfSome table (IsTableAbout lines.now) }
+    requires constants { All (HasConstantsBelow order.now.count) lines.now }
     ensures { IfOk result (λ inner. IfSome inner (λ t. IsLowerWith lines.now [] t)) }
 {
     if !has_open_bound(lines, fates) {
         return Ok(None);
     }
-    let inner = Inner::of(alloc, lines, fates, order)?;
+    let inner = Inner::of(alloc, lines, table, fates, order)?;
     Ok(Some(inner))
 }
 

@@ -1,11 +1,12 @@
 // What lines say beforehand of which variables lie below which: arcs from inside, and a table where these leave bounds open.
-ghost use Rattle.std.specs.Prelude.{◌≡◌, ◌∷◌, ◌<◌, [], List, All, Contains, true, IfOk, IsTrue, length};
+ghost use Rattle.std.specs.Prelude.{◌≡◌, ◌∷◌, ◌<◌, [], List, All, Contains, true, IfOk, IfSome, IsTrue, length};
 ghost use Rattle.rt_lines.specs.declared.line.Line.{Line as Given};
 ghost use Rattle.rt_lines.specs.declared.variable.Dtv.{Dtv as Variable};
 ghost use Rattle.rt_lines.specs.Lines.{HasConstantsBelow};
 ghost use Rattle.rt_lines.specs.Orders.{Below};
 ghost use Rattle.rt_outline.specs.Lines.{HasBelow};
-ghost use Rattle.rt_reduce.specs.Inside.Deciding.{IsLowerWith};
+ghost use Rattle.rt_reduce.specs.Inside.Deciding.{IsLowerWith, IsTableAbout};
+ghost use Rattle.rt_sat.specs.Increments.{Tells};
 ghost use Rattle.rt_sure.specs.Grounds.{IsTableOf};
 
 use crate::bounds::{lows, ups};
@@ -29,34 +30,57 @@ pub(crate) struct Inner {
 impl Model for Inner {
     ghost use Rattle.std.specs.Prelude.{IfSome};
     ghost use Rattle.rt_outline.specs.Lines.{Lined};
-    ghost use Rattle.rt_sure.specs.Grounds.{IsTableOf};
+    ghost use Rattle.rt_reduce.specs.Inside.Deciding.{DoName, IsTableAbout};
 
     ghost Value = { Lined };
 
     ghost view = { λ t. t.arcs };
 
-    ghost invariant = { λ t. IfSome t.table (IsTableOf t.arcs.lines) };
+    ghost invariant = { λ t. DoName t.arcs × IfSome t.table (IsTableAbout t.arcs.lines) };
 }
 
 impl Inner {
-    // What lines say, with a table if arcs leave a bound open of which nothing is known.
+    // What lines say, with a table if arcs leave a bound open of which nothing is known: the one that may be given, if it leaves
+    // none open, else one that is made of the lines.
     pub(crate) fn of(
         alloc: Global,
         lines: &[Line],
+        given: Option<GrowingTable>,
         fates: &[Fate],
         order: &Order,
     ) -> Result<Inner, Memory>
-        requires { All (HasConstantsBelow order.now.count) lines.now }
+        requires given { IfSome given (IsTableAbout lines.now) }
+        requires constants { All (HasConstantsBelow order.now.count) lines.now }
         ensures { IfOk result (λ inner. IsLowerWith lines.now [] inner) }
     {
-        let arcs = Lower::of(alloc, lines, &[])?;
-        let plain = Inner { arcs, table: None };
+        let plain = Inner::plain(alloc, lines)?;
         if plain.open_count(alloc, lines, fates, order)? == 0 {
             return Ok(plain);
         }
+        let told = plain.with_given(given);
+        if told.table.is_some() && told.open_count(alloc, lines, fates, order)? == 0 {
+            return Ok(told);
+        }
         let sides = bounded(alloc, lines)?;
         let table = table_of(alloc, lines, &sides)?;
-        Ok(plain.with_table(table))
+        Ok(told.with_table(table))
+    }
+
+    // Arcs from inside of lines, without a table.
+    fn plain(alloc: Global, lines: &[Line]) -> Result<Inner, Memory>
+        ensures { IfOk result (λ inner. IsLowerWith lines.now [] inner) }
+    {
+        let arcs = Lower::of(alloc, lines, &[])?;
+        Ok(Inner { arcs, table: None })
+    }
+
+    // The same, with the table that may be given.
+    fn with_given(self, given: Option<GrowingTable>) -> Inner
+        requires { IfSome given (IsTableAbout self.lines) }
+        ensures { result ≡ self }
+    {
+        let Inner { arcs, table: _ } = self;
+        Inner { arcs, table: given }
     }
 
     // The same, with a table.
@@ -162,9 +186,9 @@ pub(crate) fn is_tabled(alloc: Global, lines: &[Line], x: &Dtv, y: &Dtv) -> Resu
 
 // Whether a table tells that one of the variables lies below one of the others.
 fn tells(table: &GrowingTable, from: &[Dtv], to: &[Dtv]) -> bool
-    requires { (lines : List Given) × IsTableOf lines table.now }
-    ensures { result ≡ true → (lines : List Given) → IsTableOf lines table.now → (order : Below) →
-        HasBelow order lines from.now to.now }
+    requires { (told : List Given) × Tells told table.now }
+    ensures { result ≡ true → (told : List Given) → Tells told table.now → (order : Below) →
+        HasBelow order told from.now to.now }
 {
     for x in from {
         if tells_of(table, x, to) {
@@ -176,9 +200,9 @@ fn tells(table: &GrowingTable, from: &[Dtv], to: &[Dtv]) -> bool
 
 // Whether a table tells that a variable lies below one of the others.
 fn tells_of(table: &GrowingTable, x: &Dtv, to: &[Dtv]) -> bool
-    requires { (lines : List Given) × IsTableOf lines table.now }
-    ensures { result ≡ true → (lines : List Given) → IsTableOf lines table.now → (order : Below) →
-        HasBelow order lines (x.now ∷ []) to.now }
+    requires { (told : List Given) × Tells told table.now }
+    ensures { result ≡ true → (told : List Given) → Tells told table.now → (order : Below) →
+        HasBelow order told (x.now ∷ []) to.now }
 {
     for y in to {
         if table.has(x, y) {

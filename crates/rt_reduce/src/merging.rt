@@ -1,6 +1,6 @@
 // Existentials that equal sides of other bases give their places to them.
 ghost use Rattle.std.specs.Prelude.{◌≡◌, ◌∷◌, ◌++◌, ◌↔◌, [], ℕ, List, All, Contains};
-ghost use Rattle.std.specs.Prelude.{IsTrue, true, false, IfOk, MatchOption, OnOk, length, map};
+ghost use Rattle.std.specs.Prelude.{IsTrue, true, false, IfOk, IfSome, MatchOption, OnOk, length, map};
 ghost use Rattle.std.specs.List.{flat_map};
 ghost use Rattle.std.specs.BTreeSet.{contains};
 ghost use Rattle.std.specs.Ordering.{nat_cmp};
@@ -18,7 +18,7 @@ ghost use Rattle.rt_reduction.specs.Merges.{HasEqual, Merges};
 ghost use Rattle.rt_reduce.specs.Inside.Alike.{AreAlikeAt, IsAlike, HasNumber};
 ghost use Rattle.rt_reduce.specs.Inside.Bases.{IsAloneAt};
 ghost use Rattle.rt_reduce.specs.Inside.Compared.{IsCompared};
-ghost use Rattle.rt_reduce.specs.Inside.Deciding.{IsOwnOuter};
+ghost use Rattle.rt_reduce.specs.Inside.Deciding.{IsOwnOuter, IsTableAbout};
 ghost use Rattle.rt_reduce.specs.Inside.Merging.{IsEarlier, IsFirstAmong, IsFirstEqual};
 
 use crate::alike::{number, numbers};
@@ -26,12 +26,22 @@ use crate::bases::{Bases, is_alone, noted};
 use crate::before::comes_before;
 use crate::copying::copies;
 use rt_base::{Memory, Sequence};
-use rt_equals::Comparison;
+use rt_equals::{Comparison, Equals};
 use rt_lines::{Base, Dtv, Line, Lines, Order, Word};
 use rt_outline::Upper;
 use rt_polar::{put, put_in, tidy};
+use rt_sat::GrowingTable;
 use std::alloc::Global;
 use std::collections::BTreeSet;
+
+/// What is left when equals were merged.
+#[derive(Drop)]
+pub struct Leftover {
+    /// What is left of the lines.
+    pub lines: Lines,
+    /// What they say of the variables that they name, if a table was made.
+    pub table: Option<GrowingTable>,
+}
 
 /// What is left of the lines when each existential that equals a side of another base gave its place to the first of its
 /// equals, the least such existential first, again and again until none has one; the lines are tidied each time. Each side
@@ -42,27 +52,35 @@ pub fn merge_equal(
     lines: &[Line],
     outer: &Upper,
     order: &Order,
-) -> Result<Lines, Memory>
+) -> Result<Leftover, Memory>
     requires constants { All (HasConstantsBelow order.now.count) lines.now }
     requires outer { IsOwnOuter lines.now outer.now }
-    ensures merges { IfOk result (λ left. Merges order.now left lines.now) }
-    ensures scheme { IfOk result (λ left. AreOfScheme lines.now → AreOfScheme left) }
-    ensures constants { IfOk result (λ left. All (HasConstantsBelow order.now.count) left) }
-    ensures named { IfOk result (λ left. (n : ℕ) → NamesBase left (Existential n) → NamesBase lines.now (Existential n)) }
+    ensures merges { IfOk result (λ left. Merges order.now left.lines lines.now) }
+    ensures scheme { IfOk result (λ left. AreOfScheme lines.now → AreOfScheme left.lines) }
+    ensures constants { IfOk result (λ left. All (HasConstantsBelow order.now.count) left.lines) }
+    ensures named { IfOk result (λ left. (n : ℕ) → NamesBase left.lines (Existential n) → NamesBase lines.now (Existential n)) }
+    ensures table { IfOk result (λ left. IfSome left.table (IsTableAbout left.lines)) }
 {
     let start = copies(alloc, lines)?;
     let now = Sequence::from_vec(start);
     let sides = sides(alloc, lines)?;
     if !has_existential(&sides) {
-        return Ok(now);
+        return Ok(Leftover {
+            lines: now,
+            table: None,
+        });
     }
     let comparison = Comparison::of(alloc, lines)?;
-    let equals = comparison.equals(alloc, outer)?;
+    let compared = comparison.equals(alloc, outer)?;
+    let Equals {
+        numbers: equals,
+        table,
+    } = compared;
     let numbers = numbers(alloc, &comparison, &equals, &sides)?;
     let bases = noted(alloc, &sides, &numbers, equals.len())?;
     let pending = pending(alloc, &comparison, &equals, &sides, &bases)?;
     let left = merge_pending(alloc, &comparison, &equals, &numbers, sides, pending, now)?;
-    Ok(left)
+    Ok(Leftover { lines: left, table })
 }
 
 // Lets each of the existentials, least first, give its place to the first of its equals, if it has one.

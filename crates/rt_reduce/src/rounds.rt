@@ -9,7 +9,7 @@ ghost use Rattle.rt_reduce.specs.Inside.Handing.{AreNeeded};
 ghost use Rattle.rt_reduce.specs.Rounds.{IsBegun};
 
 use crate::dropping::drop_known;
-use crate::merging::merge_equal;
+use crate::merging::{Leftover, merge_equal};
 use rt_base::Memory;
 use rt_emit::emit_shape;
 use rt_lines::{Line, Lines, Order};
@@ -54,10 +54,14 @@ pub(crate) fn round_after(
     let emitted = emit_shape(alloc, simple.items())?;
     let all = emitted.items();
     let outer = Upper::of(alloc, all, &[])?;
-    let merged = merge_equal(alloc, all, &outer, order)?;
+    let equal = merge_equal(alloc, all, &outer, order)?;
+    let Leftover {
+        lines: merged,
+        table,
+    } = equal;
     let left = merged.items();
     let outer = if_same(outer, all, left);
-    let after = drop_known(alloc, left, before, outer, order)?;
+    let after = drop_known(alloc, left, before, outer, table, order)?;
     Ok(after)
 }
 

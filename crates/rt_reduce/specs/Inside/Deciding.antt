@@ -2,14 +2,17 @@
 use Rattle.std.specs.Prelude.{◌≡◌, ℕ, ◌<◌, ◌+◌, List, [], ◌∷◌, All, Bool, true, false, Some, Contains, slice_get, slice_index_or}
 use Rattle.rt_lines.specs.declared.variable.Dtv.{Dtv}
 use Rattle.rt_lines.specs.declared.line.Line.{Line}
-use Rattle.rt_lines.specs.declared.line.Line.TheVariants.{Low, Up}
+use Rattle.rt_lines.specs.declared.line.Line.TheVariants.{Low, Sub, Up}
 use Rattle.rt_lines.specs.Lines.{HasConstantsBelow}
 use Rattle.rt_lines.specs.Orders.{Below, IsAtOrBelow}
 use Rattle.rt_rules.specs.Rules.{HasSide, Derivable}
+use Rattle.rt_rules.specs.Laws.{NamesBase}
 use Rattle.rt_named.specs.Naming.{named as named_by}
 use Rattle.rt_outline.specs.declared.led.Led.{Led}
 use Rattle.rt_outline.specs.declared.led.Led.TheVariants.{No, Yes}
 use Rattle.rt_outline.specs.Lines.{Lined, standing}
+use Rattle.rt_sat.specs.declared.increments.GrowingTable.{GrowingTable as Growing}
+use Rattle.rt_sat.specs.Increments.{Tells as Increased}
 use Rattle.rt_sure.specs.declared.fate.Fate.{Fate}
 use Rattle.rt_sure.specs.declared.fate.Fate.TheVariants.{Stays}
 use Rattle.rt_sure.specs.Fates.{fate_at, DerivesAll, HasBefore}
@@ -30,6 +33,17 @@ pub record IsLowerWith (lines : List Line) (sides : List Dtv) (lower : Lined) : 
   pub own : lower.lines ≡ lines
   pub names : lower.named ≡ named_by lines extra
   pub given : (x : Dtv) → Contains sides x → Contains extra x
+
+-- the bases of variables between which arcs lead are named by their lines
+abbrev pub DoName : Lined → Type 0
+DoName lined = (x : Dtv) → Contains lined.named x → NamesBase lined.lines x.base
+
+-- what a table says of variables whose bases lines name, these lines derive
+pub record IsTableAbout (lines : List Line) (growing : Growing) : Type 0 where
+  pub told : List Line
+  pub tells : Increased told growing
+  pub carried : (order : Below) (x y : Dtv) → NamesBase lines x.base → NamesBase lines y.base → Derivable order told (Sub x y) →
+      Derivable order lines (Sub x y)
 
 -- what is left are those of the lines of arcs whose flags are set, among them all before a place
 pub record AreStanding (left : List Line) (stands : List Bool) (place : ℕ) (outer : Lined) : Type 0 where

@@ -11,10 +11,13 @@ use Rattle.rt_reduction.specs.Merges.{HasEqual, Merges}
 use Rattle.rt_reduction.specs.Merges.Merges.{none_left}
 use Rattle.rt_reduce.specs.Inside.Alike.{AreNumbered}
 use Rattle.rt_reduce.specs.Inside.Bases.{AreNoted, IsAloneAt}
+use Rattle.rt_sat.specs.Increments.{Tells}
 use Rattle.rt_reduce.specs.Inside.Compared.{IsCompared}
+use Rattle.rt_reduce.specs.Inside.Deciding.{IsTableAbout}
 use Rattle.rt_reduce.proofs.Compared.{compared_first}
 use Rattle.rt_reduce.proofs.Firsts.{equal_side}
 use Rattle.rt_reduce.proofs.Numbering.{alone_none, side_in}
+use Rattle.rt_reduce.proofs.Tabled.{merged_about, some_more}
 use Rattle.rt_reduce.proofs.merging.merge_equal.Goals as goal
 
 pub returns-then-not-has_existential-clause-merges : goal.returns-then-not-has_existential-clause-merges
@@ -42,7 +45,7 @@ pub merge_pending-requires-clause-compared : goal.merge_pending-requires-clause-
 merge_pending-requires-clause-compared c =
     let lines = c.args.lines.now in
     let known = c.in_ok-comparison.comparison.named in
-    let equals = c.in_ok-equals.equals.items in
+    let equals = c.in_ok-compared.compared.numbers.items in
     let all = c.in_ok-sides.sides.items in
     let e = ap (λ (t : Lined). t.lines) c.in_ok-comparison.ensures in
     subst (λ (ls : List Line). IsCompared ls known c.deref-9.result.now all c.deref-10.result.now)
@@ -50,7 +53,7 @@ merge_pending-requires-clause-compared c =
     (subst (λ (xs : List ℕ). IsCompared lines known xs all c.deref-10.result.now) (sym c.deref-9.ensures.value)
     (subst (λ (xs : List ℕ). IsCompared lines known equals all xs) (sym c.deref-10.ensures.value)
     (compared_first lines known equals all c.in_ok-numbers.numbers.items (ap (λ (t : Lined). t.named) c.in_ok-comparison.ensures)
-    (subst (λ (ls : List Line). AreEquals ls known equals) e c.in_ok-equals.ensures)
+    (subst (λ (ls : List Line). AreEquals ls known equals) e c.in_ok-compared.ensures.numbers)
     (subst (λ (xs : List ℕ). AreNumbered known xs all c.in_ok-numbers.numbers.items) c.deref-2.ensures.value
     (subst (λ (xs : List Dtv). AreNumbered known c.deref-2.result.now xs c.in_ok-numbers.numbers.items) c.deref-3.ensures.value
     c.in_ok-numbers.ensures)) c.in_ok-sides.ensures)))
@@ -59,7 +62,7 @@ pub merge_pending-requires-clause-pending : goal.merge_pending-requires-clause-p
 merge_pending-requires-clause-pending c = λ order n has.
     let lines = c.args.lines.now in
     let known = c.in_ok-comparison.comparison.named in
-    let equals = c.in_ok-equals.equals.items in
+    let equals = c.in_ok-compared.compared.numbers.items in
     let all = c.in_ok-sides.sides.items in
     let numbers = c.in_ok-numbers.numbers.items in
     let bases = c.in_ok-bases.bases.items in
@@ -69,7 +72,7 @@ merge_pending-requires-clause-pending c = λ order n has.
     c.in_ok-pending.ensures n s.0
     (subst (λ (xs : List Dtv). Contains xs s.0) (sym (c.deref-7.ensures.value ∙ c.in_ok-sides.ensures)) s.1) s.2
     (λ alone. alone_none lines known equals all numbers bases n
-    (subst (λ (ls : List Line). AreEquals ls known equals) (ap (λ (t : Lined). t.lines) c.in_ok-comparison.ensures) c.in_ok-equals.ensures)
+    (subst (λ (ls : List Line). AreEquals ls known equals) (ap (λ (t : Lined). t.lines) c.in_ok-comparison.ensures) c.in_ok-compared.ensures.numbers)
     (subst (λ (xs : List ℕ). AreNumbered known xs all numbers) c.deref-2.ensures.value
     (subst (λ (xs : List Dtv). AreNumbered known c.deref-2.result.now xs numbers) c.deref-3.ensures.value c.in_ok-numbers.ensures))
     c.in_ok-sides.ensures
@@ -95,3 +98,13 @@ returns-clause-constants c =
 pub returns-clause-named : goal.returns-clause-named
 returns-clause-named c = λ n h.
     subst (λ (ls : List Line). NamesBase ls (Exist n)) (c.from_vec-now.ensures ∙ c.in_ok-start.ensures) (c.in_ok-left.ensures.named n h)
+
+pub returns-clause-table : goal.returns-clause-table
+returns-clause-table c =
+    let lines = c.args.lines.now in
+    let left = c.in_ok-left.left in
+    some_more c.in_ok-compared.compared.table (Tells c.in_ok-comparison.comparison.lines) (IsTableAbout left)
+    (λ g t. merged_about lines left g
+    (λ order. subst (λ (ls : List Line). Merges order left ls) (c.from_vec-now.ensures ∙ c.in_ok-start.ensures) (c.in_ok-left.ensures.merges order))
+    (subst (λ (ls : List Line). Tells ls g) (ap (λ (t : Lined). t.lines) c.in_ok-comparison.ensures) t))
+    c.in_ok-compared.ensures.table

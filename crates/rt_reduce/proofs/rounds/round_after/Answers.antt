@@ -1,4 +1,4 @@
-use Rattle.std.proofs.Common.{List, [], All, sym, ap, subst}
+use Rattle.std.proofs.Common.{IfSome, List, [], All, sym, ap, subst}
 use Rattle.rt_lines.specs.declared.variable.Base.TheVariants.{Exist}
 use Rattle.rt_lines.specs.declared.line.Line.{Line}
 use Rattle.rt_lines.specs.Lines.{HasConstantsBelow}
@@ -11,6 +11,7 @@ use Rattle.rt_reduction.specs.Rounds.{Prepares}
 use Rattle.rt_reduction.proofs.Dropping.{none_to_spare_lem}
 use Rattle.rt_reduction.proofs.Emitting.{emits_of_scheme_lem}
 use Rattle.rt_simplify.proofs.Staying.{tidied_twice_lem}
+use Rattle.rt_reduce.specs.Inside.Deciding.{IsTableAbout}
 use Rattle.rt_reduce.proofs.Keeping.{emitted_below, fewer_below, fewer_named, fewer_scheme, prepared_below, prepared_scheme}
 use Rattle.rt_reduce.proofs.rounds.round_after.Goals as goal
 
@@ -38,6 +39,10 @@ merge_equal-requires-clause-constants c =
     (prepared_below count c.args.lines c.in_ok-start.start c.in_ok-simple.simple c.in_ok-start.ensures c.in_ok-simple.ensures
     c.requires.constants)))
 
+pub drop_known-requires-clause-table : goal.drop_known-requires-clause-table
+drop_known-requires-clause-table c =
+    subst (λ (ls : List Line). IfSome c.in_ok-equal.equal.table (IsTableAbout ls)) (sym c.items-left.ensures) c.in_ok-equal.ensures.table
+
 pub returns-clause-round : goal.returns-clause-round
 returns-clause-round c =
     let order = c.args.order.now in
@@ -45,10 +50,10 @@ returns-clause-round c =
       is_tidied = tidied_twice_lem c.args.lines;
       simple = c.in_ok-simple.simple;
       emitted = c.in_ok-emitted.emitted;
-      merged = c.in_ok-merged.merged;
+      merged = c.in_ok-equal.equal.lines;
       is_simple = subst (Prepares c.in_ok-simple.simple) c.in_ok-start.ensures c.in_ok-simple.ensures;
       is_emitted = subst (λ (ls : List Line). IsEmitted order ls c.in_ok-emitted.emitted) c.items.ensures (c.in_ok-emitted.ensures order);
-      is_merged = subst (Merges order c.in_ok-merged.merged) c.items-all.ensures c.in_ok-merged.ensures.merges;
+      is_merged = subst (Merges order c.in_ok-equal.equal.lines) c.items-all.ensures c.in_ok-equal.ensures.merges;
       is_dropped = subst (λ (ls : List Line). Drops order [] ls c.in_ok-after.after) c.items-left.ensures c.in_ok-after.ensures.drops;
     }
 
@@ -60,7 +65,7 @@ returns-clause-begun c = record {
   is_emitted = λ order. subst (λ (ls : List Line). IsEmitted order ls c.in_ok-emitted.emitted) c.items.ensures
       (c.in_ok-emitted.ensures order);
   named = λ n h. subst (λ (ls : List Line). NamesBase ls (Exist n)) c.items-all.ensures
-      (c.in_ok-merged.ensures.named n (subst (λ (ls : List Line). NamesBase ls (Exist n)) c.items-left.ensures
+      (c.in_ok-equal.ensures.named n (subst (λ (ls : List Line). NamesBase ls (Exist n)) c.items-left.ensures
       (fewer_named c.items-left.result.now c.in_ok-after.after c.in_ok-after.ensures.stood n h)));
 }
 
@@ -73,13 +78,13 @@ returns-clause-scheme c =
     (emits_of_scheme_lem c.args.order.now c.items.result.now c.in_ok-emitted.emitted simple
     (c.in_ok-emitted.ensures c.args.order.now)) in
     fewer_scheme c.items-left.result.now c.in_ok-after.after c.in_ok-after.ensures.stood
-    (subst AreOfScheme (sym c.items-left.ensures) (c.in_ok-merged.ensures.scheme emitted))
+    (subst AreOfScheme (sym c.items-left.ensures) (c.in_ok-equal.ensures.scheme emitted))
 
 pub returns-clause-constants : goal.returns-clause-constants
 returns-clause-constants c =
     let count = c.args.order.now.count in
     fewer_below count c.items-left.result.now c.in_ok-after.after c.in_ok-after.ensures.stood
-    (subst (All (HasConstantsBelow count)) (sym c.items-left.ensures) c.in_ok-merged.ensures.constants)
+    (subst (All (HasConstantsBelow count)) (sym c.items-left.ensures) c.in_ok-equal.ensures.constants)
 
 pub returns-clause-needed : goal.returns-clause-needed
 returns-clause-needed c = λ before after l e.
