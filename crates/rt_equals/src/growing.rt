@@ -13,7 +13,7 @@ use rt_base::Memory;
 use rt_lines::{Dtv, Line};
 use rt_named::Named;
 use rt_outline::Classes;
-use rt_sat::GrowingTable;
+use rt_sat::{Extent, GrowingTable};
 use std::alloc::Global;
 
 // Whether it is known that classes from outside are exact, and a table of ways, if one was made.
@@ -39,7 +39,7 @@ pub(crate) fn told(
     let marks = marked(alloc, named, outer, &own)?;
     let sides = marked_sides(alloc, named, lines, outer, &marks)?;
     let shape = rt_shape::of(alloc, lines)?;
-    let growing = GrowingTable::of(alloc, lines, &shape, &sides)?;
+    let growing = GrowingTable::of(alloc, lines, &shape, &sides, Extent::Whole)?;
     let exact = are_joined(&growing, &outer.numbers, &marks);
     Ok(Finding {
         exact,

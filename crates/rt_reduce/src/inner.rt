@@ -14,7 +14,7 @@ use crate::dropping::fate_of;
 use rt_base::Memory;
 use rt_lines::{Dtv, Line, Order};
 use rt_outline::Lower;
-use rt_sat::GrowingTable;
+use rt_sat::{Extent, GrowingTable};
 use rt_sure::{Fate, is_bound, table_of};
 use std::alloc::Global;
 use std::marker::Model;
@@ -62,7 +62,7 @@ impl Inner {
             return Ok(told);
         }
         let sides = bounded(alloc, lines)?;
-        let table = table_of(alloc, lines, &sides)?;
+        let table = table_of(alloc, lines, &sides, Extent::Whole)?;
         Ok(told.with_table(table))
     }
 
@@ -180,7 +180,7 @@ pub(crate) fn is_tabled(alloc: Global, lines: &[Line], x: &Dtv, y: &Dtv) -> Resu
     let mut sides = Vec::with_capacity(alloc, 2)?;
     sides.push(x.copy()?)?;
     sides.push(y.copy()?)?;
-    let table = table_of(alloc, lines, &sides)?;
+    let table = table_of(alloc, lines, &sides, Extent::FirstBelowSecond)?;
     Ok(tells_of(&table, x, slice::from_ref(y)))
 }
 

@@ -15,6 +15,7 @@ ghost use Rattle.rt_sat.specs.Numbered.{AreDistinct};
 
 use crate::ends::ends;
 use crate::family::{Family, Home};
+use crate::increments::has_way;
 use crate::links::Links;
 use crate::pushing::Frame;
 use crate::state::State;
@@ -108,8 +109,20 @@ pub(crate) struct End {
     pub(crate) leads_on: bool,
 }
 
-// Pushes within a family, until nothing is added.
-pub(crate) fn spread(alloc: Global, kin: &Kin, family: &mut Family) -> Result<(), Memory>
+// Between which states a way of count nought is asked for.
+#[derive(Clone, Copy)]
+pub(crate) struct Asked {
+    pub(crate) from: State,
+    pub(crate) to: State,
+}
+
+// Pushes within a family, until nothing is added, or until a way of count nought is found that may be asked for.
+pub(crate) fn spread(
+    alloc: Global,
+    kin: &Kin,
+    family: &mut Family,
+    asked: Option<Asked>,
+) -> Result<(), Memory>
     requires family { (count : ℕ) × IsFamily count family.old }
     requires ready { (known : List Variable) × (flips : List Bool) × AreReady known flips family.old kin.now.links kin.now.ready.items }
     ensures same { OnOk result (AreSameMembers family.old family.new) }
@@ -120,17 +133,19 @@ pub(crate) fn spread(alloc: Global, kin: &Kin, family: &mut Family) -> Result<()
 {
     let due = vec![in alloc; true; family.members.len()]?;
     let since = vec![in alloc; 0u64; family.members.len()]?;
-    spread_from(alloc, kin, family, due, since)
+    spread_from(alloc, kin, family, due, since, asked)
 }
 
-// Pushes within a family from the classes that are due, until nothing is added. Of a class those rows alone are pushed that
-// changed since it was pushed from last, of which there are the clocks: no promise rests on these.
+// Pushes within a family from the classes that are due, until nothing is added, or until a way of count nought is found that may
+// be asked for. Of a class those rows alone are pushed that changed since it was pushed from last, of which there are the clocks:
+// no promise rests on these.
 pub(crate) fn spread_from(
     alloc: Global,
     kin: &Kin,
     family: &mut Family,
     due: Vec<bool>,
     since: Vec<u64>,
+    asked: Option<Asked>,
 ) -> Result<(), Memory>
     requires family { (count : ℕ) × IsFamily count family.old }
     requires ready { (known : List Variable) × (flips : List Bool) × AreReady known flips family.old kin.now.links kin.now.ready.items }
@@ -152,6 +167,9 @@ pub(crate) fn spread_from(
             pass % BETWEEN == BETWEEN - 1,
             &mut next,
         )?;
+        if is_answered(family, asked) {
+            return Ok(());
+        }
         let clocks = clocks(alloc, family)?;
         push_due(alloc, kin, family, &due, &since, &mut next)?;
         if !next.contains(&true) {
@@ -161,6 +179,16 @@ pub(crate) fn spread_from(
         since = clocks;
     }
     Ok(())
+}
+
+// Whether a way that is asked for is found.
+fn is_answered(family: &Family, asked: Option<Asked>) -> bool
+    requires { (count : ℕ) × IsFamily count family.now }
+{
+    match asked {
+        Some(asked) => has_way(family, asked.from, asked.to),
+        None => false,
+    }
 }
 
 // For each class when something was last noted of its ways.

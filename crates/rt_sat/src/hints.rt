@@ -70,7 +70,7 @@ pub(crate) fn hints(alloc: Global, frame: &Frame, lines: &[Edge]) -> Result<Hint
     let mut kin = kin(alloc, frame, lines, &family)?;
     let dead = dead(alloc, frame, &family, &kin.links)?;
     kin.ready = readied(alloc, frame, &kin.groups, &kin.links, &dead, &family)?;
-    spread(alloc, &kin, &mut family)?;
+    spread(alloc, &kin, &mut family, None)?;
     let edges = pushed(alloc, frame, &kin.groups, &kin.halves, &family)?;
     Ok(Hinted {
         edges,

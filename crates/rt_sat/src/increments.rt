@@ -17,7 +17,7 @@ ghost use Rattle.rt_sat.specs.Tables.{place, AreThere};
 use crate::ends::readied;
 use crate::entering::{enter_line, line_edges};
 use crate::family::Family;
-use crate::gathering::{Kin, clocks, spread, spread_from};
+use crate::gathering::{Asked, Kin, clocks, spread, spread_from};
 use crate::hints::{dead, enter_lines, inner, kin, revive, set};
 use crate::links::Links;
 use crate::passing::without_passing;
@@ -39,6 +39,15 @@ pub struct GrowingTable {
     kin: Kin,
 }
 
+/// How much a table is to find.
+#[derive(Clone, Copy)]
+pub enum Extent {
+    /// Whatever is found.
+    Whole,
+    /// As much as it takes to find that the first of the other variables that are named lies below the second.
+    FirstBelowSecond,
+}
+
 /// What a table said at a time.
 #[derive(Drop)]
 pub struct Snapshot {
@@ -46,12 +55,14 @@ pub struct Snapshot {
 }
 
 impl GrowingTable {
-    /// What the lines say of the variables that they and others name, which exist. The error is out of memory.
+    /// What the lines say of the variables that they and others name, which exist, as far as it is asked for. The error is out of
+    /// memory.
     pub fn of(
         alloc: Global,
         lines: &[Line],
         shape: &Shape,
         extra: &[Dtv],
+        extent: Extent,
     ) -> Result<GrowingTable, Memory>
         requires shape { IsShapeOf lines.now shape.now }
         requires there { AreThere lines.now extra.now }
@@ -69,7 +80,8 @@ impl GrowingTable {
         let mut kin = kin(alloc, &frame, &first, &family)?;
         let dead = resting(alloc, &frame, &family, &kin.links, extra)?;
         kin.ready = readied(alloc, &frame, &kin.groups, &kin.links, &dead, &family)?;
-        spread(alloc, &kin, &mut family)?;
+        let asked = asked_of(&frame.named, extra, extent);
+        spread(alloc, &kin, &mut family, asked)?;
         Ok(GrowingTable { frame, family, kin })
     }
 
@@ -110,7 +122,7 @@ impl GrowingTable {
             return Ok(());
         }
         let edges = line_edges(alloc, &self.frame.named, slice::from_ref(line))?;
-        enter(alloc, &self.kin, &mut self.family, &edges)?;
+        enter(alloc, &self.kin, &mut self.family, &edges, None)?;
         Ok(())
     }
 
@@ -154,16 +166,22 @@ impl GrowingTable {
         let Some(upper) = self.frame.named.index(y) else {
             return Ok(false);
         };
-        let then = self.then_with(alloc, snapshot, lines)?;
-        Ok(has_way(&then.family, forth(lower), forth(upper)))
+        let asked = Asked {
+            from: forth(lower),
+            to: forth(upper),
+        };
+        let then = self.then_with(alloc, snapshot, lines, asked)?;
+        Ok(has_way(&then.family, asked.from, asked.to))
     }
 
-    // What the table said at a time, with what lines say whose sides are named. The error is out of memory.
+    // What the table said at a time, with what lines say whose sides are named, as far as a way is asked for. The error is out of
+    // memory.
     fn then_with(
         &self,
         alloc: Global,
         snapshot: &Snapshot,
         lines: &[Line],
+        asked: Asked,
     ) -> Result<Snapshot, Memory>
         requires { (told : List Given) × Told told snapshot.now self.now }
         ensures family { IfOk result (λ then. IsFamily (length (named_of self.now)) then.family) }
@@ -172,7 +190,7 @@ impl GrowingTable {
     {
         let edges = self.edges_of(alloc, lines)?;
         let mut family = snapshot.family.copy(alloc)?;
-        enter(alloc, &self.kin, &mut family, &edges)?;
+        enter(alloc, &self.kin, &mut family, &edges, Some(asked))?;
         Ok(Snapshot { family })
     }
 
@@ -190,8 +208,23 @@ impl GrowingTable {
     }
 }
 
+// The way that is asked for, if one is.
+fn asked_of(named: &Named, extra: &[Dtv], extent: Extent) -> Option<Asked> {
+    match extent {
+        Extent::Whole => None,
+        Extent::FirstBelowSecond => {
+            let lower = named.index(extra.first()?)?;
+            let upper = named.index(extra.get(1)?)?;
+            Some(Asked {
+                from: forth(lower),
+                to: forth(upper),
+            })
+        }
+    }
+}
+
 // Whether a way of count nought is found from one state to another.
-fn has_way(family: &Family, from: State, to: State) -> bool
+pub(crate) fn has_way(family: &Family, from: State, to: State) -> bool
     requires { (count : ℕ) × IsFamily count family.now }
     ensures { result ≡ true → (known : List Variable) (flips : List Bool) (lines : List Arrow) →
         IsToldFamily known flips lines family.now → IsTold known flips lines from to 0 }
@@ -208,8 +241,14 @@ fn has_way(family: &Family, from: State, to: State) -> bool
     family.grids[left.class].row(left.index)[right.index] == 0
 }
 
-// Adds to a family what edges of lines, and what is pushed from ways along them, say.
-fn enter(alloc: Global, kin: &Kin, family: &mut Family, edges: &[Edge]) -> Result<(), Memory>
+// Adds to a family what edges of lines, and what is pushed from ways along them, say, until a way is found that may be asked for.
+fn enter(
+    alloc: Global,
+    kin: &Kin,
+    family: &mut Family,
+    edges: &[Edge],
+    asked: Option<Asked>,
+) -> Result<(), Memory>
     requires family { (count : ℕ) × IsFamily count family.old }
     requires ready { (known : List Variable) × (flips : List Bool) × AreReady known flips family.old kin.now.links kin.now.ready.items }
     ensures same { OnOk result (AreSameMembers family.old family.new) }
@@ -222,7 +261,7 @@ fn enter(alloc: Global, kin: &Kin, family: &mut Family, edges: &[Edge]) -> Resul
     let since = clocks(alloc, family)?;
     enter_lines(alloc, family, edges)?;
     let due = due(alloc, family, edges)?;
-    spread_from(alloc, kin, family, due, since)
+    spread_from(alloc, kin, family, due, since, asked)
 }
 
 // A flag for each class, set for those of the edges' starts.

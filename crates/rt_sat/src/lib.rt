@@ -35,7 +35,7 @@ mod table;
 mod weights;
 
 pub use count::Count;
-pub use increments::{GrowingTable, Snapshot};
+pub use increments::{Extent, GrowingTable, Snapshot};
 pub use judging::derives;
 pub use state::{Edge, State};
 pub use table::{Table, saturated};

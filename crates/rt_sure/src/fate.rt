@@ -17,7 +17,7 @@ use crate::shapes::{is_below, is_set, joined, shaped_among};
 use crate::tables::table_of;
 use rt_base::Memory;
 use rt_lines::{Dtv, Line};
-use rt_sat::GrowingTable;
+use rt_sat::{Extent, GrowingTable};
 use rt_shape::Shape;
 use std::alloc::Global;
 
@@ -133,7 +133,7 @@ fn grown(
 {
     let shaped = shaped_among(alloc, lines, stays, among)?;
     let sides = open_sides(alloc, lines, stays)?;
-    let growing = table_of(alloc, &shaped, &sides)?;
+    let growing = table_of(alloc, &shaped, &sides, Extent::Whole)?;
     Ok(growing)
 }
 

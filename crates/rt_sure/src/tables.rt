@@ -8,19 +8,24 @@ ghost use Rattle.rt_sure.specs.Grounds.{IsTableOf};
 use crate::shortening::shortened;
 use rt_base::Memory;
 use rt_lines::{Dtv, Line};
-use rt_sat::GrowingTable;
+use rt_sat::{Extent, GrowingTable};
 use rt_shape::Shape;
 use std::alloc::Global;
 
 /// What lines say, with a place for those of some variables that exist: a table of the bases that `<=` lines and these variables
-/// name. Nothing is promised of how much it finds. The error is out of memory.
-pub fn table_of(alloc: Global, lines: &[Line], sides: &[Dtv]) -> Result<GrowingTable, Memory>
+/// name, made as far as it is asked for. Nothing is promised of how much it finds. The error is out of memory.
+pub fn table_of(
+    alloc: Global,
+    lines: &[Line],
+    sides: &[Dtv],
+    extent: Extent,
+) -> Result<GrowingTable, Memory>
     ensures { IfOk result (IsTableOf lines.now) }
 {
     let short = shortened(alloc, lines, sides)?;
     let shape = rt_shape::of(alloc, &short)?;
     let extra = existing(alloc, &shape, sides)?;
-    let growing = GrowingTable::of(alloc, &short, &shape, &extra)?;
+    let growing = GrowingTable::of(alloc, &short, &shape, &extra, extent)?;
     Ok(growing)
 }
 

@@ -19,6 +19,19 @@ push_due-requires-clause-ready c =
           (c.in_ok-sweep_due.ensures.family count (c.loop-pass.invariant.family count c.requires.family.1)) is.2,
     )
 
+pub is_answered-requires : goal.is_answered-requires
+is_answered-requires c = (c.requires.family.0, c.in_ok-sweep_due.ensures.family c.requires.family.0 (c.loop-pass.invariant.family c.requires.family.0 c.requires.family.1))
+
+pub returns-then-is_answered-clause-same : goal.returns-then-is_answered-clause-same
+returns-then-is_answered-clause-same c = c.in_ok-sweep_due.ensures.same ∙ c.loop-pass.invariant.same
+
+pub returns-then-is_answered-clause-told : goal.returns-then-is_answered-clause-told
+returns-then-is_answered-clause-told c = λ known flips lines are linked before.
+    c.in_ok-sweep_due.ensures.told known flips lines (c.loop-pass.invariant.told known flips lines are linked before)
+
+pub returns-then-is_answered-clause-family : goal.returns-then-is_answered-clause-family
+returns-then-is_answered-clause-family c = λ n before. c.in_ok-sweep_due.ensures.family n (c.loop-pass.invariant.family n before)
+
 pub returns-then-not-contains-clause-told : goal.returns-then-not-contains-clause-told
 returns-then-not-contains-clause-told c = λ known flips lines are linked before.
     let count : ℕ = c.requires.family.0 in
