@@ -37,6 +37,8 @@ pub struct Grid {
     changed: Vec<u64>,
     // When what steps from each place lead to was taken in.
     seen: Vec<u64>,
+    // Whether steps from each place came since spare ones were forgotten there. Effort alone rests on these.
+    fresh: Vec<bool>,
     // How often something was noted.
     clock: u64,
 }
@@ -62,11 +64,13 @@ impl Grid {
         let steps = no_steps(alloc, size)?;
         let changed = vec![in alloc; 1; size]?;
         let seen = vec![in alloc; 0; size]?;
+        let fresh = vec![in alloc; false; size]?;
         Ok(Grid {
             rows,
             steps,
             changed,
             seen,
+            fresh,
             clock: 1,
         })
     }
@@ -79,11 +83,13 @@ impl Grid {
         let steps = all_steps_of(alloc, &self.steps)?;
         let changed = self.changed.to_vec(alloc)?;
         let seen = self.seen.to_vec(alloc)?;
+        let fresh = self.fresh.to_vec(alloc)?;
         Ok(Grid {
             rows,
             steps,
             changed,
             seen,
+            fresh,
             clock: self.clock,
         })
     }
@@ -144,6 +150,7 @@ impl Grid {
         self.rows[from] = Sequence::from_vec(row);
         self.clock = self.clock.saturating_add(1);
         self.changed[from] = self.clock;
+        set(&mut self.fresh, from, true);
         Ok(true)
     }
 
@@ -237,7 +244,8 @@ impl Grid {
         Ok(any)
     }
 
-    /// Forgets steps without which the ways are as short. The error is out of memory.
+    /// Forgets steps without which the ways are as short, from the places from which steps came since that was done last. The error
+    /// is out of memory.
     pub fn prune(&mut self, alloc: Global) -> Result<(), Memory>
         ensures size { OnOk result (size_of self.new ≡ size_of self.old) }
         ensures holds { OnOk result (Holds (Says self.old) self.new) }
@@ -248,14 +256,33 @@ impl Grid {
         Ok(())
     }
 
-    // Forgets steps from a place without which the ways are as short.
+    // Forgets steps from a place without which the ways are as short, if steps came there since that was done last.
     fn prune_at(&mut self, alloc: Global, place: usize) -> Result<(), Memory>
         requires { place < size_of self.old }
         ensures size { OnOk result (size_of self.new ≡ size_of self.old) }
         ensures holds { OnOk result (Holds (Says self.old) self.new) }
     {
+        if !is_set(&self.fresh, place) {
+            return Ok(());
+        }
         self.steps[place] = pruned(alloc, &self.rows, self.steps[place].items(), place)?;
+        set(&mut self.fresh, place, false);
         Ok(())
+    }
+}
+
+// Whether the flag at an index is set.
+fn is_set(flags: &[bool], index: usize) -> bool {
+    match flags.get(index) {
+        Some(flag) => *flag,
+        None => false,
+    }
+}
+
+// Sets the flag at an index, or clears it.
+fn set(flags: &mut [bool], index: usize, to: bool) {
+    if let Some(flag) = flags.get_mut(index) {
+        *flag = to;
     }
 }
 

@@ -1,18 +1,22 @@
 -- How outer arcs are built: nodes with more behind them, arcs with more.
-use Rattle.std.proofs.Common.{◌≡◌, ℕ, zero, suc, ◌<◌, ◌≤◌, inl, inr, Bool, true, List, [], ◌∷◌, ◌++◌, Option, Some, None, length, replicate, sym, ap, subst, ◌∙◌, arith}
+use Rattle.std.proofs.Common.{◌≡◌, ℕ, zero, suc, ◌<◌, ◌≤◌, inl, inr, Bool, true, List, [], ◌∷◌, ◌++◌, Option, Some, None, length, replicate, refl, sym, ap, subst, ◌∙◌, arith}
 use Rattle.std.specs.Prelude.{slice_get, IfSome}
+use Rattle.std.specs.Map.{lookup}
 use Rattle.rt_outline.specs.declared.frame.Frame.{Frame}
-use Rattle.std.proofs.lemmas.List.{append_assoc}
+use Rattle.rt_components.specs.Groups.{Reaches}
+use Rattle.rt_components.specs.Groups.Reaches.{there, onward}
 use Rattle.rt_lines.specs.declared.label.Label.{Label}
 use Rattle.rt_lines.specs.declared.variable.Dtv.{Dtv}
 use Rattle.rt_lines.specs.declared.line.Line.{Line}
+use Rattle.rt_shape.specs.Graphs.{letter_eq}
 use Rattle.rt_outline.specs.declared.arc.Arc.{Arc}
 use Rattle.rt_outline.specs.Arcs.{HasArc, Leads}
 use Rattle.rt_outline.specs.Built.{AreNamed, AreOuterArcs, HasHubs, IsCrossed, IsHubbed, IsSorted}
 use Rattle.rt_outline.specs.Turning.{AreTurning}
-use Rattle.rt_outline.specs.Frames.{Origins, IsMade, IsClosed, IsPushedMore, IsStepped, AreOriginsOf, AreKept, AreLinesKept, AreMore, HavePointers, IsPointerPair}
-use Rattle.rt_outline.specs.Hubs.{HasAccess, HaveHubs, IsGrownBy}
+use Rattle.rt_outline.specs.Frames.{Origins, IsMade, IsClosed, IsPushedMore, AreOriginsOf, AreKept, AreLinesKept, AreMore, HavePointers, IsPointerPair}
+use Rattle.rt_outline.specs.Hubs.{HasAccess, HaveHubs, IsGrownBy, key_of}
 use Rattle.rt_outline.specs.Lines.{AreLineArcs}
+use Rattle.rt_outline.proofs.Lowest.{lowest_open}
 use Rattle.rt_outline.proofs.Outer.{outer_of, outer_turning}
 use Rattle.rt_outline.proofs.Standing.{all_set}
 use Rattle.rt_base.proofs.Lists.{slice_get-front}
@@ -24,9 +28,6 @@ slice_before (z ∷ xs) ys (suc n) x h e = slice_before xs ys n x (omega (arith,
 
 pub grown_made : (old new more : Origins) → new ≡ old ++ more → (n p : ℕ) (l : Label) → IsMade old n p l → IsMade new n p l
 grown_made old new more e n p l m = ap (λ (xs : Origins). slice_get xs n) e ∙ slice_get-front old more n (Some (p, l)) m
-
-pub grown_access : (old new more : Origins) → new ≡ old ++ more → (n : ℕ) → HasAccess old n → HasAccess new n
-grown_access old new more e n a = ((a.0.0, grown_made old new more e a.0.0 n _ a.0.1), (a.1.0, grown_made old new more e a.1.0 n _ a.1.1))
 
 longer_list : {X : Type 0} (xs ys : List X) → length xs ≤ length (xs ++ ys)
 longer_list [] ys = omega arith
@@ -41,7 +42,22 @@ made_before known first new more are e n p l h m =
     (are.only n p l (slice_before first more n (Some (p, l)) (omega (arith, h, are.each)) (sym (ap (λ (xs : Origins). slice_get xs n) e) ∙ m))).0
 
 pub hubs_kept : (origins : Origins) (arcs next : List (List Arc)) (classes : List (Option ℕ)) (flips : List Bool) → AreKept arcs next → HaveHubs origins arcs classes flips → HaveHubs origins next classes flips
-hubs_kept origins arcs next classes flips kept have = (have.0, have.1, λ n f key e. (let r = have.2 n f key e in (r.0, r.1, kept r.0 n None r.2)))
+hubs_kept origins arcs next classes flips kept have = (
+  have.0,
+  have.1,
+  λ n f. record { hub = λ key e. (let r = (have.2 n f).hub key e in (r.0, r.1, kept r.0 n None r.2)); own = (have.2 n f).own },
+)
+
+-- below each variable that can be read and written through there is a node with a load and a store
+lowest_of : (origins : Origins) (arcs : List (List Arc)) (classes : List (Option ℕ)) (flips stands : List Bool) → HaveHubs origins arcs classes flips →
+    (n : ℕ) → slice_get flips n ≡ Some true → (h : ℕ) × HasAccess origins h × Reaches (Leads arcs stands true) h n
+lowest_of origins arcs classes flips stands have n f = by (key_of origins classes flips n) refl
+  where
+    by : (o : Option (ℕ × Label)) → key_of origins classes flips n ≡ o → (h : ℕ) × HasAccess origins h × Reaches (Leads arcs stands true) h n
+    by None e = (n, (have.2 n f).own e, there)
+    by (Some key) e =
+        let r : (hub : ℕ) × (lookup (letter_eq key) have.0 ≡ Some hub) × HasArc arcs hub n None = (have.2 n f).hub key e in
+        (r.0, have.1 key r.0 r.1, onward (None, r.2, refl) there)
 
 -- before the arcs of lines are entered there are none
 pub lines_absent : (lines : List Line) (named : List Dtv) (arcs : List (List Arc)) → ((v w i : ℕ) → HasArc arcs v w (Some i) → ⊥) → AreLineArcs lines 0 named arcs
@@ -60,19 +76,17 @@ pointers_lines origins arcs next more v w i c = elim (more v w (Some i) c) [ inl
 pub pointers_kept : (origins : Origins) (arcs next : List (List Arc)) → AreKept arcs next → HavePointers origins arcs → HavePointers origins next
 pointers_kept origins arcs next kept have p v w m n = kept v w None (have p v w m n)
 
--- hubs that are entered after loads and stores
-pub has_hubs : (known : List Dtv) (classes : List (Option ℕ)) (flips : List Bool) (first stepped grown : Origins) (none some hubbed : List (List Arc)) →
-    AreOriginsOf known first → ((v w : ℕ) (line : Option ℕ) → HasArc none v w line → ⊥) → IsStepped first none stepped some →
-    ((n : ℕ) → slice_get flips n ≡ Some true → HasAccess stepped n) → IsGrownBy stepped some grown hubbed → HaveHubs grown hubbed classes flips →
-    HasHubs known classes flips grown hubbed
-has_hubs known classes flips first stepped grown none some hubbed are absent steps accesses grows hubs = record {
+-- hubs that are entered after the nodes of the variables
+pub has_hubs : (known : List Dtv) (classes : List (Option ℕ)) (flips : List Bool) (first grown : Origins) (none hubbed : List (List Arc)) →
+    AreOriginsOf known first → ((v w : ℕ) (line : Option ℕ) → HasArc none v w line → ⊥) → IsGrownBy first none grown hubbed →
+    HaveHubs grown hubbed classes flips → HasHubs known classes flips grown hubbed
+has_hubs known classes flips first grown none hubbed are absent grows hubs = record {
   first = first;
-  more = steps.more ++ grows.more;
+  more = grows.more;
   are = are;
-  behind = grows.behind ∙ ap (λ (xs : Origins). xs ++ grows.more) steps.behind ∙ append_assoc first steps.more grows.more;
-  accesses = λ n f. grown_access stepped grown grows.more grows.behind n (accesses n f);
+  behind = grows.behind;
   hubs = hubs;
-  none = λ v w i h. absent v w (Some i) (steps.same v w (Some i) (grows.lines v w i h));
+  none = λ v w i h. absent v w (Some i) (grows.lines v w i h);
 }
 
 -- there are as many nodes as variables
@@ -98,9 +112,7 @@ built lines known named grown lined pointed last hubbed entered opened all is sa
           outer_of lines named.0 known named.1 is.graph is.shape is.classes is.flips is.classed is.flagged is.hubbed.first last is.hubbed.are behind all
           stands (all_set stands (length lines) whole) closed
           (pointers_kept last opened all pushed.kept (subst (λ (os : Origins). HavePointers os opened) (sym same_last) pointers))
-          (λ n f. subst (λ (os : Origins). HasAccess os n) (sym same) (is.hubbed.accesses n f))
-          lines_all (hubs_kept last hubbed all is.classes is.flips (λ v w line c. pushed.kept v w line (kept_opened v w line (kept v w line c)))
-          (subst (λ (os : Origins). HaveHubs os hubbed is.classes is.flips) (sym same) is.hubbed.hubs));
+          (lowest_of last all is.classes is.flips stands hubs) lines_all hubs;
     }
   where
     same : last ≡ grown
@@ -110,6 +122,11 @@ built lines known named grown lined pointed last hubbed entered opened all is sa
     behind n p l m =
         subst (λ (os : Origins). IsMade os n p l) (sym same)
         (grown_made is.hubbed.first grown is.hubbed.more is.hubbed.behind n p l m)
+
+    hubs : HaveHubs last all is.classes is.flips
+    hubs =
+        hubs_kept last hubbed all is.classes is.flips (λ v w line c. pushed.kept v w line (kept_opened v w line (kept v w line c)))
+        (subst (λ (os : Origins). HaveHubs os hubbed is.classes is.flips) (sym same) is.hubbed.hubs)
 
     lines_all : AreLineArcs lines (length lines) known all
     lines_all =
@@ -126,7 +143,8 @@ crossed_outer lines known named classes flips marks stands sorted whole origins 
   lines_all = is.laid.lines_all;
   outer =
       outer_turning lines named.0 known named.1 sorted.graph sorted.shape classes flips sorted.classed sorted.flagged is.laid.first origins is.laid.are
-      (grown_made is.laid.first origins is.laid.more is.laid.behind) arcs stands (all_set stands (length lines) whole) is.closed is.laid.pointers is.laid.accesses
+      (grown_made is.laid.first origins is.laid.more is.laid.behind) arcs stands (all_set stands (length lines) whole) is.closed is.laid.pointers
+      (λ n f. lowest_open lines known origins arcs stands is.laid.lines_all (all_set stands (length lines) whole) n (is.laid.lowest n f))
       is.laid.lines_all marks told;
 }
 

@@ -1,17 +1,17 @@
 -- Hubs of any nodes entered one by one, and arcs that are closed with them.
-use Rattle.std.proofs.Common.{◌≡◌, ℕ, ◌<◌, ◌≤◌, List, Bool, true, Option, Some, None, Result, Ok, Err, IfOk, IfSome, length, arith, ap, ◌++◌, sym, subst, ◌∙◌}
+use Rattle.std.proofs.Common.{◌≡◌, ℕ, ◌<◌, ◌≤◌, List, Bool, true, Option, Some, None, Result, Ok, Err, IfOk, IfSome, [], length, arith, ap, append-nil, ◌++◌, sym, subst, ◌∙◌}
 use Rattle.std.specs.Prelude.{slice_get}
 use Rattle.std.proofs.lemmas.List.{append_assoc}
 use Rattle.rt_lines.specs.declared.variable.Dtv.{Dtv}
 use Rattle.rt_lines.specs.declared.line.Line.{Line}
 use Rattle.rt_outline.specs.declared.arc.Arc.{Arc}
 use Rattle.rt_outline.specs.declared.frame.Frame.{Frame}
-use Rattle.rt_outline.specs.Arcs.{HasArc}
 use Rattle.rt_outline.specs.Built.{IsCrossed, IsLaid}
 use Rattle.rt_outline.specs.Frames.{Origins, IsClosed, IsPushedMore, IsStepped, AreOriginsOf, AreKept, AreMore, HavePointers, IsPointerPair}
-use Rattle.rt_outline.specs.Hubs.{HasAccess, IsGrownBy}
+use Rattle.rt_outline.specs.Hubs.{HasLowest, IsGrownBy}
 use Rattle.rt_outline.specs.Lines.{AreLineArcs}
-use Rattle.rt_outline.proofs.Built.{grown_access, grown_length, lines_kept, pointers_lines, pointers_kept}
+use Rattle.rt_outline.proofs.Built.{grown_length, lines_kept, pointers_lines, pointers_kept}
+use Rattle.rt_outline.proofs.Lowest.{lowest_kept}
 
 -- nodes alone more
 pub grown_stepped : (old new : Origins) (arcs next : List (List Arc)) → IsStepped old arcs new next → IsGrownBy old arcs new next
@@ -23,29 +23,38 @@ node_kept old new arcs next m n h =
     let k : length old ≤ length new = grown_length old new m.more m.behind in
     omega (arith, h, k)
 
--- before the arcs of lines are entered there are none
-pub none_before : (first stepped : Origins) (none some : List (List Arc)) → ((v w : ℕ) (line : Option ℕ) → HasArc none v w line → ⊥) →
-    IsStepped first none stepped some → (v w i : ℕ) → HasArc some v w (Some i) → ⊥
-none_before first stepped none some absent steps v w i h = absent v w (Some i) (steps.same v w (Some i) h)
-
--- what the steps of building give, before there are hubs
-pub laid_by : (lines : List Line) (known : List Dtv) (flips : List Bool) (first stepped lined pointed : Origins) (none some entered opened : List (List Arc)) →
-    AreOriginsOf known first → IsStepped first none stepped some → ((n : ℕ) → slice_get flips n ≡ Some true → HasAccess stepped n) →
-    lined ≡ stepped → AreLineArcs lines (length lines) known entered →
-    pointed ≡ lined → AreKept entered opened → HavePointers pointed opened → AreMore (IsPointerPair lined) entered opened →
-    IsLaid lines known flips pointed opened
-laid_by lines known flips first stepped lined pointed none some entered opened are steps accesses same_lined are_lines same_pointed kept pointers only = record {
-  first = first;
-  more = steps.more;
-  are = are;
-  behind = same ∙ steps.behind;
-  accesses = λ n f. subst (λ (os : Origins). HasAccess os n) (sym same) (accesses n f);
-  lines_all = lines_kept lines (length lines) known entered opened kept (pointers_lines lined entered opened only) are_lines;
-  pointers = pointers;
-}
+-- what the steps of building give, with the hubs that are there first
+pub laid_by : (lines : List Line) (known : List Dtv) (flips : List Bool) (first lined pointed hubbed stepped last : Origins)
+    (entered opened some wide next : List (List Arc)) → AreOriginsOf known first →
+    lined ≡ first → AreLineArcs lines (length lines) known entered →
+    pointed ≡ lined → AreKept entered opened → AreMore (IsPointerPair lined) entered opened →
+    IsGrownBy pointed opened hubbed some → IsStepped hubbed some stepped wide →
+    ((n : ℕ) → slice_get flips n ≡ Some true → HasLowest stepped wide n) →
+    last ≡ stepped → AreKept wide next → HavePointers last next → AreMore (IsPointerPair stepped) wide next →
+    IsLaid lines known flips last next
+laid_by lines known flips first lined pointed hubbed stepped last entered opened some wide next are
+    same_lined are_lines same_pointed kept only grown steps lowest same_last kept_next pointers only_next = record {
+      first = first;
+      more = grown.more ++ steps.more;
+      are = are;
+      behind = same_last ∙ steps.behind ∙ ap (λ (xs : Origins). xs ++ steps.more) (grown.behind ∙ ap (λ (xs : Origins). xs ++ grown.more) (same_pointed ∙ same_lined))
+          ∙ append_assoc first grown.more steps.more;
+      lowest = λ n f. subst (λ (os : Origins). HasLowest os next n) (sym same_last) (lowest_kept stepped stepped wide next pointed_grown n (lowest n f));
+      lines_all =
+          lines_kept lines (length lines) known entered next
+          (λ v w line h. kept_next v w line (steps.kept v w line (grown.kept v w line (kept v w line h))))
+          (λ v w i h. pointers_lines lined entered opened only v w i (grown.lines v w i (steps.same v w (Some i) (pointers_lines stepped wide next only_next v w i h))))
+          are_lines;
+      pointers = pointers;
+    }
   where
-    same : pointed ≡ stepped
-    same = same_pointed ∙ same_lined
+    pointed_grown : IsGrownBy stepped wide stepped next
+    pointed_grown = record {
+      more = [];
+      behind = sym (append-nil stepped);
+      kept = kept_next;
+      lines = pointers_lines stepped wide next only_next;
+    }
 
 -- nodes and arcs more
 pub laid_grown : (lines : List Line) (known : List Dtv) (flips : List Bool) (old new : Origins) (arcs next : List (List Arc)) →
@@ -55,7 +64,7 @@ laid_grown lines known flips old new arcs next grown pointers is = record {
   more = is.more ++ grown.more;
   are = is.are;
   behind = grown.behind ∙ ap (λ (xs : Origins). xs ++ grown.more) is.behind ∙ append_assoc is.first is.more grown.more;
-  accesses = λ n f. grown_access old new grown.more grown.behind n (is.accesses n f);
+  lowest = λ n f. lowest_kept old new arcs next grown n (is.lowest n f);
   lines_all = lines_kept lines (length lines) known arcs next grown.kept grown.lines is.lines_all;
   pointers = pointers;
 }
@@ -68,10 +77,13 @@ laid_pushed lines known flips stands old new arcs next same pushed is = record {
   more = is.more;
   are = is.are;
   behind = same ∙ is.behind;
-  accesses = λ n f. subst (λ (os : Origins). HasAccess os n) (sym same) (is.accesses n f);
+  lowest = λ n f. subst (λ (os : Origins). HasLowest os next n) (sym same) (lowest_kept old old arcs next pushed_grown n (is.lowest n f));
   lines_all = lines_kept lines (length lines) known arcs next pushed.kept pushed.lines is.lines_all;
   pointers = subst (λ (os : Origins). HavePointers os next) (sym same) (pointers_kept old arcs next pushed.kept is.pointers);
 }
+  where
+    pushed_grown : IsGrownBy old arcs old next
+    pushed_grown = record { more = []; behind = sym (append-nil old); kept = pushed.kept; lines = pushed.lines }
 
 -- the same nodes and arcs
 pub crossed_same : (lines : List Line) (known : List Dtv) (flips stands : List Bool) (old new : Origins) (arcs next : List (List Arc)) →

@@ -106,19 +106,34 @@ hubs_added key node old new updates none q hub e = elim (lookup_next key node ol
   | inr s ↦ s.1 ∙ e
 ]
 
--- the hub of a node
+-- the hub of a node, or its own load and store
 pub hub_at : (old more new : Origins) (arcs : List (List Arc)) (classes : List (Option ℕ)) (flips : List Bool) (hubs : List ((ℕ × Label) × ℕ)) (n : ℕ) (key : ℕ × Label) (hub : ℕ) → new ≡ old ++ more → n < length old →
     Some key ≡ key_of old classes flips n → lookup (letter_eq key) hubs ≡ Some hub → HasArc arcs hub n None → HasHubAt new arcs classes flips hubs n
-hub_at old more new arcs classes flips hubs n key hub behind h is found arc k e =
-    let both : Some key ≡ Some k = is ∙ sym (key_kept old more new behind classes flips n h) ∙ e in
-    let same : key ≡ k = cc in
-    (hub, subst (λ q. lookup (letter_eq q) hubs ≡ Some hub) same found, arc)
+hub_at old more new arcs classes flips hubs n key hub behind h is found arc = record {
+  hub = λ k e. (
+      let both : Some key ≡ Some k = is ∙ sym (key_kept old more new behind classes flips n h) ∙ e in
+      let same : key ≡ k = cc in
+      (hub, subst (λ q. lookup (letter_eq q) hubs ≡ Some hub) same found, arc)
+      );
+  own = λ e. absurd (let none : Some key ≡ None = is ∙ sym (key_kept old more new behind classes flips n h) ∙ e in cc);
+}
+
+pub own_at : (old more new : Origins) (arcs : List (List Arc)) (classes : List (Option ℕ)) (flips : List Bool) (hubs : List ((ℕ × Label) × ℕ)) (n : ℕ) → new ≡ old ++ more → n < length old →
+    None ≡ key_of old classes flips n → HasAccess new n → HasHubAt new arcs classes flips hubs n
+own_at old more new arcs classes flips hubs n behind h is access = record {
+  hub = λ k e. absurd (let some : None ≡ Some k = is ∙ sym (key_kept old more new behind classes flips n h) ∙ e in cc);
+  own = λ e. access;
+}
 
 pub hub_kept : (old new : Origins) (arcs next : List (List Arc)) (classes : List (Option ℕ)) (flips : List Bool) (hubs more : List ((ℕ × Label) × ℕ)) (n : ℕ) → n < length old → IsGrownBy old arcs new next →
     AreHubsKept hubs more → HasHubAt old arcs classes flips hubs n → HasHubAt new next classes flips more n
-hub_kept old new arcs next classes flips hubs more n h grown kept at key e =
-    let r : (hub : ℕ) × (lookup (letter_eq key) hubs ≡ Some hub) × HasArc arcs hub n None = at key (sym (key_kept old grown.more new grown.behind classes flips n h) ∙ e) in
-    (r.0, kept key r.0 r.1, grown.kept r.0 n None r.2)
+hub_kept old new arcs next classes flips hubs more n h grown kept at = record {
+  hub = λ key e. (
+      let r : (hub : ℕ) × (lookup (letter_eq key) hubs ≡ Some hub) × HasArc arcs hub n None = at.hub key (sym (key_kept old grown.more new grown.behind classes flips n h) ∙ e) in
+      (r.0, kept key r.0 r.1, grown.kept r.0 n None r.2)
+      );
+  own = λ e. access_kept old grown.more new grown.behind n (at.own (sym (key_kept old grown.more new grown.behind classes flips n h) ∙ e));
+}
 
 -- what holds of the flagged numbers below one, and of that one, holds of those below the next
 pub flagged_next : (P : ℕ → Type 0) (flips : List Bool) (node : ℕ) → ((n : ℕ) → n < node → slice_get flips n ≡ Some true → P n) → (slice_get flips node ≡ Some true → P node) →

@@ -3,6 +3,7 @@ pub mod Flagged
 pub mod Entered
 pub mod Framed
 pub mod Lowering
+pub mod Lowest
 pub mod Inner
 pub mod Pushing
 pub mod Swept

@@ -116,7 +116,8 @@ module _ (lines : List Line) (extra known : List Dtv) (is : known ≡ named_by l
     (classes : List (Option ℕ)) (flips : List Bool) (classed : AreNodesOf graph known classes) (flagged : AreFlipsOf graph classes flips)
     (first origins : Origins) (are : AreOriginsOf known first) (behind : (n p : ℕ) (l : Label) → IsMade first n p l → IsMade origins n p l)
     (arcs : List (List Arc)) (all : List Bool) (whole : (i : ℕ) → i < length lines → get_or all i false ≡ true) (closed : IsClosed origins arcs all)
-    (pointers : HavePointers origins arcs) (accesses : (n : ℕ) → slice_get flips n ≡ Some true → HasAccess origins n)
+    (pointers : HavePointers origins arcs)
+    (lowest : (n : ℕ) → slice_get flips n ≡ Some true → (h : ℕ) × HasAccess origins h × Reaches (Leads arcs all true) h n)
     (entered : AreLineArcs lines (length lines) known arcs) where
   abbrev Every : ℕ → ℕ → Type 0
   Every = Leads arcs all true
@@ -217,7 +218,8 @@ module _ (lines : List Line) (extra known : List Dtv) (is : known ≡ named_by l
     alone_meets : (x : Var) → M x → Flip L x → Meets x x
     alone_meets x m f =
         let v : (v : ℕ) × IsNumber known v (dv x) = number_of (dv x) m in
-        (v.0, v.0, v.1, v.1, (v.0, accesses v.0 (flip_at x v.0 v.1 f), there, there))
+        let h : (h : ℕ) × HasAccess origins h × Reaches Every h v.0 = lowest v.0 (flip_at x v.0 v.1 f) in
+        (v.0, v.0, v.1, v.1, (h.0, h.1, h.2, h.2))
 
     -- the key of the number of a variable with a letter more
     key_at : (x : Var) (l : Label) (v p c : ℕ) → IsNumber known p (dv x) → IsNumber known v (dv (dot x l)) → node_of graph (dv x) ≡ Some c →
@@ -254,8 +256,8 @@ module _ (lines : List Line) (extra known : List Dtv) (is : known ≡ named_by l
           let j : key_of origins classes flips w.0 ≡ Some (c.0, common_of (flips_at graph (Some c.0)) l) =
           key_at y m w.0 q.0 c.0 q.1 w.1 (d.1 ∙ ap Some (sym same)) ∙ ap (λ (k : Label). Some (c.0, k)) (sym (beside_one x l m c.0 c.1 need.beside)) in
           let flip : Flip L (dot y m) = flip_along L (beside_same x y l m need.same need.first.1 need.beside) need.flips in
-          let a = hubs.2 v.0 (flip_at (dot x l) v.0 v.1 need.flips) (c.0, common_of (flips_at graph (Some c.0)) l) k in
-          let b = hubs.2 w.0 (flip_at (dot y m) w.0 w.1 flip) (c.0, common_of (flips_at graph (Some c.0)) l) j in
+          let a = (hubs.2 v.0 (flip_at (dot x l) v.0 v.1 need.flips)).hub (c.0, common_of (flips_at graph (Some c.0)) l) k in
+          let b = (hubs.2 w.0 (flip_at (dot y m) w.0 w.1 flip)).hub (c.0, common_of (flips_at graph (Some c.0)) l) j in
           let g : Some a.0 ≡ Some b.0 = sym a.1 ∙ b.1 in
           let h : a.0 ≡ b.0 = cc in
           (v.0, w.0, v.1, w.1, (a.0, hubs.1 (c.0, common_of (flips_at graph (Some c.0)) l) a.0 a.1, onward (None, a.2, refl) there, onward (None, subst (λ n. HasArc arcs n w.0 None) (sym h) b.2, refl) there))
@@ -321,16 +323,20 @@ module _ (lines : List Line) (extra known : List Dtv) (is : known ≡ named_by l
           matters_at x p.0 p.1
           ((told.marked v.0 (small (dot x l) v.0 v.1)).letters p.0 l (made v.0 p.0 (dv x) l p.1 v.1) (marked_at (dot x l) v.0 v.1 w))
 
+      self_below : (v : ℕ) → v < length known → HaveBelow origins Every (get_or flips v false) v v
+      self_below v s = by (get_or flips v false) refl
+        where
+          by : (b : Bool) → get_or flips v false ≡ b → HaveBelow origins Every (get_or flips v false) v v
+          by true e =
+              let h : (h : ℕ) × HasAccess origins h × Reaches Every h v =
+              lowest v (slice_get-get_or flips v false (omega (arith, s, classed.each, flagged.each)) ∙ ap Some e) in
+              (h.0, λ f. h.1, h.2, h.2)
+          by false e = (v, λ f. absurd (let g : false ≡ true = sym e ∙ f in cc), there, there)
+
       self_meets : (x : Var) → M x → MayMeet x x
       self_meets x m =
           let v : (v : ℕ) × IsNumber known v (dv x) = number_of (dv x) m in
-          let s : v.0 < length known = slice_get_within known v.0 (dv x) v.1 in (
-            v.0,
-            v.0,
-            v.1,
-            v.1,
-            (v.0, λ e. accesses v.0 (slice_get-get_or flips v.0 false (omega (arith, s, classed.each, flagged.each)) ∙ ap Some e), there, there),
-          )
+          (v.0, v.0, v.1, v.1, self_below v.0 (slice_get_within known v.0 (dv x) v.1))
 
       self_joins : (x : Var) → M x → MayJoin x x
       self_joins x m = let v : (v : ℕ) × IsNumber known v (dv x) = number_of (dv x) m in (v.0, v.0, v.1, v.1, (v.0, there, there))

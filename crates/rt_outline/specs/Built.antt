@@ -10,22 +10,20 @@ use Rattle.rt_outline.specs.declared.arc.Arc.{Arc}
 use Rattle.rt_outline.specs.Arcs.{HasArc}
 use Rattle.rt_outline.specs.Enclosing.{IsOuter}
 use Rattle.rt_outline.specs.Frames.{Origins, AreOriginsOf, HavePointers, IsClosed}
-use Rattle.rt_outline.specs.Hubs.{HasAccess, HaveHubs}
+use Rattle.rt_outline.specs.Hubs.{HasLowest, HaveHubs}
 use Rattle.rt_outline.specs.Lines.{AreLineArcs}
 
 -- the variables are those that the lines and some more name
 abbrev pub AreNamed : List Line → List Dtv → Type 0
 AreNamed lines named = (extra : List Dtv) × (named ≡ named_by lines extra)
 
--- the nodes of the variables with more behind them; a load and a store of each that can be read and written through, and hubs; no
--- arc is of a line
+-- the nodes of the variables with more behind them, and hubs; no arc is of a line
 pub record HasHubs (named : List Dtv) (classes : List (Option ℕ)) (flips : List Bool) (origins : Origins)
     (arcs : List (List Arc)) : Type 0 where
   pub first : Origins
   pub more : Origins
   pub are : AreOriginsOf named first
   pub behind : origins ≡ first ++ more
-  pub accesses : (n : ℕ) → slice_get flips n ≡ Some true → HasAccess origins n
   pub hubs : HaveHubs origins arcs classes flips
   pub none : (v w i : ℕ) → HasArc arcs v w (Some i) → ⊥
 
@@ -45,14 +43,14 @@ pub record AreOuterArcs (lines : List Line) (named : List Dtv) (origins : Origin
   pub lines_all : AreLineArcs lines (length lines) named arcs
   pub outer : IsOuter lines named arcs
 
--- arcs of lines and pushed ones, with nodes of the variables first, a load and a store of each that can be read and written through, and
--- whatever hubs
+-- arcs of lines and pushed ones, with nodes of the variables first, a node with a load and a store below each that can be read and
+-- written through, and whatever hubs
 pub record IsLaid (lines : List Line) (named : List Dtv) (flips : List Bool) (origins : Origins) (arcs : List (List Arc)) : Type 0 where
   pub first : Origins
   pub more : Origins
   pub are : AreOriginsOf named first
   pub behind : origins ≡ first ++ more
-  pub accesses : (n : ℕ) → slice_get flips n ≡ Some true → HasAccess origins n
+  pub lowest : (n : ℕ) → slice_get flips n ≡ Some true → HasLowest origins arcs n
   pub lines_all : AreLineArcs lines (length lines) named arcs
   pub pointers : HavePointers origins arcs
 

@@ -11,7 +11,7 @@ use crate::arc::Arc;
 use crate::closing::{close_on, pass};
 use crate::entering::{enter_lines, enter_pointers};
 use crate::frame::Frame;
-use crate::hubs::enter_accesses;
+use crate::hubs::enter_lowest;
 use crate::meeting::{Hub, first_hubs, widen};
 use crate::sorting::Sorts;
 use crate::turning::are_turning;
@@ -173,10 +173,11 @@ fn framed_with(
     ensures laid { IfOk result (λ frame. IsLaid lines.now named.now sorts.now.flips.items frame.origins.items frame.arcs.items) }
 {
     let mut frame = Frame::of(alloc, named)?;
-    enter_accesses(alloc, &mut frame, &sorts.flips)?;
     enter_lines(named, lines, &mut frame)?;
     enter_pointers(&mut frame)?;
     enter_hubs(alloc, &mut frame, hubs)?;
+    enter_lowest(alloc, &mut frame, &sorts.flips)?;
+    enter_pointers(&mut frame)?;
     Ok(frame)
 }
 

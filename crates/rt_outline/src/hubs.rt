@@ -4,29 +4,73 @@ ghost use Rattle.std.specs.Map.{lookup};
 ghost use Rattle.rt_lines.specs.declared.label.Label.{Label as Letter};
 ghost use Rattle.rt_shape.specs.Graphs.{letter_eq};
 ghost use Rattle.rt_outline.specs.Frames.{IsFrame, IsMade, IsStepped};
-ghost use Rattle.rt_outline.specs.Hubs.{AreHubs, AreHubsKept, HasAccess, HasHubAt, HaveHubs, IsGrownBy, common_of, key_of};
+ghost use Rattle.rt_outline.specs.Hubs.{AreHubs, AreHubsKept, HasAccess, HasHubAt, HasLower, HasLowest, HaveHubs, IsGrownBy, IsLower};
+ghost use Rattle.rt_outline.specs.Hubs.{common_of, key_of};
 
 use crate::arc::Arc;
 use crate::frame::Frame;
+use crate::spreading::{is_standing, leaving};
+use crate::turning::has_access;
 use indexmap::IndexMap;
 use rt_base::Memory;
 use rt_lines::Label;
 use std::alloc::Global;
 
-// Adds load and store of each variable that can be read and written through.
-pub(crate) fn enter_accesses(alloc: Global, frame: &mut Frame, flips: &[bool]) -> Result<(), Memory>
+// Adds load and store of each variable that can be read and written through, unless an arc leads to it from one before it that
+// can be, or from a node that has both.
+pub(crate) fn enter_lowest(alloc: Global, frame: &mut Frame, flips: &[bool]) -> Result<(), Memory>
     requires frame { IsFrame frame.old.origins.items frame.old.steps frame.old.arcs.items frame.old.back.items }
     requires flips { length flips.now ≤ length frame.old.origins.items }
     ensures frame { OnOk result (IsFrame frame.new.origins.items frame.new.steps frame.new.arcs.items frame.new.back.items) }
     ensures more { OnOk result (IsStepped frame.old.origins.items frame.old.arcs.items frame.new.origins.items frame.new.arcs.items) }
-    ensures all { OnOk result ((n : ℕ) → slice_get flips.now n ≡ Some true → HasAccess frame.new.origins.items n) }
+    ensures all { OnOk result ((n : ℕ) → slice_get flips.now n ≡ Some true → HasLowest frame.new.origins.items frame.new.arcs.items n) }
 {
     for node in 0..flips.len() {
         if flips[node] {
-            enter_access(alloc, frame, node as u32)?;
+            enter_lower(alloc, frame, flips, node as u32)?;
         }
     }
     Ok(())
+}
+
+// Adds load and store of a node, unless an arc leads to it from such a one.
+fn enter_lower(alloc: Global, frame: &mut Frame, flips: &[bool], node: u32) -> Result<(), Memory>
+    requires frame { IsFrame frame.old.origins.items frame.old.steps frame.old.arcs.items frame.old.back.items }
+    requires node { node < length frame.old.origins.items }
+    requires before { (n : ℕ) → n < node → slice_get flips.now n ≡ Some true → HasLowest frame.old.origins.items frame.old.arcs.items n }
+    ensures frame { OnOk result (IsFrame frame.new.origins.items frame.new.steps frame.new.arcs.items frame.new.back.items) }
+    ensures more { OnOk result (IsStepped frame.old.origins.items frame.old.arcs.items frame.new.origins.items frame.new.arcs.items) }
+    ensures lowest { OnOk result (HasLowest frame.new.origins.items frame.new.arcs.items node) }
+{
+    if has_lower(frame, flips, node) {
+        return Ok(());
+    }
+    enter_access(alloc, frame, node)?;
+    Ok(())
+}
+
+// Whether an arc leads to a node from one before it that can be read and written through, or from one that has a load and a store.
+fn has_lower(frame: &Frame, flips: &[bool], node: u32) -> bool
+    requires frame { IsFrame frame.now.origins.items frame.now.steps frame.now.arcs.items frame.now.back.items }
+    ensures { result ≡ true → HasLower frame.now.origins.items frame.now.arcs.items flips.now node }
+{
+    for arc in leaving(&frame.back, node) {
+        if is_lower(frame, flips, node, arc.to) {
+            return true;
+        }
+    }
+    false
+}
+
+// Whether a node is before another one and can be read and written through, or has a load and a store.
+fn is_lower(frame: &Frame, flips: &[bool], node: u32, other: u32) -> bool
+    requires frame { IsFrame frame.now.origins.items frame.now.steps frame.now.arcs.items frame.now.back.items }
+    ensures { result ≡ true → IsLower frame.now.origins.items flips.now node other }
+{
+    if has_access(frame, other) {
+        return true;
+    }
+    other < node && is_standing(flips, other as usize)
 }
 
 // Adds load and store of a node.
@@ -43,7 +87,8 @@ fn enter_access(alloc: Global, frame: &mut Frame, node: u32) -> Result<(), Memor
 }
 
 // Adds a hub for each class and letter, or pointer letters of what can be read and written through, behind which there are
-// variables that can be read and written through, with an arc to each of these.
+// variables that can be read and written through, with an arc to each of these; and load and store of each other variable that can
+// be read and written through.
 pub(crate) fn enter_hubs(
     alloc: Global,
     frame: &mut Frame,
@@ -67,7 +112,7 @@ pub(crate) fn enter_hubs(
     Ok(())
 }
 
-// Adds an arc from the hub of a node to it.
+// Adds an arc from the hub of a node to it, or its load and store where it has no hub.
 fn enter_below(
     alloc: Global,
     frame: &mut Frame,
@@ -100,7 +145,10 @@ fn enter_below(
             )?;
             Ok(())
         }
-        None => Ok(()),
+        None => {
+            enter_access(alloc, frame, node)?;
+            Ok(())
+        }
     }
 }
 

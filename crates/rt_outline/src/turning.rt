@@ -333,7 +333,7 @@ fn accessed(alloc: Global, frame: &Frame, nodes: &Found, access: bool) -> Result
 }
 
 // Whether a node has a load and a store.
-fn has_access(frame: &Frame, node: u32) -> bool
+pub(crate) fn has_access(frame: &Frame, node: u32) -> bool
     requires frame { IsFrame frame.now.origins.items frame.now.steps frame.now.arcs.items frame.now.back.items }
     ensures { IsTrue result ↔ HasAccess frame.now.origins.items node }
 {

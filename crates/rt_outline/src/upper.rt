@@ -19,7 +19,7 @@ use crate::crossing::crossed;
 use crate::entering::{enter_lines, enter_pointers, numbers};
 use crate::frame::Frame;
 use crate::grouping::Classes;
-use crate::hubs::{enter_accesses, enter_hubs};
+use crate::hubs::enter_hubs;
 use crate::led::Led;
 use crate::lower::copied;
 use crate::resting::{Ground, tell};
@@ -311,7 +311,6 @@ fn with_hubs(
     ensures hubs { IfOk result (λ frame. HasHubs named.now classes.now flips.now frame.origins.items frame.arcs.items) }
 {
     let mut frame = Frame::of(alloc, named)?;
-    enter_accesses(alloc, &mut frame, flips)?;
     enter_hubs(alloc, &mut frame, classes, flips)?;
     Ok(frame)
 }

@@ -144,6 +144,19 @@ impl Family {
         Ok(shorter)
     }
 
+    // Forgets steps of a class without which its ways are as short. The error is out of memory.
+    pub(crate) fn prune(&mut self, alloc: Global, class: usize) -> Result<(), Memory>
+        requires family { (count : ℕ) × IsFamily count self.old }
+        requires class { class < length self.old.members.items }
+        ensures same { OnOk result (AreSameMembers self.old self.new) }
+        ensures family { OnOk result ((count : ℕ) → IsFamily count self.old → IsFamily count self.new) }
+        ensures told { OnOk result ((known : List Variable) (flips : List Bool) (lines : List Arrow) →
+            IsToldFamily known flips lines self.old → IsToldFamily known flips lines self.new) }
+    {
+        self.grids[class].prune(alloc)?;
+        Ok(())
+    }
+
     // Takes in what the steps of a class lead to, and forgets those without which its ways are as short. The error is out of
     // memory.
     pub(crate) fn close(&mut self, alloc: Global, class: usize) -> Result<(), Memory>

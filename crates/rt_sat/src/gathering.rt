@@ -28,8 +28,11 @@ use std::alloc::Global;
 // How often all classes are gone over at most.
 const PASSES: usize = 1000;
 
-// In how many passes steps are put in before spare ones are forgotten.
-const BETWEEN: usize = 4;
+// In how many passes steps are put in before spare ones are forgotten, where many are put in.
+const BETWEEN: usize = 2;
+
+// In how many they are where few are put in.
+const SELDOM: usize = 4;
 
 // A variable with a letter more than a member of a class, or than what has the letter of a pointer more than a member.
 #[derive(Clone, Copy)]
@@ -133,12 +136,12 @@ pub(crate) fn spread(
 {
     let due = vec![in alloc; true; family.members.len()]?;
     let since = vec![in alloc; 0u64; family.members.len()]?;
-    spread_from(alloc, kin, family, due, since, asked)
+    spread_from(alloc, kin, family, due, since, asked, true)
 }
 
 // Pushes within a family from the classes that are due, until nothing is added, or until a way of count nought is found that may
 // be asked for. Of a class those rows alone are pushed that changed since it was pushed from last, of which there are the clocks:
-// no promise rests on these.
+// no promise rests on these, nor on how often spare steps are forgotten.
 pub(crate) fn spread_from(
     alloc: Global,
     kin: &Kin,
@@ -146,6 +149,7 @@ pub(crate) fn spread_from(
     due: Vec<bool>,
     since: Vec<u64>,
     asked: Option<Asked>,
+    often: bool,
 ) -> Result<(), Memory>
     requires family { (count : ℕ) × IsFamily count family.old }
     requires ready { (known : List Variable) × (flips : List Bool) × AreReady known flips family.old kin.now.links kin.now.ready.items }
@@ -160,13 +164,7 @@ pub(crate) fn spread_from(
     let mut since = since;
     for pass in 0..PASSES {
         let mut next = vec![in alloc; false; due.len()]?;
-        sweep_due(
-            alloc,
-            family,
-            &due,
-            pass % BETWEEN == BETWEEN - 1,
-            &mut next,
-        )?;
+        sweep_due(alloc, family, &due, forgets(pass, often), &mut next)?;
         if is_answered(family, asked) {
             return Ok(());
         }
@@ -179,6 +177,15 @@ pub(crate) fn spread_from(
         since = clocks;
     }
     Ok(())
+}
+
+// Whether spare steps are forgotten in a pass.
+fn forgets(pass: usize, often: bool) -> bool {
+    if often {
+        pass % BETWEEN == BETWEEN - 1
+    } else {
+        pass % SELDOM == SELDOM - 1
+    }
 }
 
 // Whether a way that is asked for is found.
@@ -250,8 +257,8 @@ fn sweep_at(
     Ok(())
 }
 
-// Takes in what the steps of a class lead to, and may forget those without which its ways are as short. Whether a way became
-// shorter, or may have become so.
+// Takes in what the steps of a class lead to, and may forget those before without which its ways are as short. Whether a way
+// became shorter.
 fn sweep_class(
     alloc: Global,
     family: &mut Family,
@@ -266,10 +273,10 @@ fn sweep_class(
         IsToldFamily known flips lines family.old → IsToldFamily known flips lines family.new) }
 {
     if prunes {
-        family.close(alloc, class)?;
-        return Ok(true);
+        family.prune(alloc, class)?;
     }
-    family.sweep(alloc, class)
+    let shorter = family.sweep(alloc, class)?;
+    Ok(shorter)
 }
 
 // Pushes once from each class that is due, as far as its rows changed since its clock, and flags those to which something was

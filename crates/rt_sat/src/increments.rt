@@ -261,7 +261,7 @@ fn enter(
     let since = clocks(alloc, family)?;
     enter_lines(alloc, family, edges)?;
     let due = due(alloc, family, edges)?;
-    spread_from(alloc, kin, family, due, since, asked)
+    spread_from(alloc, kin, family, due, since, asked, false)
 }
 
 // A flag for each class, set for those of the edges' starts.

@@ -12,7 +12,7 @@ pruned-requires-clause-steps c =
     let long : length c.self.inside.steps.items ≡ length c.self.inside.rows.items = c.self.invariant.as_long in
     let less : c.args.place < length c.self.inside.steps.items = omega (arith, c.requires) in
     let same : c.items.result.now ≡ steps_of c.self.inside.steps.items c.args.place = c.items.ensures ∙ get_or_read steps c.args.place c.index.result.now less c.index.ensures [] in
-    λ s h. subst (λ n. s.to < n) (sym (ap length c.deref.ensures.value)) (c.self.invariant.inside c.args.place s (subst (λ xs. Contains xs s) same h))
+    λ s h. subst (λ n. s.to < n) (sym (ap length c.deref-2.ensures.value)) (c.self.invariant.inside c.args.place s (subst (λ xs. Contains xs s) same h))
 
 pub invariant_of-self : goal.invariant_of-self
 invariant_of-self c =
