@@ -3,22 +3,20 @@ ghost use Rattle.std.specs.Prelude.{◌≡◌, IfOk, ◌++◌, OnOk};
 ghost use Rattle.rt_body.specs.Actions.{defined_by, op_of, written};
 
 use rt_base::{Memory, Sequence};
+use rt_insn::registers::{CALL_CLOBBERED, ZERO};
 use rt_proc::Callee;
 use rt_track::Op;
 use std::alloc::Global;
 
-// The registers that a call leaves undefined: ra, t0 to t2, a0 to a7, t3 to t6 (RISC-V psABI, "Integer Calling Convention").
-const CALL_CLOBBERED: [u8; 16] = [1, 5, 6, 7, 10, 11, 12, 13, 14, 15, 16, 17, 28, 29, 30, 31];
-
 /// Where a load or a store goes: the address of a symbol plus an addend, or what a register holds plus an immediate.
-#[derive(Clone, Copy, Debug, PartialEq, Eq)]
+#[derive(Clone, Copy)]
 pub enum Address {
     Symbol(u32, i32),
     Register(u8, i32),
 }
 
 /// What a load reads: LW, LH, LHU, LB or LBU.
-#[derive(Clone, Copy, Debug, PartialEq, Eq)]
+#[derive(Clone, Copy)]
 pub enum Loaded {
     Word,
     SignedHalf,
@@ -28,7 +26,7 @@ pub enum Loaded {
 }
 
 /// What a store writes: SW, SH or SB.
-#[derive(Clone, Copy, Debug, PartialEq, Eq)]
+#[derive(Clone, Copy)]
 pub enum Width {
     Word,
     Half,
@@ -45,7 +43,7 @@ pub enum Width {
 /// - SignedByUnsigned: MULHSU.
 /// - LessSigned: SLT, SLTI.
 /// - LessUnsigned: SLTU, SLTIU.
-#[derive(Clone, Copy, Debug, PartialEq, Eq)]
+#[derive(Clone, Copy, PartialEq, Eq)]
 pub enum Operation {
     Scale,
     ShiftRight,
@@ -71,7 +69,7 @@ pub enum Operation {
 /// - Pass: any other instruction.
 /// - Call: a call, with the register that takes the return address.
 /// - Return, Stop: a return, and an end.
-#[derive(Clone, Copy, Debug, PartialEq, Eq)]
+#[derive(Clone, Copy)]
 pub enum Action {
     Constant {
         to: u8,
@@ -128,7 +126,7 @@ pub enum Action {
 fn add_written(registers: &mut Sequence<u8>, register: u8) -> Result<(), Memory>
     ensures { OnOk result (registers.new ≡ registers.old ++ written register) }
 {
-    if register != 0 {
+    if register != ZERO {
         registers.push(register)?;
     }
     Ok(())

@@ -10,12 +10,10 @@ use crate::action::{Action, Address, Loaded, Operation, Width};
 use crate::symbols::Symbols;
 use rt_base::{Memory, Sequence};
 use rt_insn::Insn;
+use rt_insn::registers::A0;
 use rt_link::{Link, Links};
 use rt_proc::{Kind, Site};
 use std::alloc::Global;
-
-// The register of the first argument and of the first result (RISC-V psABI, "Integer Register Convention").
-const A0: u8 = 10;
 
 // LUI gives a constant, unless a relocation gives it the high bits of an address.
 fn upper_action(link: Option<Link>, to: u8, immediate: i32) -> Action

@@ -9,17 +9,11 @@ ghost use Rattle.rt_body.specs.Symbols.{is_code_symbol};
 ghost use Rattle.rt_body.specs.Lowest.{lowest_in, AreSymbolsOf};
 
 use rt_base::Memory;
+use rt_elf::section_index::{ABSOLUTE, COMMON, UNDEFINED};
 use rt_elf::{Object, Symbol};
 use rt_proc::Place;
 use std::alloc::Global;
 use std::collections::BTreeMap;
-
-// SHN_UNDEF, SHN_ABS and SHN_COMMON (ELF gABI, "Special Section Indexes").
-const UNDEFINED: u16 = 0;
-
-const ABSOLUTE: u16 = 0xFFF1;
-
-const COMMON: u16 = 0xFFF2;
 
 /// For each symbol of an object the lowest one with its section and its value.
 #[derive(Drop)]

@@ -1,10 +1,6 @@
 -- A bound is derivable exactly if a line's bound reaches it.
-use Rattle.std.proofs.Common.{◌≡◌, ℕ, ◌+◌, ◌*◌, ◌<◌, ◌≤◌, inl, inr, List, Bool, false, All, Contains, length, refl, arith}
-use Rattle.std.specs.Prelude.{IsTrue, slice_index_or}
-use Rattle.std.proofs.lemmas.List.{get_or_past}
+use Rattle.std.proofs.Common.{◌≡◌, ℕ, ◌<◌, inl, inr, List, All, Contains, refl, arith}
 use Rattle.std.proofs.lemmas.List.Elements.{All-contains}
-use Rattle.std.proofs.lemmas.Nat.{mul-le}
-use Rattle.rt_bridge.proofs.Eliminating.{le_or}
 use Rattle.rt_lines.specs.declared.line.Line.{Line}
 use Rattle.rt_lines.specs.declared.line.Line.TheVariants.{Low, Up}
 use Rattle.rt_lines.specs.declared.variable.Dtv.{Dtv}
@@ -15,20 +11,11 @@ use Rattle.rt_rules.specs.Rules.{Derivable}
 use Rattle.rt_rules.specs.Rules.Derivable.{named, sub_self, sub_chain, low_line, up_line, low_sub, up_sub}
 use Rattle.rt_bridge.specs.Bounds.{HasLow, HasUp}
 
-past : (cells : List Bool) (i : ℕ) → length cells ≤ i → IsTrue (slice_index_or cells i false) → ⊥
-past cells i h t = let e : slice_index_or cells i false ≡ false = get_or_past cells i false h in cc
-
-row_past : (count a b : ℕ) → count ≤ a → count * count ≤ a * count + b
-row_past count a b h = omega (arith, mul-le count count a count h (omega arith))
-
 module _ (order : Below) (lines : List Line) (is : IsOrder order) (few : All (HasConstantsBelow order.count) lines) where
   -- what is at or below a number below the count is below it too
   back : (a b : ℕ) → IsAtOrBelow order a b → b < order.count → a < order.count
   back a b (inl e) h = omega (arith, e, h)
-  back a b (inr t) h = elim (le_or order.count a) [
-    | inl past_it ↦ absurd (past order.cells (a * order.count + b) (omega (arith, row_past order.count a b past_it, is.full)) t)
-    | inr less ↦ less
-  ]
+  back a b (inr (g, _, t)) h = g
 
   below_low : (k : ℕ) (x : Dtv) → Contains lines (Low k x) → k < order.count
   below_low k x c = All-contains (HasConstantsBelow order.count) lines (Low k x) few c

@@ -24,9 +24,10 @@ use Rattle.rt_cdecl.specs.Rows.{Row, Typedef, Named, Opened, Gap, Member, Closed
 use Rattle.rt_cdecl.specs.Texts.{struct_rows, function_rows, decls_rows, decls_text}
 use Rattle.rt_cdecl.specs.GoodDecls.{IsGoodDecls, IsStruct, IsFunction, used_types, struct_numbers, function_numbers}
 use Rattle.rt_cdecl.specs.Inside.GoodRows.{IsRow}
-use Rattle.rt_cdecl.specs.HeaderReadings.{with_ends, IsFront, IsNoHeader, IsBadLine}
+use Rattle.rt_cdecl.specs.HeaderReadings.{with_ends, IsFront, IsNoHeader, IsBadLine, IsFault}
 use Rattle.rt_cdecl.specs.Inside.Endings.{CanEnd, IsReached}
 use Rattle.rt_cdecl.specs.Inside.Drafts.{Stage, Idle, Parts, no_parts, with_row, Fits, IsWhole, decls_of, Accepts}
+use Rattle.rt_cdecl.specs.Inside.Steps.{IsReachedAt, IsAllowed}
 use Rattle.rt_cdecl.proofs.Clear.{row_clear}
 use Rattle.rt_cdecl.proofs.OneRow.{one_row}
 use Rattle.rt_cdecl.proofs.OneDecls.{decls_rows-good}
@@ -131,7 +132,7 @@ rows_text-push rows row rest =
     ap (λ s. s ++ rest) (flat_map-append (λ (r : Row). row_text r ++ 10 ∷ []) rows (row ∷ []) ∙ ap (λ s. rows_text rows ++ s) (append-nil (row_text row ++ 10 ∷ [])))
     ∙ (append_assoc (rows_text rows) (row_text row ++ 10 ∷ []) rest ∙ ap (λ s. rows_text rows ++ s) (append_assoc (row_text row) (10 ∷ []) rest))
 
-pub read_more : (text : List ℕ) (parts : Parts) (rest : List ℕ) (place : ℕ) (row : Row) (line more : List ℕ) → IsRead text parts rest place → IsCut 10 rest line (10 ∷ more) → IsRow row → row_text row ≡ line → Fits parts row → CanEnd (with_row parts row) → IsRead text (with_row parts row) more (place + length line + 1)
+read_more : (text : List ℕ) (parts : Parts) (rest : List ℕ) (place : ℕ) (row : Row) (line more : List ℕ) → IsRead text parts rest place → IsCut 10 rest line (10 ∷ more) → IsRow row → row_text row ≡ line → Fits parts row → CanEnd (with_row parts row) → IsRead text (with_row parts row) more (place + length line + 1)
 read_more text parts rest place row line more read cut good is fits can =
     let here : row_text row ++ 10 ∷ more ≡ rest = ap (λ s. s ++ 10 ∷ more) is ∙ sym cut.joined in
     let joined : rows_text (read.rows ++ row ∷ []) ++ more ≡ text = rows_text-push read.rows row more ∙ (ap (λ s. rows_text read.rows ++ s) here ∙ read.joined) in
@@ -147,13 +148,23 @@ read_more text parts rest place row line more read cut good is fits can =
       placed = omega (arith, all, old, this, read.placed);
     }
 
--- the parts that lines make, with a line more
-pub reached_now : (text : List ℕ) (parts : Parts) (rest : List ℕ) (place : ℕ) → IsRead text parts rest place → IsReached parts
-reached_now text parts rest place read = record { rows = read.rows; good = read.fine; accepted = read.accepted }
+-- with a line with which a header's text goes on
+pub read_on : (text : List ℕ) (parts : Parts) (rest : List ℕ) (place : ℕ) (line more : List ℕ) (now : Parts) (next : ℕ) → IsRead text parts rest place → IsCut 10 rest line (10 ∷ more) → (allowed : IsAllowed parts line) → now ≡ with_row parts allowed.row → next ≡ place + length line + 1 → IsRead text now more next
+read_on text parts rest place line more now next read cut allowed made after =
+    subst (λ p. IsRead text p more next) (sym made)
+    (subst (IsRead text (with_row parts allowed.row) more) (sym after)
+    (read_more text parts rest place allowed.row line more read cut allowed.good allowed.is allowed.fits allowed.can))
 
-pub reached_more : (text : List ℕ) (parts : Parts) (rest : List ℕ) (place : ℕ) (row : Row) → IsRead text parts rest place → IsRow row → Fits parts row → IsReached (with_row parts row)
-reached_more text parts rest place row read good fits =
-    record { rows = read.rows ++ row ∷ []; good = All-push IsRow read.rows row read.fine good; accepted = Accepts-push no_parts read.rows parts row read.accepted fits }
+-- the parts that lines make, with a line more
+pub reached_at : (text : List ℕ) (parts : Parts) (rest : List ℕ) (place : ℕ) → IsRead text parts rest place → IsReachedAt parts place
+reached_at text parts rest place read = record { rows = read.rows; good = read.fine; accepted = read.accepted; placed = read.placed }
+
+pub reached_by : (parts : Parts) (place : ℕ) → IsReachedAt parts place → IsReached parts
+reached_by parts place reached = record { rows = reached.rows; good = reached.good; accepted = reached.accepted }
+
+pub reached_more : (parts : Parts) (place : ℕ) (row : Row) → IsReachedAt parts place → IsRow row → Fits parts row → IsReached (with_row parts row)
+reached_more parts place row reached good fits =
+    record { rows = reached.rows ++ row ∷ []; good = All-push IsRow reached.rows row reached.good good; accepted = Accepts-push no_parts reached.rows parts row reached.accepted fits }
 
 -- the line of a type is longer than 3 bytes, so there are less than 2^30 types where the place is a u32
 typedef_long : (t : CType) → IsTypedef t → 4 ≤ length (typedef_text t ++ 10 ∷ [])
@@ -180,21 +191,13 @@ all_few parts (row ∷ rows) last good all =
     let whole : length (rows_text (row ∷ rows)) ≡ length (row_text row ++ 10 ∷ []) + length (rows_text rows) = length-append (row_text row ++ 10 ∷ []) (rows_text rows) in
     omega (arith, here, rest, whole)
 
-pub few_more : (text : List ℕ) (parts : Parts) (rest : List ℕ) (place : ℕ) (row : Row) (line : List ℕ) (next : ℕ) → IsRead text parts rest place → IsRow row → row_text row ≡ line → next ≡ place + length line + 1 → next < 2 ^ 32 → length (with_row parts row).typedefs ≤ 2 ^ 30
-few_more text parts rest place row line next read good is at small =
+pub few_more : (parts : Parts) (place : ℕ) (row : Row) (line : List ℕ) (next : ℕ) → IsReachedAt parts place → IsRow row → row_text row ≡ line → next ≡ place + length line + 1 → next < 2 ^ 32 → length (with_row parts row).typedefs ≤ 2 ^ 30
+few_more parts place row line next reached good is at small =
     let here = types_few parts row good in
-    let before = all_few no_parts read.rows parts read.fine read.accepted in
-    let placed : length (rows_text read.rows) ≡ place = read.placed in
+    let before = all_few no_parts reached.rows parts reached.good reached.accepted in
+    let placed : length (rows_text reached.rows) ≡ place = reached.placed in
     let long : length (row_text row ++ 10 ∷ []) ≡ length line + 1 = length_push (row_text row) 10 ∙ ap (λ l. length l + 1) is in
     omega (arith, here, before, placed, long, at, small)
-
--- a line with which a header's text goes on is that of a line that may follow
-record IsAllowed (parts : Parts) (line : List ℕ) : Type 0 where
-  row : Row
-  good : IsRow row
-  is : row_text row ≡ line
-  fits : Fits parts row
-  can : CanEnd (with_row parts row)
 
 -- the parts that declarations end with are whole
 ended_whole : (decls : Decls) → IsGoodDecls decls → IsWhole (ended decls)
@@ -314,17 +317,23 @@ bad_line text parts rest place line more read cut bad =
       bad = inr (line, more, cut, λ front. bad (front_allowed text parts rest place line read cut.clear front));
     }
 
-pub unread_line : (text : List ℕ) (parts : Parts) (rest : List ℕ) (place : ℕ) (line more : List ℕ) → IsRead text parts rest place → IsCut 10 rest line (10 ∷ more) → IsNoText IsRow row_text line → IsBadLine text place
-unread_line text parts rest place line more read cut none =
-    bad_line text parts rest place line more read cut (λ (a : IsAllowed parts line). none a.row a.good a.is)
+pub fault_of : (text : List ℕ) (parts : Parts) (rest : List ℕ) (place : ℕ) (line more : List ℕ) (fault : TextFault) → IsRead text parts rest place → IsCut 10 rest line (10 ∷ more) → (fault ≡ Memory) ⊎ ((fault ≡ BadText place) × (IsAllowed parts line → ⊥)) → IsFault text fault
+fault_of text parts rest place line more fault read cut why = elim why [
+  | inl memory ↦ subst (IsFault text) (sym memory) tt
+  | inr told ↦ subst (IsFault text) (sym told.0) (bad_line text parts rest place line more read cut told.1)
+]
 
-pub refused_line : (text : List ℕ) (parts : Parts) (rest : List ℕ) (place : ℕ) (line more : List ℕ) (row : Row) → IsRead text parts rest place → IsCut 10 rest line (10 ∷ more) → IsRow row → row_text row ≡ line → (Fits parts row → ⊥) → IsBadLine text place
-refused_line text parts rest place line more row read cut good is refused =
-    bad_line text parts rest place line more read cut (λ (a : IsAllowed parts line). refused (subst (Fits parts) (one_row a.row row a.good good (a.is ∙ sym is)) a.fits))
+-- a line with which no header's text goes on
+pub unread_line : (parts : Parts) (line : List ℕ) → IsNoText IsRow row_text line → IsAllowed parts line → ⊥
+unread_line parts line none allowed = none allowed.row allowed.good allowed.is
 
-pub unended_line : (text : List ℕ) (parts : Parts) (rest : List ℕ) (place : ℕ) (line more : List ℕ) (row : Row) → IsRead text parts rest place → IsCut 10 rest line (10 ∷ more) → IsRow row → row_text row ≡ line → (CanEnd (with_row parts row) → ⊥) → IsBadLine text place
-unended_line text parts rest place line more row read cut good is never =
-    bad_line text parts rest place line more read cut (λ (a : IsAllowed parts line). never (subst (λ r. CanEnd (with_row parts r)) (one_row a.row row a.good good (a.is ∙ sym is)) a.can))
+pub refused_line : (parts : Parts) (line : List ℕ) (row : Row) → IsRow row → row_text row ≡ line → (Fits parts row → ⊥) → IsAllowed parts line → ⊥
+refused_line parts line row good is refused allowed =
+    refused (subst (Fits parts) (one_row allowed.row row allowed.good good (allowed.is ∙ sym is)) allowed.fits)
+
+pub unended_line : (parts : Parts) (line : List ℕ) (row : Row) (now : Parts) → IsRow row → row_text row ≡ line → now ≡ with_row parts row → (CanEnd now → ⊥) → IsAllowed parts line → ⊥
+unended_line parts line row now good is made never allowed =
+    never (subst CanEnd (sym made) (subst (λ r. CanEnd (with_row parts r)) (one_row allowed.row row allowed.good good (allowed.is ∙ sym is)) allowed.can))
 
 -- a text whose end is bad
 ends_whole : (text : List ℕ) (parts : Parts) (rest : List ℕ) (place : ℕ) (decls : Decls) → IsRead text parts rest place → HasNo 10 rest → IsGoodDecls decls → decls_text decls ≡ text → (rest ≡ []) × IsWhole parts
@@ -353,7 +362,7 @@ pub unfinished_text : (text : List ℕ) (parts : Parts) (rest : List ℕ) (place
 unfinished_text text parts rest place read clear part = bad_end text parts rest place read clear (λ (w : (rest ≡ []) × IsWhole parts). part w.1)
 
 -- a text with a bad line is no header's
-pub no_header : (text : List ℕ) (place : ℕ) → IsBadLine text place → IsNoHeader text
+no_header : (text : List ℕ) (place : ℕ) → IsBadLine text place → IsNoHeader text
 no_header text place bad = by bad.bad
   where
     by : (HasNo 10 bad.rest × IsNoHeader text) ⊎ ((line more : List ℕ) × IsCut 10 bad.rest line (10 ∷ more) × (IsFront (with_ends (bad.before ++ line ∷ [])) → ⊥)) → IsNoHeader text
@@ -364,6 +373,10 @@ no_header text place bad = by bad.bad
       rest = more;
       joined = with_ends-push bad.before line more ∙ (ap (λ s. with_ends bad.before ++ s) (sym cut.joined) ∙ (bad.joined ∙ sym is));
     })
+
+pub refused_by : (text : List ℕ) (fault : TextFault) → IsFault text fault → (fault ≡ Memory) ⊎ IsNoHeader text
+refused_by text (BadText place) bad = inr (no_header text place bad)
+refused_by text Memory bad = inl refl
 
 -- a fault of a line that isn't out of memory tells why
 pub told_bad : {X : Type 0} (fault : TextFault) (n : ℕ) → fault ≡ BadText n → (fault ≡ Memory) ⊎ ((fault ≡ BadText 0) × X) → X

@@ -1,5 +1,5 @@
 -- The types that are left: names and types that are taken out, and what each line leaves.
-use Rattle.std.proofs.Common.{◌≡◌, ℕ, suc, ◌+◌, ◌-◌, ◌<◌, ◌≤◌, ◌^◌, ◌⊎◌, inl, inr, ◌↔◌, IsTrue, nat_lt, Bool, true, false, cond, List, [], ◌∷◌, ◌++◌, All, Contains, get_or, take, take_all, map, length, refl, ap, sym, subst, ◌∙◌, arith, append-nil}
+use Rattle.std.proofs.Common.{◌≡◌, ℕ, suc, ◌+◌, ◌<◌, ◌≤◌, ◌^◌, ◌⊎◌, inl, inr, ◌↔◌, IsTrue, nat_lt, Bool, true, false, cond, List, [], ◌∷◌, ◌++◌, All, Contains, get_or, take, take_all, map, length, refl, ap, sym, subst, ◌∙◌, arith, append-nil}
 use Rattle.std.specs.List.{flat_map, AllByRecursion}
 use Rattle.std.specs.List.Sorted.{IsStrictlySortedBy}
 use Rattle.std.specs.Set.{remove_key}
@@ -18,15 +18,18 @@ use Rattle.rt_lines.specs.declared.label.Loc.{Loc}
 use Rattle.rt_cdecl.specs.declared.declarations.CType.{CType}
 use Rattle.rt_cdecl.specs.declared.declarations.CType.TheVariants.{Unused, Scalar, Pointer}
 use Rattle.rt_cdecl.specs.Types.{IsTypedef}
-use Rattle.rt_cdecl.specs.Rows.{Row, Typedef, Returns, Nothing, Value, Both}
+use Rattle.rt_cdecl.specs.Rows.{Row, Typedef, Named, Opened, Gap, Member, Closed, Pair, Half, Stated, Returns, Nothing, Value, Both}
 use Rattle.rt_cdecl.specs.GoodDecls.{named_types, used_types, arg_types}
 use Rattle.rt_cdecl.specs.Inside.Drafts.{Idle, Parts, no_parts, with_row, Fits, Adds, kinds_of, line_types, stage_types}
 use Rattle.rt_cdecl.specs.declared.kinds.Counts.{Counts}
+use Rattle.rt_cdecl.specs.Inside.GoodRows.{IsRow}
+use Rattle.rt_cdecl.specs.Inside.Steps.{HasMore, IsSound, parts_of}
+use Rattle.rt_cdecl.specs.declared.draft.Draft.{Draft}
 use Rattle.rt_cdecl.specs.Inside.Endings.{AreApart, AreCounted, AreLeft, CanEnd, Drops, HasRoom, IsDropped, IsFew, IsReached, IsZero, HasInt, all_used, row_types}
 use Rattle.rt_cdecl.proofs.Sound.{none_left}
 use Rattle.rt_cdecl.proofs.Kept.{IsGood, good_start, good_all}
 use Rattle.rt_cdecl.proofs.KindSets.{PartOf, part_of}
-use Rattle.rt_cdecl.proofs.Phases.{GivesGood, IsPhased, phase_all, used_row}
+use Rattle.rt_cdecl.proofs.Phases.{IsPhased, phase_all, used_row, good_gives}
 use Rattle.rt_cdecl.proofs.Needing.{needs_room}
 use Rattle.rt_cdecl.proofs.Endings.{few_counts, room_ends}
 
@@ -204,7 +207,7 @@ one_drops old new t gone = λ x. (
   λ h. elim ((gone x).1 h) [ inl a ↦ inl a | inr e ↦ inr (subst (Contains (t ∷ [])) (sym e) (Contains-here t [])) ],
 )
 
-pub no_drops : (old : List CType) → Drops old [] old
+no_drops : (old : List CType) → Drops old [] old
 no_drops old = λ x. (λ h. (h, λ c. absurd (Contains-none x c)), λ h. inl h)
 
 more_drops : (old first mid second new : List CType) → Drops old first mid → Drops mid second new → Drops old (first ++ second) new
@@ -251,7 +254,7 @@ no_value_drops used new (Value t) args off first = absurd (off t refl)
 no_value_drops used new Both args off first = subst (λ ts. Drops used ts new) (sym (append-nil (flat_map named_types (arg_types args)))) first
 
 -- what is left after types are used
-pub left_more : (left new gone : List CType) (old now : Parts) → now.typedefs ≡ old.typedefs → AreLeft left old → Drops left gone new → ((t : CType) → Contains (all_used old ++ gone) t ↔ Contains (all_used now) t) → AreLeft new now
+left_more : (left new gone : List CType) (old now : Parts) → now.typedefs ≡ old.typedefs → AreLeft left old → Drops left gone new → ((t : CType) → Contains (all_used old ++ gone) t ↔ Contains (all_used now) t) → AreLeft new now
 left_more left new gone old now same leaves drops used = λ t. (
   λ h.
       let before = (drops t).0 h in
@@ -266,7 +269,7 @@ left_more left new gone old now same leaves drops used = λ t. (
 )
 
 -- what is left after a type is listed
-pub left_typedef : (left new : List CType) (t : CType) (old now : Parts) → IsTypedef t → ((u : CType) → Contains (all_used old) u → ⊥) → all_used now ≡ all_used old → now.typedefs ≡ old.typedefs ++ t ∷ [] → AreLeft left old → Adds left (named_types t) new → AreLeft new now
+left_typedef : (left new : List CType) (t : CType) (old now : Parts) → IsTypedef t → ((u : CType) → Contains (all_used old) u → ⊥) → all_used now ≡ all_used old → now.typedefs ≡ old.typedefs ++ t ∷ [] → AreLeft left old → Adds left (named_types t) new → AreLeft new now
 left_typedef left new t old now good none same more leaves added = λ u. (
   λ h. (
     subst (λ ts. Contains ts u) (sym more) (elim ((added u).0 h) [
@@ -352,24 +355,36 @@ zero_empty types counts r counted test = (λ t. by (test.0 t), λ none. back (em
     back : (counts.unused ≡ false) × (length counted.chars ≡ 0) × (length counted.shorts ≡ 0) × (length counted.ints ≡ 0) → IsTrue r
     back (u, c, s, i) = test.1 (u, sym counted.chars_are ∙ c, sym counted.shorts_are ∙ s, sym counted.ints_are ∙ i)
 
--- what is left after a line
-pub left_row : (left new : List CType) (old : Parts) (row : Row) (now : Parts) → now ≡ with_row old row → (with_row old row).typedefs ≡ old.typedefs → GivesGood row → Fits old row → AreLeft left old → Drops left (row_types row) new → AreLeft new now
-left_row left new old row now is same good fits leaves drops =
-    subst (AreLeft new) (sym is) (left_more left new (row_types row) old (with_row old row) same leaves drops (used_row old row good fits))
-
 -- nothing is used before the last line of a type
-pub reached_good : (parts : Parts) → IsReached parts → IsGood parts
+reached_good : (parts : Parts) → IsReached parts → IsGood parts
 reached_good parts reached = good_all no_parts reached.rows parts good_start reached.good reached.accepted
 
-pub reached_phased : (parts : Parts) → IsReached parts → IsPhased parts
+reached_phased : (parts : Parts) → IsReached parts → IsPhased parts
 reached_phased parts reached = phase_all no_parts reached.rows parts (inl refl) reached.accepted
 
-pub none_used : (parts : Parts) (t : CType) → IsReached parts → Fits parts (Typedef t) → (u : CType) → Contains (all_used parts) u → ⊥
+none_used : (parts : Parts) (t : CType) → IsReached parts → Fits parts (Typedef t) → (u : CType) → Contains (all_used parts) u → ⊥
 none_used parts t reached fits u h =
     let good = reached_good parts reached in
     let none : parts.structs ≡ [] = none_left parts.structs parts.named good.few fits.1 in
     let empty : all_used parts ≡ [] = λ i. used_types (none i) (fits.2 i) ++ stage_types (fits.0 i) in
     Contains-none u (subst (λ ts. Contains ts u) empty h)
+
+-- what is left after a line
+left_row : (left new : List CType) (old : Parts) (row : Row) (now : Parts) → now ≡ with_row old row → (with_row old row).typedefs ≡ old.typedefs → IsRow row → Fits old row → AreLeft left old → Drops left (row_types row) new → AreLeft new now
+left_row left new old row now is same good fits leaves drops =
+    subst (AreLeft new) (sym is) (left_more left new (row_types row) old (with_row old row) same leaves drops (used_row old row (good_gives row good) fits))
+
+pub sound_more : (old : Draft) (row : Row) (new : Draft) → IsReached (parts_of old) → IsRow row → Fits (parts_of old) row → IsSound old → HasMore old row new → IsSound new
+sound_more old (Typedef t) new reached good fits sound more =
+    left_typedef old.left new.left t (parts_of old) (parts_of new) good (none_used (parts_of old) t reached fits) (ap all_used more.0) (ap (λ (p : Parts). p.typedefs) more.0) sound more.1
+sound_more old (Named n) new reached good fits sound more = left_row old.left new.left (parts_of old) (Named n) (parts_of new) more.0 refl good fits sound more.1
+sound_more old (Opened n) new reached good fits sound more = left_row old.left new.left (parts_of old) (Opened n) (parts_of new) more.0 refl good fits sound more.1
+sound_more old (Gap k n) new reached good fits sound more = left_row old.left new.left (parts_of old) (Gap k n) (parts_of new) more.0 refl good fits sound more.1
+sound_more old (Member field) new reached good fits sound more = left_row old.left new.left (parts_of old) (Member field) (parts_of new) more.0 refl good fits sound more.1
+sound_more old Closed new reached good fits sound more = left_row old.left new.left (parts_of old) Closed (parts_of new) more.0 refl good fits sound more.1
+sound_more old (Pair n) new reached good fits sound more = left_row old.left new.left (parts_of old) (Pair n) (parts_of new) more.0 refl good fits sound more.1
+sound_more old (Half r t) new reached good fits sound more = left_row old.left new.left (parts_of old) (Half r t) (parts_of new) more.0 refl good fits sound more.1
+sound_more old (Stated returns n args) new reached good fits sound more = left_row old.left new.left (parts_of old) (Stated returns n args) (parts_of new) more.0 refl good fits sound more.1
 
 -- lines can end what was read where there is room for what is left
 pub can_tells : (parts : Parts) (left : List CType) (counts : Counts) (r : Bool) → IsReached parts → length parts.typedefs ≤ 2 ^ 30 → AreLeft left parts → AreCounted left counts → IsTrue r ↔ HasRoom parts counts → IsTrue r ↔ CanEnd parts

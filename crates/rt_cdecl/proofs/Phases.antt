@@ -65,7 +65,7 @@ abbrev pub GivesGood : Row → Type 0
 GivesGood (Stated returns n args) = IsReturned returns
 GivesGood row = Unit {0}
 
-good_gives : (row : Row) → IsRow row → GivesGood row
+pub good_gives : (row : Row) → IsRow row → GivesGood row
 good_gives (Typedef t) good = tt
 good_gives (Named n) good = tt
 good_gives (Opened n) good = tt

@@ -3,3 +3,4 @@ pub mod GoodRows
 pub mod Guesses
 pub mod Drafts
 pub mod Endings
+pub mod Steps

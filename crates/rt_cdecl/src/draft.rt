@@ -1,13 +1,13 @@
 // Headers that are read in part.
-ghost use Rattle.std.specs.Prelude.{◌≡◌, ◌↔◌, ◌<◌, ◌≤◌, ◌^◌, All, Contains, IsTrue, IfOk, OnOk, MatchOption, length};
+ghost use Rattle.std.specs.Prelude.{◌≡◌, ◌↔◌, ◌<◌, ◌≤◌, ◌^◌, [], All, IsTrue, IfOk, OnOk, length};
 ghost use Rattle.rt_cdecl.specs.Types.{IsField, IsTypedef, IsWide};
 ghost use Rattle.rt_cdecl.specs.Rows.{Typedef, Named, Opened, Gap, Member, Pair, Half, Stated};
 ghost use Rattle.rt_cdecl.specs.GoodDecls.{IsArgument, arg_types};
 ghost use Rattle.rt_cdecl.specs.Inside.GoodRows.{IsReturned, IsRow};
-ghost use Rattle.rt_cdecl.specs.declared.declarations.CType.{CType};
-ghost use Rattle.rt_cdecl.specs.Inside.Endings.{CanEnd, Drops, FitFunctions, FitStruct, HasPresent, HasRoom, IsFew, IsReached, all_used};
+ghost use Rattle.rt_cdecl.specs.Inside.Endings.{CanEnd, Drops, FitFunctions, FitStruct, HasPresent, HasRoom, IsFew, IsReached};
 ghost use Rattle.rt_cdecl.specs.Inside.Drafts.{Fits, IsListed, IsWhole, MayReturn, MayState};
-ghost use Rattle.rt_cdecl.specs.Inside.Drafts.{closed_stage, closed_structs, decls_of, line_types, no_parts, stated_of, with_row};
+ghost use Rattle.rt_cdecl.specs.Inside.Drafts.{closed_stage, closed_structs, decls_of, line_types, no_parts, stated_of};
+ghost use Rattle.rt_cdecl.specs.Inside.Steps.{HasMore, IsSound, parts_of};
 
 use crate::declarations::{CArgs, CField, CFields, CFunction, CStruct, CStructs, CType, Decls};
 use crate::kinds::{Counts, Kinds};
@@ -17,12 +17,13 @@ use crate::stage::Stage;
 use rt_base::Memory;
 use rt_lines::Loc;
 use std::alloc::{AllocError, Global};
-use std::marker::Model;
+use std::mem;
 
-// A header that is read in part. Contracts see what was read.
+// A header that is read in part.
 #[derive(Drop)]
 pub struct Draft {
     typedefs: Typedefs,
+    // The types that are listed and not yet used.
     left: Kinds,
     named: u64,
     structs: CStructs,
@@ -30,22 +31,11 @@ pub struct Draft {
     stage: Stage,
 }
 
-impl Model for Draft {
-    ghost use Rattle.rt_cdecl.specs.Inside.Drafts.{Parts};
-    ghost use Rattle.rt_cdecl.specs.Inside.Endings.{AreLeft};
-
-    ghost Value = { Parts };
-
-    ghost view = { λ d. record { typedefs = d.typedefs; named = d.named; structs = d.structs; functions = d.functions; stage = d.stage } };
-
-    ghost invariant = { λ d. AreLeft d.left
-        (record { typedefs = d.typedefs; named = d.named; structs = d.structs; functions = d.functions; stage = d.stage }) };
-}
-
 impl Draft {
     // The draft of nothing read. It takes no memory, and keeps the allocator.
     pub fn new(alloc: Global) -> Draft
-        ensures { result ≡ no_parts }
+        ensures parts { parts_of result ≡ no_parts }
+        ensures left { result.left ≡ [] }
     {
         Draft {
             typedefs: Typedefs::new(alloc),
@@ -59,7 +49,7 @@ impl Draft {
 
     // Whether a type is listed, if it has a line, and leads to a struct that was named.
     fn lists(&self, kind: &CType) -> bool
-        ensures { IsTrue result ↔ IsListed self.now kind.now }
+        ensures { IsTrue result ↔ IsListed (parts_of self.now) kind.now }
     {
         match kind {
             CType::Pointer(number) => u64::from(*number) < self.named,
@@ -69,7 +59,7 @@ impl Draft {
 
     // Whether those of arguments are.
     fn lists_args(&self, args: &[(Loc, CType)]) -> bool
-        ensures { IsTrue result ↔ All (IsListed self.now) (arg_types args.now) }
+        ensures { IsTrue result ↔ All (IsListed (parts_of self.now)) (arg_types args.now) }
     {
         for (_, kind) in args {
             if !self.lists(kind) {
@@ -81,7 +71,7 @@ impl Draft {
 
     // Whether the line of a type may follow.
     fn may_typedef(&self, kind: &CType) -> Result<bool, Memory>
-        ensures { IfOk result (λ may. IsTrue may ↔ Fits self.now (Typedef kind.now)) }
+        ensures { IfOk result (λ may. IsTrue may ↔ Fits (parts_of self.now) (Typedef kind.now)) }
     {
         if !self.stage.is_idle() || self.named != 0 || !self.functions.is_empty() {
             return Ok(false);
@@ -91,7 +81,7 @@ impl Draft {
 
     // Whether the name of a struct may follow.
     fn may_name(&self, number: u32) -> bool
-        ensures { IsTrue result ↔ Fits self.now (Named number) }
+        ensures { IsTrue result ↔ Fits (parts_of self.now) (Named number) }
     {
         self.stage.is_idle()
             && self.structs.items().is_empty()
@@ -101,7 +91,7 @@ impl Draft {
 
     // Whether the first line of a struct may follow.
     fn may_open(&self, number: u32) -> bool
-        ensures { IsTrue result ↔ Fits self.now (Opened number) }
+        ensures { IsTrue result ↔ Fits (parts_of self.now) (Opened number) }
     {
         self.stage.is_idle()
             && self.functions.is_empty()
@@ -111,14 +101,14 @@ impl Draft {
 
     // Whether a function of the number may follow the structs and functions.
     fn may_state(&self, number: u32) -> bool
-        ensures { IsTrue result ↔ MayState self.now number }
+        ensures { IsTrue result ↔ MayState (parts_of self.now) number }
     {
         self.structs.len() as u64 == self.named && self.functions.may_follow(number)
     }
 
     // Whether a function's line may follow that gives this.
     fn may_return(&self, returns: &Returns, number: u32) -> bool
-        ensures { IsTrue result ↔ MayReturn self.now self.now.stage returns.now number }
+        ensures { IsTrue result ↔ MayReturn (parts_of self.now) self.now.stage returns.now number }
     {
         match (&self.stage, returns) {
             (Stage::Idle, Returns::Nothing) => self.may_state(number),
@@ -130,7 +120,7 @@ impl Draft {
 
     // Whether the line may follow. The error is out of memory.
     pub fn may(&self, row: &Row) -> Result<bool, Memory>
-        ensures { IfOk result (λ may. IsTrue may ↔ Fits self.now row.now) }
+        ensures { IfOk result (λ may. IsTrue may ↔ Fits (parts_of self.now) row.now) }
     {
         match row {
             Row::Typedef(kind) => self.may_typedef(kind),
@@ -147,217 +137,125 @@ impl Draft {
         }
     }
 
-    // The draft with one line more, which may follow.
-    pub fn with(self, row: Row) -> Result<Draft, Memory>
-        requires reached { IsReached self }
+    // Adds a line, which may follow. When out of memory, what was read may be lost.
+    pub fn add(&mut self, row: Row) -> Result<(), Memory>
         requires good { IsRow row }
-        requires fits { Fits self row }
-        ensures { IfOk result (λ after. after ≡ with_row self row) }
+        requires fits { Fits (parts_of self.old) row }
+        ensures { OnOk result (HasMore self.old row self.new) }
     {
         match row {
-            Row::Typedef(kind) => self.with_typedef(kind),
-            Row::Named(number) => self.with_name(number),
-            Row::Opened(number) => self.with_struct(number),
-            Row::Gap(offset, count) => self.with_gap(offset, count),
-            Row::Member(field) => self.with_field(field),
-            Row::Closed => self.with_end(),
-            Row::Pair(number) => self.with_pair(number),
-            Row::Half(r, kind) => self.with_half(r, kind),
-            Row::Stated(returns, number, args) => self.with_function(returns, number, args),
+            Row::Typedef(kind) => self.add_typedef(kind),
+            Row::Named(number) => {
+                self.add_name(number);
+                Ok(())
+            }
+            Row::Opened(number) => {
+                self.add_struct(number);
+                Ok(())
+            }
+            Row::Gap(offset, count) => {
+                self.add_gap(offset, count);
+                Ok(())
+            }
+            Row::Member(field) => self.add_field(field),
+            Row::Closed => self.add_end(),
+            Row::Pair(number) => {
+                self.add_pair(number);
+                Ok(())
+            }
+            Row::Half(r, kind) => {
+                self.add_half(r, kind);
+                Ok(())
+            }
+            Row::Stated(returns, number, args) => self.add_function(returns, number, args),
         }
     }
 
-    // The draft with the line of a type more.
-    fn with_typedef(self, kind: CType) -> Result<Draft, Memory>
-        requires good { IsTypedef kind }
-        requires unused { (t : CType) → Contains (all_used self) t → ⊥ }
-        ensures { IfOk result (λ after. after ≡ with_row self (Typedef kind)) }
+    // Adds the line of a type.
+    fn add_typedef(&mut self, kind: CType) -> Result<(), Memory>
+        requires { IsTypedef kind }
+        ensures { OnOk result (HasMore self.old (Typedef kind) self.new) }
     {
-        let Draft {
-            typedefs,
-            mut left,
-            named,
-            structs,
-            functions,
-            stage,
-        } = self;
-        left.add(typedefs.allocator(), &kind)?;
-        let typedefs = typedefs.with(kind)?;
-        Ok(Draft {
-            typedefs,
-            left,
-            named,
-            structs,
-            functions,
-            stage,
-        })
+        let alloc = self.typedefs.allocator();
+        self.left.add(alloc, &kind)?;
+        let typedefs = mem::replace(&mut self.typedefs, Typedefs::new(alloc));
+        self.typedefs = typedefs.with(kind)?;
+        Ok(())
     }
 
-    // The draft with the name of a struct more.
-    fn with_name(self, number: u32) -> Result<Draft, Memory>
-        requires { Fits self (Named number) }
-        ensures { IfOk result (λ after. after ≡ with_row self (Named number)) }
+    // Adds the name of a struct.
+    fn add_name(&mut self, number: u32)
+        requires { Fits (parts_of self.old) (Named number) }
+        ensures { HasMore self.old (Named number) self.new }
     {
-        Ok(Draft {
-            typedefs: self.typedefs,
-            left: self.left,
-            named: u64::from(number) + 1,
-            structs: self.structs,
-            functions: self.functions,
-            stage: self.stage,
-        })
+        self.named = u64::from(number) + 1;
     }
 
-    // The draft with the first line of a struct more.
-    fn with_struct(self, number: u32) -> Result<Draft, Memory>
-        requires { Fits self (Opened number) }
-        ensures { IfOk result (λ after. after ≡ with_row self (Opened number)) }
+    // Adds the first line of a struct.
+    fn add_struct(&mut self, number: u32)
+        ensures { HasMore self.old (Opened number) self.new }
     {
         let fields = CFields::new(self.structs.allocator());
-        Ok(Draft {
-            typedefs: self.typedefs,
-            left: self.left,
-            named: self.named,
-            structs: self.structs,
-            functions: self.functions,
-            stage: Stage::InStruct(fields, 0, false),
-        })
+        self.stage = Stage::InStruct(fields, 0, false);
     }
 
-    // The draft with a gap more.
-    fn with_gap(self, offset: u32, count: u32) -> Result<Draft, Memory>
-        requires { Fits self (Gap offset count) }
-        ensures { IfOk result (λ after. after ≡ with_row self (Gap offset count)) }
+    // Adds a gap.
+    fn add_gap(&mut self, offset: u32, count: u32)
+        requires { Fits (parts_of self.old) (Gap offset count) }
+        ensures { HasMore self.old (Gap offset count) self.new }
     {
-        Ok(Draft {
-            typedefs: self.typedefs,
-            left: self.left,
-            named: self.named,
-            structs: self.structs,
-            functions: self.functions,
-            stage: self.stage.gapped(offset, count),
-        })
+        self.stage.add_gap(offset, count);
     }
 
-    // The draft with a field more.
-    fn with_field(self, field: CField) -> Result<Draft, Memory>
-        requires good { IsField field }
-        requires fits { Fits self (Member field) }
-        ensures { IfOk result (λ after. after ≡ with_row self (Member field)) }
+    // Adds a field.
+    fn add_field(&mut self, field: CField) -> Result<(), Memory>
+        requires { IsField field }
+        ensures { OnOk result (HasMore self.old (Member field) self.new) }
     {
-        let Draft {
-            typedefs,
-            mut left,
-            named,
-            structs,
-            functions,
-            stage,
-        } = self;
-        left.remove(&field.kind);
-        let stage = stage.with_field(field)?;
-        Ok(Draft {
-            typedefs,
-            left,
-            named,
-            structs,
-            functions,
-            stage,
-        })
+        self.left.remove(&field.kind);
+        self.stage.add_field(field)
     }
 
-    // The draft with the end of a struct or of a pair more.
-    fn with_end(self) -> Result<Draft, Memory>
-        requires { Fits self Row.Closed }
-        ensures { IfOk result (λ after. after ≡ with_row self Row.Closed) }
+    // Adds the end of a struct or of a pair.
+    fn add_end(&mut self) -> Result<(), Memory>
+        ensures { OnOk result (HasMore self.old Row.Closed self.new) }
     {
-        let Draft {
-            typedefs,
-            left,
-            named,
-            mut structs,
-            functions,
-            stage,
-        } = self;
-        let stage = close(&mut structs, stage)?;
-        Ok(Draft {
-            typedefs,
-            left,
-            named,
-            structs,
-            functions,
-            stage,
-        })
+        let stage = mem::replace(&mut self.stage, Stage::Idle);
+        self.stage = close(&mut self.structs, stage)?;
+        Ok(())
     }
 
-    // The draft with the first line of a pair more.
-    fn with_pair(self, number: u32) -> Result<Draft, Memory>
-        requires { Fits self (Pair number) }
-        ensures { IfOk result (λ after. after ≡ with_row self (Pair number)) }
+    // Adds the first line of a pair.
+    fn add_pair(&mut self, number: u32)
+        ensures { HasMore self.old (Pair number) self.new }
     {
-        Ok(Draft {
-            typedefs: self.typedefs,
-            left: self.left,
-            named: self.named,
-            structs: self.structs,
-            functions: self.functions,
-            stage: Stage::InPair(number),
-        })
+        self.stage = Stage::InPair(number);
     }
 
-    // The draft with a result of a pair more.
-    fn with_half(self, r: u32, kind: CType) -> Result<Draft, Memory>
-        requires good { IsWide kind }
-        requires fits { Fits self (Half r kind) }
-        ensures { IfOk result (λ after. after ≡ with_row self (Half r kind)) }
+    // Adds a result of a pair.
+    fn add_half(&mut self, r: u32, kind: CType)
+        requires { IsWide kind }
+        ensures { HasMore self.old (Half r kind) self.new }
     {
-        let Draft {
-            typedefs,
-            mut left,
-            named,
-            structs,
-            functions,
-            stage,
-        } = self;
-        left.remove(&kind);
-        Ok(Draft {
-            typedefs,
-            left,
-            named,
-            structs,
-            functions,
-            stage: stage.with_half(kind),
-        })
+        self.left.remove(&kind);
+        let stage = mem::replace(&mut self.stage, Stage::Idle);
+        self.stage = stage.with_half(kind);
     }
 
-    // The draft with a function's line more.
-    fn with_function(self, returns: Returns, number: u32, args: CArgs) -> Result<Draft, Memory>
-        requires good { IsRow (Stated returns number args) }
-        requires fits { Fits self (Stated returns number args) }
-        ensures { IfOk result (λ after. after ≡ with_row self (Stated returns number args)) }
+    // Adds a function's line.
+    fn add_function(&mut self, returns: Returns, number: u32, args: CArgs) -> Result<(), Memory>
+        requires { IsRow (Stated returns number args) }
+        ensures { OnOk result (HasMore self.old (Stated returns number args) self.new) }
     {
-        let Draft {
-            typedefs,
-            mut left,
-            named,
-            structs,
-            functions,
-            stage,
-        } = self;
-        use_function(&mut left, &returns, args.items());
-        let functions = functions.with(function_of(stage, returns, number, args))?;
-        Ok(Draft {
-            typedefs,
-            left,
-            named,
-            structs,
-            functions,
-            stage: Stage::Idle,
-        })
+        use_function(&mut self.left, &returns, args.items());
+        let stage = mem::replace(&mut self.stage, Stage::Idle);
+        self.functions
+            .push(function_of(stage, returns, number, args))
     }
 
     // Whether a type of something can be written that is 32 bits wide.
     fn has_present(&self) -> bool
-        ensures { IsTrue result ↔ HasPresent self.now }
+        ensures { IsTrue result ↔ HasPresent (parts_of self.now) }
     {
         self.named > 0 || self.typedefs.has_ints()
     }
@@ -367,7 +265,7 @@ impl Draft {
         requires number { number ≤ 2 ^ 32 }
         requires taken { taken ≤ 2 }
         requires few { IsFew left }
-        ensures { IsTrue result ↔ FitFunctions self.now left number taken }
+        ensures { IsTrue result ↔ FitFunctions (parts_of self.now) left number taken }
     {
         let wide = left.ints + u64::from(left.unused) + taken;
         left.chars == 0
@@ -380,7 +278,7 @@ impl Draft {
     fn has_room(&self, left: Counts) -> bool
         requires few { IsFew left }
         requires structs { length self.now.structs ≤ 2 ^ 32 }
-        ensures { IsTrue result ↔ HasRoom self.now left }
+        ensures { IsTrue result ↔ HasRoom (parts_of self.now) left }
     {
         let structs = self.structs.len() as u64;
         match &self.stage {
@@ -404,32 +302,31 @@ impl Draft {
 
     // Whether lines can follow that make what was read a header: whether all types that are listed can be used.
     pub fn can_end(&self) -> bool
-        requires reached { IsReached self.now }
+        requires sound { IsSound self.now }
+        requires reached { IsReached (parts_of self.now) }
         requires few { length self.now.typedefs ≤ 2 ^ 30 }
-        ensures { IsTrue result ↔ CanEnd self.now }
+        ensures { IsTrue result ↔ CanEnd (parts_of self.now) }
     {
         self.has_room(self.left.counts())
     }
 
     // Whether what was read is a whole header.
-    fn is_whole(&self) -> bool
-        ensures { IsTrue result ↔ IsWhole self.now }
+    pub fn is_whole(&self) -> bool
+        requires { IsSound self.now }
+        ensures { IsTrue result ↔ IsWhole (parts_of self.now) }
     {
         self.stage.is_idle() && self.structs.len() as u64 == self.named && self.left.is_empty()
     }
 
     // The declarations, where what was read is a whole header.
-    pub fn finish(self) -> Option<Decls>
-        ensures { MatchOption result (IsWhole self → ⊥) (λ decls. IsWhole self × (decls ≡ decls_of self)) }
+    pub fn into_decls(self) -> Decls
+        ensures { result ≡ decls_of (parts_of self) }
     {
-        if !self.is_whole() {
-            return None;
-        }
-        Some(Decls {
+        Decls {
             typedefs: self.typedefs.into_list(),
             structs: self.structs,
             functions: self.functions.into_list(),
-        })
+        }
     }
 }
 

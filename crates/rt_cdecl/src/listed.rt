@@ -1,5 +1,5 @@
 // What a header lists: its types, and its functions.
-ghost use Rattle.std.specs.Prelude.{◌≡◌, ◌↔◌, ◌≤◌, ◌^◌, ◌++◌, ◌∷◌, [], All, IsTrue, Contains, IfOk};
+ghost use Rattle.std.specs.Prelude.{◌≡◌, ◌↔◌, ◌≤◌, ◌^◌, ◌++◌, ◌∷◌, [], All, IsTrue, Contains, IfOk, OnOk};
 ghost use Rattle.std.specs.Ordering.{nat_cmp};
 ghost use Rattle.std.specs.Cmp.Lexicographic.{slice_cmp};
 ghost use Rattle.std.specs.declared.cmp.Ordering.TheVariants.{Less};
@@ -174,14 +174,14 @@ impl AscendingFunctions {
         self.least <= u64::from(number)
     }
 
-    // These functions and one more.
-    pub fn with(self, function: CFunction) -> Result<AscendingFunctions, Memory>
-        ensures { IfOk result (λ more. more ≡ self ++ function ∷ []) }
+    // Adds a function.
+    pub fn push(&mut self, function: CFunction) -> Result<(), Memory>
+        ensures { OnOk result (self.new ≡ self.old ++ function ∷ []) }
     {
-        let mut list = self.list;
         let least = u64::from(function.number) + 1;
-        list.push(function)?;
-        Ok(AscendingFunctions { list, least })
+        self.list.push(function)?;
+        self.least = least;
+        Ok(())
     }
 
     // The functions as a list, without memory.

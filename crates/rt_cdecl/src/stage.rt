@@ -1,5 +1,5 @@
 // What the lines of a header that were read stand in.
-ghost use Rattle.std.specs.Prelude.{◌≡◌, ◌↔◌, IsTrue, IfOk};
+ghost use Rattle.std.specs.Prelude.{◌≡◌, ◌↔◌, IsTrue, OnOk};
 ghost use Rattle.rt_cdecl.specs.Types.{bits_of};
 ghost use Rattle.rt_cdecl.specs.Inside.Drafts.{BeginsAt, MayClose, MayGap, MayHalf, gapped_of, half_of, member_of};
 
@@ -78,33 +78,28 @@ impl Stage {
         }
     }
 
-    // After a gap that may follow.
-    pub fn gapped(self, offset: u32, count: u32) -> Stage
-        requires { MayGap self offset count }
-        ensures { result ≡ gapped_of self count }
+    // Goes past a gap that may follow.
+    pub fn add_gap(&mut self, offset: u32, count: u32)
+        requires { MayGap self.old offset count }
+        ensures { self.new ≡ gapped_of self.old count }
     {
-        match self {
-            Stage::InStruct(fields, from, _) => Stage::InStruct(
-                fields,
-                from + u64::from(count),
-                true,
-            ),
-            other => other,
+        if let Stage::InStruct(_, from, gapped) = self {
+            *from += u64::from(count);
+            *gapped = true;
         }
     }
 
-    // After a field.
-    pub fn with_field(self, field: CField) -> Result<Stage, Memory>
-        ensures { IfOk result (λ after. after ≡ member_of self field) }
+    // Adds a field to a struct.
+    pub fn add_field(&mut self, field: CField) -> Result<(), Memory>
+        ensures { OnOk result (self.new ≡ member_of self.old field) }
     {
-        match self {
-            Stage::InStruct(mut fields, _, _) => {
-                let end = u64::from(field.offset) + u64::from(width(&field.kind));
-                fields.push(field)?;
-                Ok(Stage::InStruct(fields, end, false))
-            }
-            other => Ok(other),
+        if let Stage::InStruct(fields, from, gapped) = self {
+            let end = u64::from(field.offset) + u64::from(width(&field.kind));
+            fields.push(field)?;
+            *from = end;
+            *gapped = false;
         }
+        Ok(())
     }
 
     // After a result of a pair.

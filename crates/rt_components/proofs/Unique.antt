@@ -11,7 +11,7 @@ use Rattle.rt_components.proofs.Numbers.{place_in, contains_at, cons_here, cons_
 use Rattle.rt_base.proofs.Numbers.{before_or}
 use Rattle.rt_base.proofs.Lists.{Contains-none}
 
-rises : (xs : List ℕ) → IsStrictlyIncreasing xs → Rises xs
+pub rises : (xs : List ℕ) → IsStrictlyIncreasing xs → Rises xs
 rises xs up i j less within = below_from_sorted xs i j 0 (sorted_from_strictly_increasing xs up) less within
 
 head_below : (x : ℕ) (xs : List ℕ) (y : ℕ) → Rises (x ∷ xs) → Contains xs y → x < y
@@ -26,7 +26,7 @@ tail_rises : (x : ℕ) (xs : List ℕ) → Rises (x ∷ xs) → Rises xs
 tail_rises x xs up i j less within = up (suc i) (suc j) (omega arith) (omega arith)
 
 -- lists that rise are one if they contain the same
-same_ascending : (xs ys : List ℕ) → Rises xs → Rises ys → ((a : ℕ) → Contains xs a → Contains ys a) → ((a : ℕ) → Contains ys a → Contains xs a) → xs ≡ ys
+pub same_ascending : (xs ys : List ℕ) → Rises xs → Rises ys → ((a : ℕ) → Contains xs a → Contains ys a) → ((a : ℕ) → Contains ys a → Contains xs a) → xs ≡ ys
 same_ascending [] [] up up' on back = refl
 same_ascending [] (y ∷ ys) up up' on back = absurd (Contains-none y (back y (cons_here y ys)))
 same_ascending (x ∷ xs) [] up up' on back = absurd (Contains-none x (on x (cons_here x xs)))
@@ -76,7 +76,7 @@ module _ (count : ℕ) (Edge : ℕ → ℕ → Type 0) where
       let same : j ≡ there.0 = (q.together j there.0 a b d there.2).1 pair in
       subst (λ k. Contains (group_at ys k) b) (sym same) there.2
 
-  same_group : (xs ys : List (List ℕ)) → AreGroups count Edge xs → AreGroups count Edge ys → (i j a : ℕ) → Contains (group_at xs i) a → Contains (group_at ys j) a → group_at xs i ≡ group_at ys j
+  pub same_group : (xs ys : List (List ℕ)) → AreGroups count Edge xs → AreGroups count Edge ys → (i j a : ℕ) → Contains (group_at xs i) a → Contains (group_at ys j) a → group_at xs i ≡ group_at ys j
   same_group xs ys p q i j a c d =
       same_ascending (group_at xs i) (group_at ys j) (rises (group_at xs i) (p.ascending i (place_less xs i a c))) (rises (group_at ys j) (q.ascending j (place_less ys j a d)))
       (in_same xs ys p q i j a c d) (in_same ys xs q p j i a d c)

@@ -13,7 +13,7 @@ use std::alloc::AllocError;
 /// - Continuation, 32: it steps to its continuation, which isn't good.
 /// - Jump, 33: it is a JALR with rd x0 that is neither a return, nor one of a far call, nor a jump to an entry of a
 ///   table that has one.
-#[derive(Clone, Copy, Debug, PartialEq, Eq)]
+#[derive(Clone, Copy, Debug)]
 pub enum SiteFault {
     Instruction,
     Target,
@@ -36,7 +36,7 @@ impl SiteFault {
 }
 
 /// Why it isn't known what a site does: it is at fault, or memory ran out.
-#[derive(Clone, Copy, Debug, PartialEq, Eq)]
+#[derive(Clone, Copy, Debug)]
 pub enum FormFault {
     Site(SiteFault),
     Memory,

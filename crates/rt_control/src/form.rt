@@ -4,14 +4,14 @@ use rt_insn::Insn;
 use rt_link::Place;
 
 /// Where a jump leads: to code at a good place, or to an undefined symbol, by its index.
-#[derive(Clone, Copy, Debug, PartialEq, Eq)]
+#[derive(Clone, Copy)]
 pub enum Target {
     Code(Place),
     Outside(u32),
 }
 
 /// What a call calls: code at a good place, an undefined symbol, by its index, or what a register holds.
-#[derive(Clone, Copy, Debug, PartialEq, Eq)]
+#[derive(Clone, Copy)]
 pub enum Called {
     Code(Place),
     Outside(u32),
@@ -26,7 +26,7 @@ pub enum Called {
 /// - Leave: a JAL with rd x0 to an undefined symbol, by its index.
 /// - Table: to an entry of a table of addresses, by a JALR with rd x0. Each place that the entries lead to stands once,
 ///   in the order of the entries.
-#[derive(Debug, Drop)]
+#[derive(Drop)]
 pub enum Way {
     On(Place),
     Jump(Place),
@@ -42,7 +42,7 @@ pub enum Way {
 /// - Tail: a far call that keeps no return address, rd being x0.
 /// - Return: `jalr x0,0(ra)`.
 /// - Stop: EBREAK.
-#[derive(Debug, Drop)]
+#[derive(Drop)]
 pub enum Form {
     Plain {
         insn: Insn,

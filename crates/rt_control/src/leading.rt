@@ -7,14 +7,8 @@ ghost use Rattle.rt_link.specs.Laws.{IsAboutSymbol};
 use crate::form::Target;
 use crate::good::is_good;
 use rt_elf::Object;
+use rt_elf::section_index::{ABSOLUTE, COMMON, UNDEFINED};
 use rt_link::{Link, Place};
-
-// SHN_UNDEF, SHN_ABS and SHN_COMMON (ELF gABI, "Special Section Indexes").
-const UNDEFINED: u16 = 0;
-
-const ABSOLUTE: u16 = 0xFFF1;
-
-const COMMON: u16 = 0xFFF2;
 
 // The place at a distance from an offset of a section, modulo 2^32.
 fn moved(section: u16, offset: u32, distance: i32) -> Place

@@ -7,7 +7,7 @@ use rt_link::Place;
 // - NoTable: it reads no table, or one without entries.
 // - BadTarget: an entry of its table doesn't lead to code at a good place.
 // - Targets: each place that the entries lead to, once, in their order.
-#[derive(Debug, Drop)]
+#[derive(Drop)]
 pub(crate) enum Outcome {
     NoTable,
     BadTarget,

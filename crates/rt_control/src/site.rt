@@ -23,13 +23,9 @@ use crate::table::entries_at;
 use crate::targets::outcome_of;
 use rt_elf::Object;
 use rt_insn::Insn;
+use rt_insn::registers::{RETURN_ADDRESS, ZERO};
 use rt_link::{Link, Links, Place};
 use std::alloc::Global;
-
-// Registers x0 and ra (RISC-V psABI, "Register Convention").
-const ZERO: u8 = 0;
-
-const RETURN_ADDRESS: u8 = 1;
 
 fn called_at(target: Target) -> Called
     ensures { result ≡ called_at target }

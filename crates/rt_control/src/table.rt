@@ -8,13 +8,9 @@ ghost use Rattle.rt_control.specs.Tables.{IsEntry, IsEnd, IsTable, IsTableJump, 
 use crate::run::{Step, run, writer_of};
 use rt_elf::Object;
 use rt_insn::Insn;
+use rt_insn::registers::{RETURN_ADDRESS, ZERO};
 use rt_link::{Link, Links, Place, Pointer};
 use std::alloc::{AllocError, Global};
-
-// Registers x0 and ra (RISC-V psABI, "Register Convention").
-const ZERO: u8 = 0;
-
-const RETURN_ADDRESS: u8 = 1;
 
 // An address: that of a symbol with an addend.
 #[derive(Clone, Copy)]

@@ -1,22 +1,23 @@
 -- What is known of an object where no check fails.
-use Rattle.std.proofs.Common.{◌≡◌, ℕ, zero, suc, ◌+◌, ◌*◌, ◌/◌, ◌<◌, ◌≤◌, inl, inr, Bool, true, false, ◌&&◌, ◌==◌, not, IsTrue, Option, Some, None, List, [], ◌∷◌, All, length, get_or, if◌then◌else◌, refl, sym, ap, ◌∙◌, subst, arith}
+use Rattle.std.proofs.Common.{◌≡◌, ℕ, zero, suc, ◌+◌, ◌*◌, ◌/◌, ◌<◌, ◌≤◌, inl, inr, Bool, true, false, ◌&&◌, ◌==◌, not, IsTrue, Option, Some, None, List, [], ◌∷◌, All, length, get_or, ◌-◌, if◌then◌else◌, refl, sym, ap, ◌∙◌, subst, arith}
 use Rattle.std.proofs.lemmas.Bool.{ltb-true, ltb-false, false≢true, and_parts, or_left, not-false}
 use Rattle.std.proofs.lemmas.List.{get_or_past}
 use Rattle.std.proofs.lemmas.List.Quantifiers.{position-Some}
-use Rattle.std.proofs.lemmas.List.Elements.{All-nil}
+use Rattle.std.proofs.lemmas.List.Elements.{All-nil, All-cons}
 use Rattle.rt_base.specs.First.{first_of, first_each}
-use Rattle.rt_elf.specs.Fields.{word_at}
+use Rattle.rt_elf.specs.Fields.{half_at, word_at}
 use Rattle.rt_elf.specs.Header.{header_place, section_count}
-use Rattle.rt_elf.specs.Object.{IsObject, IsInFile, IsOfObject, IsSound, section_of, null_section}
+use Rattle.rt_elf.specs.Object.{IsObject, IsInFile, IsOfObject, IsSound, HasSection, section_of, null_section}
 use Rattle.rt_elf.specs.Parts.{Parts as Object}
 use Rattle.rt_elf.specs.Relocs.{is_reloc_section, is_read, reloc_at, reloc_fault, relocs_fault, reloc_section_fault, reloc_part_fault, reloc_part}
 use Rattle.rt_elf.specs.Sections.{section_at, section_by, has_bytes, is_code_section, sections_of, section_fault, sections_fault, is_kind_at, AreWithin}
-use Rattle.rt_elf.specs.Symbols.{symbol_table, is_symbol_table, symbol_list}
+use Rattle.rt_elf.specs.Symbols.{symbol_table, is_symbol_table, symbol_list, symbol_at, symbol_fault, symbols_fault, symbol_part, symbol_part_fault, strings_of, symbol_count, symbols_of, zero_symbol, is_section_index}
 use Rattle.rt_elf.specs.declared.reloc.Reloc.{Reloc}
 use Rattle.rt_elf.specs.declared.section.Section.{Section}
+use Rattle.rt_elf.specs.declared.symbol.Symbol.{Symbol}
 use Rattle.rt_elf.proofs.Booleans.{split, eqb-is, and-rest_false, fault_if-none, none_at}
 use Rattle.rt_elf.proofs.Lists.{get_or-entries, length-entries, All-entries, All-joined}
-use Rattle.rt_base.proofs.Entries.{then_of-none}
+use Rattle.rt_base.proofs.Entries.{then_of-none, first_each-none}
 
 section-within : (bytes : List ℕ) (h : ℕ) → section_fault bytes h ≡ None → IsTrue (has_bytes (section_at bytes h))
     → (section_at bytes h).offset + (section_at bytes h).size ≤ length bytes
@@ -103,17 +104,59 @@ relocs-of_object bytes table n object is count none =
     (All-joined (IsOfObject object) (reloc_part bytes) 0 (section_count bytes)
     (λ k low high. reloc_part-all bytes table n k object is count (none_at (reloc_part_fault bytes table n) (section_count bytes) k none (omega arith))))
 
+-- a symbol of a section of a file, or of none
+IsPlaced : List ℕ → Symbol → Type 0
+IsPlaced bytes symbol = IsTrue (is_section_index bytes symbol.section)
+
+symbol-placed : (bytes strings : List ℕ) (s : ℕ) → symbol_fault bytes strings s ≡ None → is_section_index bytes (half_at bytes (s + 14)) ≡ true
+unfolding symbol_fault
+symbol-placed bytes strings s none = not-false _ (fault_if-none _ _ (then_of-none _ _ (then_of-none _ _ none).1).0)
+
+symbol_list-placed : (bytes strings : List ℕ) (place n : ℕ) → symbols_fault bytes strings place n ≡ None → All (IsPlaced bytes) (symbol_list bytes strings place n)
+unfolding IsPlaced
+symbol_list-placed bytes strings place zero none = All-nil (IsPlaced bytes)
+symbol_list-placed bytes strings place (suc n) none =
+    let e : suc n - 1 ≡ n = omega arith in
+    let none' : first_each (λ (k : ℕ). symbol_fault bytes strings (place + 16 * k)) 1 n ≡ None = rw e at none in
+    All-cons (IsPlaced bytes) zero_symbol _ refl
+    (All-entries (IsPlaced bytes) (λ (k : ℕ). symbol_at bytes strings (place + 16 * k)) 1 n
+    (λ k low high.
+    let less : k - 1 < n = omega arith in
+    let same : 1 + (k - 1) ≡ k = omega arith in
+    let fault : symbol_fault bytes strings (place + 16 * k) ≡ None =
+    subst (λ (j : ℕ). symbol_fault bytes strings (place + 16 * j) ≡ None) same
+    (first_each-none (λ (k : ℕ). symbol_fault bytes strings (place + 16 * k)) 1 n (k - 1) none' less) in
+    symbol-placed bytes strings (place + 16 * k) fault))
+
+symbol_part-placed : (bytes : List ℕ) (table : Option ℕ) → symbol_part_fault bytes (sections_of bytes) table ≡ None → All (IsPlaced bytes) (symbol_part bytes table)
+symbol_part-placed bytes None none = All-nil (IsPlaced bytes)
+symbol_part-placed bytes (Some k) none =
+    symbol_list-placed bytes (strings_of bytes k) (section_by bytes k).offset (symbol_count bytes k) (then_of-none _ _ (then_of-none _ _ none).1).0
+
+-- each symbol is of a section of the object, or of none
+symbols-placed : (bytes : List ℕ) (object : Object) → IsObject bytes object
+    → symbol_part_fault bytes (sections_of bytes) (symbol_table (sections_of bytes)) ≡ None → All (HasSection object) object.symbols
+unfolding IsPlaced
+symbols-placed bytes object is none =
+    let count : section_count bytes ≡ length object.sections =
+    sym (ap (λ (sections : List Section). length sections) is.sections ∙ length-entries (section_by bytes) 0 (section_count bytes)) in
+    let all : All (IsPlaced bytes) object.symbols =
+    subst (λ (symbols : List Symbol). All (IsPlaced bytes) symbols) (sym is.symbols) (symbol_part-placed bytes (symbol_table (sections_of bytes)) none) in
+    rw count at all
+
 -- what each object that was read keeps
 pub sound : (bytes : List ℕ) (table : Option ℕ) (n : ℕ) (object : Object) → IsObject bytes object → AreWithin bytes → n ≡ length object.symbols
     → first_each (reloc_part_fault bytes table n) 0 (section_count bytes) ≡ None
+    → symbol_part_fault bytes (sections_of bytes) (symbol_table (sections_of bytes)) ≡ None
     → length object.sections < 65536 → length object.symbols ≤ length bytes → length bytes ≤ 16777216 → IsSound object
-sound bytes table n object is within count none sections symbols short = record {
+sound bytes table n object is within count none placed sections symbols short = record {
   in_file = in_file bytes object is within;
   linkable = record {
     relocs = relocs-of_object bytes table n object is count none;
     sections_fit = omega (arith, sections);
     symbols_fit = omega (arith, symbols, short);
   };
+  symbols = symbols-placed bytes object is placed;
 }
 
 -- the type of the symbol table

@@ -1,12 +1,13 @@
 -- What an object holds.
-use Rattle.std.specs.Prelude.{◌≡◌, ℕ, ◌+◌, ◌*◌, ◌/◌, ◌%◌, ◌^◌, ◌<◌, ◌≤◌, ◌||◌, IsTrue, All, List, length, get_or}
+use Rattle.std.specs.Prelude.{◌≡◌, ℕ, ◌+◌, ◌*◌, ◌/◌, ◌%◌, ◌^◌, ◌<◌, ◌≤◌, ◌||◌, nat_lt, IsTrue, All, List, length, get_or}
 use Rattle.rt_base.specs.First.{entries}
 use Rattle.rt_elf.specs.declared.section.Section.{Section}
 use Rattle.rt_elf.specs.declared.reloc.Reloc.{Reloc}
+use Rattle.rt_elf.specs.declared.symbol.Symbol.{Symbol}
 use Rattle.rt_elf.specs.Fields.{word_at}
 use Rattle.rt_elf.specs.Parts.{Parts as Object}
 use Rattle.rt_elf.specs.Sections.{sections_of, is_code_section, is_data_section}
-use Rattle.rt_elf.specs.Symbols.{symbols_of}
+use Rattle.rt_elf.specs.Symbols.{symbols_of, is_special}
 use Rattle.rt_elf.specs.Relocs.{relocs_of}
 
 -- the object's parts are the fields at their places
@@ -41,6 +42,10 @@ abbrev pub IsOfObject : Object → Reloc → Type 0
 IsOfObject object reloc = let section = section_of object reloc.section in
     IsTrue (is_code_section section || is_data_section section) × (reloc.symbol < length object.symbols)
 
+-- a symbol is of a section of the object, or of none: SHN_UNDEF, SHN_ABS, SHN_COMMON
+abbrev pub HasSection : Object → Symbol → Type 0
+HasSection object symbol = IsTrue (is_special symbol.section || nat_lt symbol.section (length object.sections))
+
 -- the links of an object can be read: its relocations are of its code and data and about its symbols, and the
 -- indices of sections and symbols fit their types
 pub record IsLinkable (object : Object) : Type 0 where
@@ -52,6 +57,7 @@ pub record IsLinkable (object : Object) : Type 0 where
 pub record IsSound (object : Object) : Type 0 where
   pub in_file : IsInFile object
   pub linkable : IsLinkable object
+  pub symbols : All (HasSection object) object.symbols
 
 -- the words of a section, in order
 abbrev pub section_words : Object → ℕ → List ℕ

@@ -46,10 +46,13 @@ symbol_at bytes strings s = record {
   section = half_at bytes (s + 14);
 }
 
--- SHN_UNDEF, SHN_ABS, SHN_COMMON, or the index of a section
+-- SHN_UNDEF, SHN_ABS, SHN_COMMON (ELF gABI, "Special Section Indexes")
+abbrev pub is_special : ℕ → Bool
+is_special index = (index == 0) || (index == 0xFFF1) || (index == 0xFFF2)
+
+-- one of these, or the index of a section
 abbrev pub is_section_index : List ℕ → ℕ → Bool
-is_section_index bytes index =
-    (index == 0) || (index == 0xFFF1) || (index == 0xFFF2) || nat_lt index (section_count bytes)
+is_section_index bytes index = is_special index || nat_lt index (section_count bytes)
 
 -- the checks of the symbol at a place: a name that isn't empty has an end, and there is its section
 unfoldable pub symbol_fault : List ℕ → List ℕ → ℕ → Option ElfFault

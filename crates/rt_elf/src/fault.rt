@@ -26,7 +26,7 @@ use std::alloc::AllocError;
 ///   or those with addends (SHT_RELA) of code or data aren't of 12 bytes (sh_entsize), don't fill their section
 ///   (sh_size), or aren't about the symbol table (sh_link).
 /// - 14 at r_info: there is no such symbol.
-#[derive(Clone, Copy, Debug, PartialEq, Eq)]
+#[derive(Clone, Copy, Debug)]
 pub enum ElfFault {
     Bad { number: u8, offset: u32 },
     Memory,

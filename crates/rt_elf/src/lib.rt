@@ -11,6 +11,8 @@ mod reader;
 mod reloc;
 mod relocs;
 mod section;
+pub mod section_index;
+pub mod section_type;
 mod sections;
 mod symbol;
 mod symbols;

@@ -3,7 +3,6 @@ ghost use Rattle.std.specs.Prelude.{◌≡◌, [], ◌≤◌, IfOk, length, slic
 
 use rt_base::{Bytes, Copied};
 use std::alloc::{AllocError, Global};
-use std::fmt;
 use std::marker::Model;
 use std::rc::Rc;
 
@@ -94,11 +93,5 @@ impl Name {
 impl Copied for Name {
     fn copied(&self) -> Result<Self, AllocError> {
         self.copy()
-    }
-}
-
-impl fmt::Debug for Name {
-    fn fmt<W: fmt::Write>(&self, f: &mut fmt::Formatter<W>) -> fmt::Result {
-        fmt::Debug::fmt(self.items(), f)
     }
 }

@@ -16,8 +16,9 @@ use std::marker::Model;
 /// Contracts see it as the record of these parts.
 ///
 /// Each object is sound: its sections of code lie in its bytes, its relocations are of its code and data and about its
-/// symbols, and the indices of sections and symbols fit their types.
-#[derive(Debug, Drop)]
+/// symbols, each symbol is of one of its sections or of none (ELF gABI, "Special Section Indexes"), and the indices of
+/// sections and symbols fit their types.
+#[derive(Drop)]
 pub struct Object {
     pub(crate) sections: Sections,
     pub(crate) symbols: Symbols,
@@ -43,6 +44,21 @@ impl Model for Object {
 }
 
 impl Object {
+    /// The object of these parts.
+    ///
+    /// Condition: they are sound together, as those of each object are.
+    pub fn of(sections: Sections, symbols: Symbols, relocs: Relocs, bytes: Bytes) -> Object
+        requires { IsSound (record { sections = sections; symbols = symbols; relocs = relocs; bytes = bytes }) }
+        ensures { result ≡ record { sections = sections; symbols = symbols; relocs = relocs; bytes = bytes } }
+    {
+        Object {
+            sections,
+            symbols,
+            relocs,
+            bytes,
+        }
+    }
+
     /// The sections, by their indices.
     pub fn sections(&self) -> &[Section]
         ensures sections { result.now ≡ self.now.sections }

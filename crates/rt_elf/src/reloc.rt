@@ -3,7 +3,7 @@ use rt_base::Sequence;
 
 /// A relocation with an addend (ELF gABI, "Relocation"): the section and the offset of the place that it changes,
 /// its type, and the index and the addend of the symbol that it is about.
-#[derive(Clone, Copy, Debug, PartialEq, Eq)]
+#[derive(Clone, Copy)]
 pub struct Reloc {
     pub section: u16,
     pub offset: u32,

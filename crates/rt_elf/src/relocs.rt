@@ -13,6 +13,7 @@ use crate::field::word_at;
 use crate::header::{header_place, section_count};
 use crate::reloc::{Reloc, Relocs};
 use crate::section::Section;
+use crate::section_type::{REL, RELA};
 use crate::sections::{is_code_section, is_data_section, section_by};
 use rt_base::Sequence;
 use std::alloc::Global;
@@ -21,7 +22,7 @@ use std::alloc::Global;
 fn is_reloc_section(section: &Section) -> bool
     ensures { result ≡ is_reloc_section section.now }
 {
-    section.kind == 4 || section.kind == 9
+    section.kind == RELA || section.kind == REL
 }
 
 // Whether a section of relocations is of SHT_REL, without addends, and about code.
@@ -30,7 +31,7 @@ fn lacks_addends(bytes: &[u8], section: &Section) -> bool
     requires about { section.now.info < section_count bytes.now }
     ensures { result ≡ lacks_addends bytes.now section.now }
 {
-    section.kind == 9 && is_code_section(&section_by(bytes, section.info as usize))
+    section.kind == REL && is_code_section(&section_by(bytes, section.info as usize))
 }
 
 // Whether a section of relocations is of SHT_RELA, and about code or data.
@@ -41,7 +42,7 @@ fn is_read(bytes: &[u8], section: &Section) -> bool
     ensures kind { IsTrue result → section.now.kind ≡ 4 }
 {
     let about = section_by(bytes, section.info as usize);
-    section.kind == 4 && (is_code_section(&about) || is_data_section(&about))
+    section.kind == RELA && (is_code_section(&about) || is_data_section(&about))
 }
 
 // Whether an index is that of the symbol table.

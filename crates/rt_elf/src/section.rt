@@ -3,7 +3,7 @@ use rt_base::Sequence;
 
 /// A section header (ELF gABI, "Sections"): its type, its flags, the place and the length of its bytes in the
 /// file, and two numbers whose meaning goes by the type.
-#[derive(Clone, Copy, Debug, PartialEq, Eq)]
+#[derive(Clone, Copy)]
 pub struct Section {
     pub kind: u32,
     pub flags: u32,

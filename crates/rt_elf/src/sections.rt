@@ -10,6 +10,7 @@ use crate::fault::{ElfFault, check};
 use crate::field::word_at;
 use crate::header::{header_place, section_count};
 use crate::section::{Section, Sections};
+use crate::section_type::{NOBITS, NULL, PROGBITS};
 use rt_base::Sequence;
 use std::alloc::Global;
 
@@ -41,21 +42,21 @@ pub(crate) fn section_by(bytes: &[u8], index: usize) -> Section
 fn has_bytes(section: &Section) -> bool
     ensures { result ≡ has_bytes section.now }
 {
-    section.kind != 0 && section.kind != 8
+    section.kind != NULL && section.kind != NOBITS
 }
 
 // Whether a section is executable: SHT_PROGBITS with SHF_EXECINSTR.
 pub(crate) fn is_code_section(section: &Section) -> bool
     ensures { result ≡ is_code_section section.now }
 {
-    section.kind == 1 && section.flags / 4 % 2 == 1
+    section.kind == PROGBITS && section.flags / 4 % 2 == 1
 }
 
 // Whether a section is of data: SHT_PROGBITS with SHF_ALLOC.
 pub(crate) fn is_data_section(section: &Section) -> bool
     ensures { result ≡ is_data_section section.now }
 {
-    section.kind == 1 && section.flags / 2 % 2 == 1
+    section.kind == PROGBITS && section.flags / 2 % 2 == 1
 }
 
 fn is_compressed(section: &Section) -> bool

@@ -8,7 +8,7 @@ use std::alloc::{AllocError, Global};
 
 /// An entry of the symbol table (ELF gABI, "Symbol Table"): its name, its value, its size, its binding, its type,
 /// and the index of the section that it is of.
-#[derive(Debug, Drop)]
+#[derive(Drop)]
 pub struct Symbol {
     pub name: Name,
     pub value: u32,

@@ -6,13 +6,15 @@ ghost use Rattle.rt_elf.specs.Header.{header_place, section_count, HasTable};
 ghost use Rattle.rt_elf.specs.Names.{EndsAt};
 ghost use Rattle.rt_elf.specs.Sections.{section_by, sections_of, is_kind_at, AreWithin};
 ghost use Rattle.rt_elf.specs.Symbols.{symbol_table, symbol_table_fault, symbol_at, symbol_fault};
-ghost use Rattle.rt_elf.specs.Symbols.{symbols_fault, symbol_list, symbol_part_fault, symbol_part, is_section_index};
+ghost use Rattle.rt_elf.specs.Symbols.{symbols_fault, symbol_list, symbol_part_fault, symbol_part, is_section_index, is_special};
 
 use crate::fault::{ElfFault, check};
 use crate::field::{byte_at, half_at, word_at};
 use crate::header::{header_place, section_count};
 use crate::names::{Strings, end_of_names};
 use crate::section::Section;
+use crate::section_index::{ABSOLUTE, COMMON, UNDEFINED};
+use crate::section_type::{STRTAB, SYMTAB};
 use crate::sections::{bytes_of, is_kind_at, section_by};
 use crate::symbol::{Symbol, Symbols};
 use rt_base::Sequence;
@@ -22,7 +24,7 @@ use std::alloc::{AllocError, Global};
 pub(crate) fn symbol_table(sections: &[Section]) -> Option<usize>
     ensures { result ≡ symbol_table sections.now }
 {
-    sections.iter().position(|section| section.kind == 2)
+    sections.iter().position(|section| section.kind == SYMTAB)
 }
 
 // The symbol table of an index, as a table.
@@ -41,7 +43,18 @@ fn check_symbol_table(bytes: &[u8], sections: &[Section], index: usize) -> Resul
     }
     check(word_at(bytes, place + 36) != 16, 10, place + 36)?;
     check(section.size % 16 != 0, 10, place + 20)?;
-    check(!is_kind_at(bytes, 3, section.link as usize), 10, place + 24)
+    check(
+        !is_kind_at(bytes, STRTAB, section.link as usize),
+        10,
+        place + 24,
+    )
+}
+
+// Whether the number of a section stands for none: SHN_UNDEF, SHN_ABS or SHN_COMMON.
+fn is_special(index: u16) -> bool
+    ensures { result ≡ is_special index }
+{
+    index == UNDEFINED || index == ABSOLUTE || index == COMMON
 }
 
 // Whether a symbol may be of a section of an index: SHN_UNDEF, SHN_ABS, SHN_COMMON, or that of a section.
@@ -49,7 +62,7 @@ fn is_section_index(bytes: &[u8], index: u16) -> bool
     requires { 52 ≤ length bytes.now }
     ensures { result ≡ is_section_index bytes.now index }
 {
-    index == 0 || index == 0xFFF1 || index == 0xFFF2 || (index as usize) < section_count(bytes)
+    is_special(index) || (index as usize) < section_count(bytes)
 }
 
 // The symbol at a place, where the names that begin before a place have an end.

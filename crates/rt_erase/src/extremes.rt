@@ -1,7 +1,7 @@
 // The ends of a lattice.
 
 /// How many names a lattice has, and the numbers of its top and of its bottom.
-#[derive(Clone, Copy, Debug, PartialEq, Eq)]
+#[derive(Clone, Copy, PartialEq, Eq)]
 pub struct Extremes {
     /// How many names there are.
     pub count: u16,

@@ -16,7 +16,7 @@ use rt_tree::Tree;
 use std::alloc::Global;
 
 /// A field of what a pointer leads to.
-#[derive(Clone, Copy, Debug, PartialEq, Eq)]
+#[derive(Clone, Copy, PartialEq, Eq)]
 pub struct Row {
     /// Where it begins, in bytes from where the pointer leads.
     pub offset: u32,

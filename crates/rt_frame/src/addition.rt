@@ -1,7 +1,7 @@
 // What additions add.
 
 /// What an addition of two registers adds: an index to a pointer, on which side, two indices, or what can't be said.
-#[derive(Clone, Copy, Debug, PartialEq, Eq)]
+#[derive(Clone, Copy)]
 pub enum Addition {
     IndexLeft,
     IndexRight,

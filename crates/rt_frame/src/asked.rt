@@ -13,12 +13,10 @@ use crate::question::Question;
 use crate::questions::{addition, calls_at, is_kept, is_multi, results};
 use rt_base::{Memory, Sequence};
 use rt_body::{Action, Address, Body, Operation, Width};
+use rt_insn::registers::{ARGUMENTS, ZERO};
 use rt_liveness::Call;
 use rt_proc::Callee;
 use std::alloc::Global;
-
-// The registers of arguments: a0 to a7 (RISC-V psABI, "Integer Calling Convention").
-const ARGUMENTS: [u8; 8] = [10, 11, 12, 13, 14, 15, 16, 17];
 
 // What is asked for.
 type Asked = Sequence<Question>;
@@ -57,7 +55,7 @@ fn ask_indexed(asked: &mut Asked, site: u32, to: u8, other: u8, index: u8) -> Re
     ensures { OnOk result (asked.new ≡ asked.old ++
         ((if to == 0 then [] else Question.OfUse site other ∷ []) ++ Question.OfUse site index ∷ [])) }
 {
-    if to != 0 {
+    if to != ZERO {
         ask(asked, site, other)?;
     }
     ask(asked, site, index)

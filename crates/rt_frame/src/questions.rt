@@ -11,6 +11,7 @@ use crate::addition::Addition;
 use rt_base::{Memory, Sequence};
 use rt_body::{Action, Address, Body, Operation};
 use rt_flow::Def;
+use rt_insn::registers::STACK_POINTER;
 use rt_liveness::Call;
 use rt_track::Value;
 use std::alloc::Global;
@@ -22,7 +23,7 @@ pub fn def_value(body: &Body, register: u8, def: Def) -> Value
     ensures { result ≡ def_value (reading_of body.now) register def }
 {
     match def {
-        Def::Entry if register == 2 => Value::Frame(0),
+        Def::Entry if register == STACK_POINTER => Value::Frame(0),
         Def::Entry => Value::Entry(register, 0),
         Def::At(site) => body.value_of(site, register),
     }

@@ -10,17 +10,15 @@ use crate::offsets::Offsets;
 use crate::questions::address_value;
 use rt_base::Memory;
 use rt_body::{Action, Body, Width};
+use rt_insn::registers::SAVED;
 use rt_track::Value;
 use std::alloc::Global;
-
-// The registers that are kept for the caller: ra, s0 to s11 (RISC-V psABI, "Integer Calling Convention").
-const KEPT: [u8; 13] = [1, 8, 9, 18, 19, 20, 21, 22, 23, 24, 25, 26, 27];
 
 // Whether a register is kept for the caller.
 fn keeps(register: u8) -> bool
     ensures { result ≡ keeps register }
 {
-    KEPT.contains(&register)
+    SAVED.contains(&register)
 }
 
 // Where a word of one value that is stored at an address of another saves a register.

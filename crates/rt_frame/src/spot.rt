@@ -6,7 +6,7 @@ ghost use Rattle.rt_frame.specs.Frames.{AreAscending, greatest_upto, is_from_to,
 
 /// Where an access at an offset of the frame goes: on the object that begins at an offset, so many bytes from there, or to
 /// the frame itself at an offset. Offsets are those from the stack pointer at the entry, in bytes.
-#[derive(Clone, Copy, Debug, PartialEq, Eq)]
+#[derive(Clone, Copy)]
 pub enum Spot {
     OnObject { start: i32, distance: i32 },
     Location(i32),

@@ -35,7 +35,7 @@ use Rattle.rt_header.proofs.Reached.{met_reached}
 use Rattle.rt_base.proofs.Numbers.{apart}
 
 -- a function of a number that rises is found
-find_ascending : (d : CFunction) (functions : List CFunction) (i : ℕ) → i < length functions
+pub find_ascending : (d : CFunction) (functions : List CFunction) (i : ℕ) → i < length functions
     → ((j : ℕ) → j < i → (get_or functions j d).number < (get_or functions i d).number)
     → find (λ (f : CFunction). f.number == (get_or functions i d).number) functions ≡ Some (get_or functions i d)
 find_ascending d [] i less rise = absurd (omega (arith, less))

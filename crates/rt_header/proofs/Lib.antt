@@ -10,3 +10,5 @@ pub mod Heading
 pub mod Joined
 pub mod Porting
 pub mod Typing
+pub mod Pairing
+pub mod Whole

@@ -59,11 +59,11 @@ stood P before (end ∷ ends) after (inr (is, stand)) old new n less =
         by (inr (inl l)) = old m l
         by (inr (inr g)) = absurd (omega (arith, g, h))
 
-int_eq_field : (f g : CField) → is_field (bits_of g.kind) (pos g.offset) f ≡ ((f.offset == g.offset) && (bits_of f.kind == bits_of g.kind))
+pub int_eq_field : (f g : CField) → is_field (bits_of g.kind) (pos g.offset) f ≡ ((f.offset == g.offset) && (bits_of f.kind == bits_of g.kind))
 int_eq_field f g = ap (λ b. b && (bits_of f.kind == bits_of g.kind)) (int_eq_pos f.offset g.offset)
 
 -- the field of an offset is the only one
-only_field : (from : ℕ) (fields : List CField) → FitFrom from fields → (each : All (λ (f : CField). 0 < bits_of f.kind / 8) fields) → (field : CField) → Contains fields field
+pub only_field : (from : ℕ) (fields : List CField) → FitFrom from fields → (each : All (λ (f : CField). 0 < bits_of f.kind / 8) fields) → (field : CField) → Contains fields field
     → (from ≤ field.offset) × (find (is_field (bits_of field.kind) (pos field.offset)) fields ≡ Some field)
 only_field from [] fit each field c = absurd (Contains-none field c)
 only_field from (first ∷ fields) (begins, fit) each field c =

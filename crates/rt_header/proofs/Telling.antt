@@ -357,7 +357,7 @@ module _ (forest : Forest) (is : IsForest forest) where
 
 -- What declarations tell.
 
-loc_same : (l : Loc) → loc_eq l l ≡ true
+pub loc_same : (l : Loc) → loc_eq l l ≡ true
 loc_same l = (loc_laws.laws-law).refl l
 
 pub int_eq_pos : (a b : ℕ) → int_eq (pos a) (pos b) ≡ (a == b)
@@ -373,7 +373,7 @@ type_present forest structs i bits n _ (pointer m s b e so) = tt
 type_present forest structs i bits n _ (scalar e) = tt
 
 -- numbers that are their own places are found
-find_numbered : (d : CStruct) (structs : List CStruct) (first s : ℕ) → s < length structs
+pub find_numbered : (d : CStruct) (structs : List CStruct) (first s : ℕ) → s < length structs
     → ((k : ℕ) → k < length structs → (get_or structs k d).number ≡ first + k)
     → find (λ (t : CStruct). t.number == first + s) structs ≡ Some (get_or structs s d)
 find_numbered d [] first s less are = absurd (omega (arith, less))

@@ -5,6 +5,7 @@
 mod declaring;
 mod forest;
 mod function;
+pub mod laws;
 mod making;
 mod ports;
 mod structs;

@@ -6,7 +6,7 @@
 /// for J, and within 2^11 for I and S.
 ///
 /// Source: RISC-V unprivileged ISA, chapters RV32I and M, and the table of instruction listings.
-#[derive(Clone, Copy, Debug, PartialEq, Eq)]
+#[derive(Clone, Copy)]
 pub enum Insn {
     Lui(u8, i32),
     Auipc(u8, i32),

@@ -3,7 +3,7 @@ use Rattle.std.proofs.Common.{◌≡◌, ℕ, ◌<◌, ◌≤◌, Option, Some, 
 use Rattle.std.proofs.lemmas.Bool.{cases_eq}
 use Rattle.rt_lines.specs.Names.{AreNames, HasName}
 use Rattle.rt_lines.specs.Orders.{Below, IsAtOrBelow}
-use Rattle.rt_lines.specs.OrderFacts.{IsTransitive}
+use Rattle.rt_lines.specs.OrderFacts.{IsOrder, IsTransitive}
 use Rattle.rt_lattice.specs.declared.bounds.Bounds.{Bounds}
 use Rattle.rt_lattice.specs.declared.fault.LatFault.{LatFault}
 use Rattle.rt_lattice.specs.declared.fault.LatFault.TheVariants.{NotToml, Shape, Unknown, Cycle, NoTop, NoBottom, NoJoin, NoRole, TooMany, Memory}
@@ -63,10 +63,10 @@ keeps file order roles bounds few named closes transitive none are told =
     }
 
 -- the lattice is the one that the file says
-pub lattice_says : (file : File) (order : Below) (roles : Roles) (bounds : Bounds) → Closes file.names file.below order
+pub lattice_says : (file : File) (order : Below) (roles : Roles) (bounds : Bounds) → Closes file.names file.below order → IsOrder order
     → HasNoCycle (IsAtOrBelow order) (length file.names) → AreBoundsOf (IsAtOrBelow order) (length file.names) bounds → ((role : Role) → IsRoleOf file role (role_in roles role))
     → IsLatticeOf file (record { names = file.names; order = order; roles = roles })
-lattice_says file order roles bounds closes none are told =
+lattice_says file order roles bounds closes whole none are told =
     let R = IsAtOrBelow order in
     let n = length file.names in
     let same = same_in file order closes in
@@ -80,6 +80,8 @@ lattice_says file order roles bounds closes none are told =
             roles = λ role. (role_in roles role, told role);
           };
       named = refl;
+      counted = closes.counted;
+      whole = whole;
       ordered = closes.same;
       roles = told;
     }

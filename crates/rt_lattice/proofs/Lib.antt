@@ -12,3 +12,4 @@ pub mod Completed
 pub mod Unique
 pub mod Parsed
 pub mod StandardOrder
+pub mod Ordered

@@ -114,7 +114,7 @@ one_file_fault file _ _ (is_no_role r known none p) (is_unknown t q) = cc
 one_file_fault file _ _ (is_no_role r known none p) (is_of_order g also q) = absurd (no_order_fault _ file.names g none q)
 one_file_fault file _ _ (is_no_role r known none p) (is_no_role s also nil q) = ap NoRole (same_Some _ _ (sym p ∙ q))
 
-one_table : (text : List ℕ) (m n : Members) → IsTable text m → IsTable text n → m ≡ n
+pub one_table : (text : List ℕ) (m n : Members) → IsTable text m → IsTable text n → m ≡ n
 one_table text m n p q = same_Some _ _ (sym p.parsed ∙ q.parsed)
 
 pub one_file : (m : Members) (f g : File) → SaysFile m f → SaysFile m g → f ≡ g
@@ -127,7 +127,7 @@ one_file m f g p q =
 form_in : (m n : Members) → m ≡ n → form_fault m ≡ form_fault n
 form_in m n same = ap form_fault same
 
-file_in : (m n : Members) (f g : File) → m ≡ n → SaysFile m f → SaysFile n g → f ≡ g
+pub file_in : (m n : Members) (f g : File) → m ≡ n → SaysFile m f → SaysFile n g → f ≡ g
 file_in m n f g same p q = one_file n f g (subst (λ x. SaysFile x f) same p) q
 
 -- a text has one first fault

@@ -2,7 +2,7 @@
 use Rattle.std.specs.Prelude.{◌≡◌, ◌↔◌, ℕ, ◌<◌, ◌≤◌, List, length}
 use Rattle.rt_lines.specs.Names.{AreNames}
 use Rattle.rt_lines.specs.Orders.{Below, IsAtOrBelow}
-use Rattle.rt_lines.specs.OrderFacts.{IsTransitive}
+use Rattle.rt_lines.specs.OrderFacts.{IsOrder, IsTransitive}
 use Rattle.rt_lattice.specs.declared.file.File.{File}
 use Rattle.rt_lattice.specs.declared.bounds.Bounds.{Bounds}
 use Rattle.rt_lattice.specs.declared.role.Role.{Role}
@@ -46,10 +46,13 @@ pub record AreLattice (file : File) : Type 0 where
   pub joins : HasJoins (IsUnderIn file) (length file.names)
   pub roles : (role : Role) → (number : ℕ) × IsRoleOf file role number
 
--- the lattice that a file says
+-- The lattice that a file says: its order has as many numbers as there are names, a cell for each pair of them and no more, and is
+-- the closure of the file's pairs.
 pub record IsLatticeOf (file : File) (lattice : NamedOrder) : Type 0 where
   pub are_lattice : AreLattice file
   pub named : lattice.names ≡ file.names
+  pub counted : lattice.order.count ≡ length file.names
+  pub whole : IsOrder lattice.order
   pub ordered : (a b : ℕ) → a < length file.names → b < length file.names → IsBelow lattice a b ↔ IsUnderIn file a b
   pub roles : (role : Role) → IsRoleOf file role (role_in lattice.roles role)
 

@@ -7,4 +7,5 @@ pub mod Grids
 pub mod Lattices
 pub mod Faults
 pub mod Standard
+pub mod Laws
 pub mod Inside

@@ -1,7 +1,7 @@
 // The bounds of all pairs of an order.
 ghost use Rattle.std.specs.Prelude.{◌≡◌, ◌≢◌, OnOk, IfOk, IfErr, length};
 ghost use Rattle.rt_lines.specs.Orders.{IsAtOrBelow};
-ghost use Rattle.rt_lines.specs.OrderFacts.{IsTransitive};
+ghost use Rattle.rt_lines.specs.OrderFacts.{IsOrder};
 ghost use Rattle.rt_lattice.specs.declared.fault.LatFault.TheVariants.{Memory};
 ghost use Rattle.rt_lattice.specs.Bounds.{HasNoCycle};
 ghost use Rattle.rt_lattice.specs.Faults.{IsOrderFault};
@@ -29,7 +29,7 @@ pub(crate) struct Bounds {
 fn check_cycle(names: &Names, order: &Order) -> Result<(), LatFault>
     requires { order.now.count ≡ length names.now }
     ensures none { OnOk result (HasNoCycle (IsAtOrBelow order.now) order.now.count) }
-    ensures transitive { IsTransitive order.now }
+    ensures whole { IsOrder order.now }
     ensures fault { IfErr result (λ fault. fault ≢ Memory → IsOrderFault (IsAtOrBelow order.now) names.now fault) }
 {
     match cycle_of(order) {
@@ -43,7 +43,7 @@ pub(crate) fn bounds_of(alloc: Global, names: &Names, order: &Order) -> Result<B
     requires { order.now.count ≡ length names.now }
     ensures bounds { IfOk result (AreBoundsOf (IsAtOrBelow order.now) (length names.now)) }
     ensures none { OnOk result (HasNoCycle (IsAtOrBelow order.now) (length names.now)) }
-    ensures transitive { IsTransitive order.now }
+    ensures whole { IsOrder order.now }
     ensures fault { IfErr result (λ fault. fault ≢ Memory → IsOrderFault (IsAtOrBelow order.now) names.now fault) }
 {
     check_cycle(names, order)?;

@@ -1,7 +1,7 @@
 // Tops, bottoms and cycles of an order.
 ghost use Rattle.std.specs.Prelude.{◌↔◌, ◌<◌, IsTrue, MatchOption};
 ghost use Rattle.rt_lines.specs.Orders.{IsAtOrBelow};
-ghost use Rattle.rt_lines.specs.OrderFacts.{IsTransitive};
+ghost use Rattle.rt_lines.specs.OrderFacts.{IsOrder};
 ghost use Rattle.rt_lattice.specs.Bounds.{IsTop, IsBottom, HasPartner, HasTop, HasBottom, HasNoCycle, IsFirstOnCycle};
 
 use rt_lines::Order;
@@ -74,7 +74,7 @@ fn has_partner(order: &Order, a: u16) -> bool
 pub(crate) fn cycle_of(order: &Order) -> Option<u16>
     ensures first { MatchOption result (HasNoCycle (IsAtOrBelow order.now) order.now.count)
         (IsFirstOnCycle (IsAtOrBelow order.now) order.now.count) }
-    ensures transitive { IsTransitive order.now }
+    ensures whole { IsOrder order.now }
 {
     for a in 0..order.count() {
         if has_partner(order, a) {

@@ -11,6 +11,7 @@ mod file;
 mod grid;
 mod joins;
 mod lattice;
+pub mod laws;
 mod meets;
 mod reader;
 mod role;

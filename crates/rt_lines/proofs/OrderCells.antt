@@ -14,12 +14,12 @@ set-related n cells x y p q full hx hy hp hq =
     elim (cases_eq (p * n + q) (x * n + y)) [
       | inl same ↦
           let pair : (p ≡ x) × (q ≡ y) = same_from_place p q x y n hq hy same in
-          (λ r. inr pair, λ r. inr (rw same here))
+          (λ r. inr pair, λ r. inr (hp, hq, rw same here))
       | inr other ↦
           let kept : get_or (set cells (x * n + y) true) (p * n + q) false ≡ get_or cells (p * n + q) false = get_or-set_other cells (x * n + y) (p * n + q) true false other in (
-            λ r. elim r [ inl e ↦ inl (inl e) | inr t ↦ inl (inr (rw kept at t)) ],
+            λ r. elim r [ inl e ↦ inl (inl e) | inr (h, k, t) ↦ inl (inr (h, k, rw kept at t)) ],
             λ r. elim r [
-              | inl o ↦ elim o [ inl e ↦ inl e | inr t ↦ inr (rw kept t) ]
+              | inl o ↦ elim o [ inl e ↦ inl e | inr (h, k, t) ↦ inr (h, k, rw kept t) ]
               | inr (e, f) ↦ absurd (other (rw (e, f) refl))
             ],
           )

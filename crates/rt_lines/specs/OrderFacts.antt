@@ -1,10 +1,17 @@
 -- What is said of orders of constants.
 use Rattle.std.specs.Prelude.{◌≡◌, ℕ, ◌*◌, ◌<◌, ◌⊎◌, ◌↔◌, List, Bool, length}
+use Rattle.rt_lines.specs.declared.line.Direction.{Direction}
+use Rattle.rt_lines.specs.declared.line.Direction.TheVariants.{Lower, Upper}
 use Rattle.rt_lines.specs.Orders.{Below, IsAtOrBelow}
 
 -- the order with these cells
 abbrev pub order_of : ℕ → List Bool → Below
 order_of count cells = record { count = count; cells = cells }
+
+-- where the first number bounds a variable, so does the second
+abbrev pub Admits : Below → Direction → ℕ → ℕ → Type 0
+Admits order Lower a b = IsAtOrBelow order b a
+Admits order Upper a b = IsAtOrBelow order a b
 
 -- what is at or below a number is at or below all that the number is at or below
 abbrev pub IsTransitive : Below → Type 0

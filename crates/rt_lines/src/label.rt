@@ -3,7 +3,7 @@ ghost use Rattle.std.specs.Prelude.{◌≡◌};
 ghost use Rattle.rt_lines.specs.Words.{label_variance, times};
 
 /// Where an argument is passed (RISC-V psABI, integer calling convention).
-#[derive(Clone, Copy, Debug, PartialEq, Eq, Hash)]
+#[derive(Clone, Copy, PartialEq, Eq, Hash)]
 pub enum Loc {
     /// The argument register a0 to a7, by its number 0 to 7.
     Arg(u8),
@@ -13,7 +13,7 @@ pub enum Loc {
 }
 
 /// A capability of a value (PLDI 2016, section 3): what can be taken from it or put into it.
-#[derive(Clone, Copy, Debug, PartialEq, Eq, Hash)]
+#[derive(Clone, Copy, PartialEq, Eq, Hash)]
 pub enum Label {
     /// An argument of a procedure.
     In(Loc),
@@ -28,7 +28,7 @@ pub enum Label {
 }
 
 /// Whether a label or a word keeps the order of the values below it or turns it round.
-#[derive(Clone, Copy, Debug, PartialEq, Eq)]
+#[derive(Clone, Copy, PartialEq, Eq)]
 pub enum Variance {
     /// Keeps the order.
     Co,

@@ -16,7 +16,7 @@ mod word;
 pub use deduplication::deduplicate;
 pub use existentials::first_free;
 pub use label::{Label, Loc, Variance};
-pub use line::{Judge, Line, Lines};
+pub use line::{Direction, Judge, Line, Lines};
 pub use names::{Names, is_name};
 pub use numbering::number;
 pub use order::Order;

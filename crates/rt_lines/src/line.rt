@@ -1,6 +1,7 @@
 // Lines and judgements.
-ghost use Rattle.std.specs.Prelude.{◌≡◌, IfOk};
+ghost use Rattle.std.specs.Prelude.{◌≡◌, ◌↔◌, IfOk, IfSome, IsSome};
 ghost use Rattle.std.specs.Fn.{FnReturnsAt};
+ghost use Rattle.rt_lines.specs.Lines.{bound_line, IsBound};
 ghost use Rattle.rt_lines.specs.Sides.{IsMapped, sides};
 ghost use Rattle.rt_lines.specs.SidesLeft.{sides_left};
 
@@ -27,6 +28,15 @@ pub enum Line {
 /// A list of lines.
 pub type Lines = Sequence<Line>;
 
+/// On which side of its variable a constant lies.
+#[derive(Clone, Copy)]
+pub enum Direction {
+    /// The constant is a lower bound.
+    Lower,
+    /// The constant is an upper bound.
+    Upper,
+}
+
 /// A judgement about variables. What it may say is what a line may, but for `same`.
 #[derive(Drop)]
 pub enum Judge {
@@ -48,6 +58,18 @@ impl Line {
         match self {
             Line::Var(x) | Line::Low(_, x) | Line::Up(x, _) => Sides::one(x),
             Line::Same(x, y) | Line::Sub(x, y) => Sides::two(x, y),
+        }
+    }
+
+    /// The bound that the line says, if it says one: on which side the constant lies, its number, and the variable.
+    pub fn bound(&self) -> Option<(Direction, u16, &Dtv)>
+        ensures some { IfSome result (λ bound. self.now ≡ bound_line bound.0 bound.1 bound.2.now) }
+        ensures none { IsSome result ↔ IsBound self.now }
+    {
+        match self {
+            Line::Low(k, x) => Some((Direction::Lower, *k, x)),
+            Line::Up(x, k) => Some((Direction::Upper, *k, x)),
+            Line::Var(_) | Line::Same(_, _) | Line::Sub(_, _) => None,
         }
     }
 

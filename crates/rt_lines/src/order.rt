@@ -1,8 +1,9 @@
 // Orders of constants.
 ghost use Rattle.std.specs.Prelude.{◌≡◌, ℕ, ◌+◌, ◌*◌, ◌<◌, ◌⊎◌, ◌↔◌, IsTrue, IfOk, length};
 ghost use Rattle.rt_lines.specs.Orders.{IsAtOrBelow};
-ghost use Rattle.rt_lines.specs.OrderFacts.{order_of, IsOrder, IsFlat, PutsBelow};
+ghost use Rattle.rt_lines.specs.OrderFacts.{order_of, Admits, IsOrder, IsFlat, PutsBelow};
 
+use crate::line::Direction;
 use std::alloc::{AllocError, Global};
 use std::marker::Model;
 
@@ -61,6 +62,19 @@ impl Order {
         ensures { IsTrue result ↔ IsAtOrBelow self.now a b }
     {
         is_at_or_below(&self.cells, self.count, a, b)
+    }
+
+    /// Whether a bound `a` of a variable says that `b` is one too, on the same side: a lower bound admits what is at or
+    /// below it, an upper bound what is at or above it. It takes no memory.
+    pub fn admits(&self, direction: Direction, a: u16, b: u16) -> bool
+        requires first { a < self.now.count }
+        requires second { b < self.now.count }
+        ensures { IsTrue result ↔ Admits self.now direction a b }
+    {
+        match direction {
+            Direction::Lower => self.le(b, a),
+            Direction::Upper => self.le(a, b),
+        }
     }
 
     /// An equal order.

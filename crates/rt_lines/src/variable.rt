@@ -6,7 +6,7 @@ use rt_base::Copied;
 use std::alloc::AllocError;
 
 /// What a derived variable belongs to.
-#[derive(Clone, Copy, Debug, PartialEq, Eq, Hash)]
+#[derive(Clone, Copy, PartialEq, Eq, Hash)]
 pub enum Base {
     /// A procedure, by its number.
     Proc(u32),

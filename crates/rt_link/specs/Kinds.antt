@@ -2,16 +2,19 @@
 use Rattle.std.specs.Prelude.{ℕ, ◌==◌, ◌||◌, Bool, true, false, Option, Some, None, if◌then◌else◌}
 use Rattle.rt_link.specs.declared.kind.Kind.{Kind}
 use Rattle.rt_link.specs.declared.kind.Kind.TheVariants.{Passed, Jump, Call, PcrelHigh, High, Low, PcrelLow}
+use Rattle.rt_link.specs.RelocationTypes.{R_RISCV_NONE, R_RISCV_32, R_RISCV_BRANCH, R_RISCV_JAL, R_RISCV_CALL, R_RISCV_CALL_PLT}
+use Rattle.rt_link.specs.RelocationTypes.{R_RISCV_PCREL_HI20, R_RISCV_PCREL_LO12_I, R_RISCV_PCREL_LO12_S}
+use Rattle.rt_link.specs.RelocationTypes.{R_RISCV_HI20, R_RISCV_LO12_I, R_RISCV_LO12_S, R_RISCV_ALIGN, R_RISCV_RELAX}
 
 unfoldable pub kind_of : ℕ → Option Kind
 kind_of number =
-    if number == 16 || number == 17 then Some Jump else
-    if number == 18 || number == 19 then Some Call else
-    if number == 23 then Some PcrelHigh else
-    if number == 26 then Some High else
-    if number == 27 || number == 28 then Some Low else
-    if number == 24 || number == 25 then Some PcrelLow else
-    if number == 0 || number == 1 || number == 43 || number == 51 then Some Passed else
+    if number == R_RISCV_BRANCH || number == R_RISCV_JAL then Some Jump else
+    if number == R_RISCV_CALL || number == R_RISCV_CALL_PLT then Some Call else
+    if number == R_RISCV_PCREL_HI20 then Some PcrelHigh else
+    if number == R_RISCV_HI20 then Some High else
+    if number == R_RISCV_LO12_I || number == R_RISCV_LO12_S then Some Low else
+    if number == R_RISCV_PCREL_LO12_I || number == R_RISCV_PCREL_LO12_S then Some PcrelLow else
+    if number == R_RISCV_NONE || number == R_RISCV_32 || number == R_RISCV_ALIGN || number == R_RISCV_RELAX then Some Passed else
     None
 
 -- a type that has an effect

@@ -4,3 +4,4 @@ pub mod Kinds
 pub mod Laws
 pub mod Links
 pub mod Pointers
+pub mod RelocationTypes

@@ -6,12 +6,13 @@ use Rattle.rt_elf.specs.Object.{section_of}
 use Rattle.rt_elf.specs.Sections.{is_code_section, is_data_section}
 use Rattle.rt_link.specs.declared.link.Link.TheVariants as link
 use Rattle.rt_link.specs.declared.place.Place.{Place}
+use Rattle.rt_link.specs.RelocationTypes.{R_RISCV_32}
 use Rattle.rt_link.specs.Effects.{place_of, symbol_place, moved, is_place, link_at}
 
 -- R_RISCV_32 (RISC-V psABI, "Relocations"), of a section of code or of data
 abbrev pub is_address : Object → Reloc → Bool
 is_address object reloc = let section = section_of object reloc.section in
-    (reloc.kind == 1) && (is_code_section section || is_data_section section)
+    (reloc.kind == R_RISCV_32) && (is_code_section section || is_data_section section)
 
 -- the same, at a place
 abbrev pub is_pointer : Object → Place → Reloc → Bool

@@ -14,7 +14,7 @@ use std::alloc::AllocError;
 /// - 22: it has an effect, and so has an earlier one at its place.
 /// - 23: it is a PCREL_LO12, and no PCREL_HI20 stands at the place of its symbol.
 /// - 24: it is a CALL or CALL_PLT, and no AUIPC and JALR through one register other than x0 stand at its place.
-#[derive(Clone, Copy, Debug, PartialEq, Eq)]
+#[derive(Clone, Copy, Debug)]
 pub enum LinkFault {
     Bad {
         number: u8,

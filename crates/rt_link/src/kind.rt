@@ -2,8 +2,14 @@
 ghost use Rattle.std.specs.Prelude.{◌≡◌};
 ghost use Rattle.rt_link.specs.Kinds.{kind_of, has_effect, is_call, is_pcrel_high, is_pcrel_low};
 
+use crate::relocation_type::{
+    R_RISCV_32, R_RISCV_ALIGN, R_RISCV_BRANCH, R_RISCV_CALL, R_RISCV_CALL_PLT, R_RISCV_HI20,
+    R_RISCV_JAL, R_RISCV_LO12_I, R_RISCV_LO12_S, R_RISCV_NONE, R_RISCV_PCREL_HI20,
+    R_RISCV_PCREL_LO12_I, R_RISCV_PCREL_LO12_S, R_RISCV_RELAX,
+};
+
 // What a type of relocation does.
-#[derive(Clone, Copy, PartialEq, Eq)]
+#[derive(Clone, Copy)]
 pub(crate) enum Kind {
     // no effect: R_RISCV_NONE, R_RISCV_32, R_RISCV_ALIGN, R_RISCV_RELAX
     Passed,
@@ -27,13 +33,13 @@ pub(crate) fn kind_of(kind: u8) -> Option<Kind>
     ensures { result ≡ kind_of kind }
 {
     match kind {
-        16 | 17 => Some(Kind::Jump),
-        18 | 19 => Some(Kind::Call),
-        23 => Some(Kind::PcrelHigh),
-        26 => Some(Kind::High),
-        27 | 28 => Some(Kind::Low),
-        24 | 25 => Some(Kind::PcrelLow),
-        0 | 1 | 43 | 51 => Some(Kind::Passed),
+        R_RISCV_BRANCH | R_RISCV_JAL => Some(Kind::Jump),
+        R_RISCV_CALL | R_RISCV_CALL_PLT => Some(Kind::Call),
+        R_RISCV_PCREL_HI20 => Some(Kind::PcrelHigh),
+        R_RISCV_HI20 => Some(Kind::High),
+        R_RISCV_LO12_I | R_RISCV_LO12_S => Some(Kind::Low),
+        R_RISCV_PCREL_LO12_I | R_RISCV_PCREL_LO12_S => Some(Kind::PcrelLow),
+        R_RISCV_NONE | R_RISCV_32 | R_RISCV_ALIGN | R_RISCV_RELAX => Some(Kind::Passed),
         _ => None,
     }
 }

@@ -12,6 +12,7 @@ mod named;
 mod pair;
 mod place;
 mod pointers;
+pub mod relocation_type;
 mod resolver;
 
 pub use fault::LinkFault;

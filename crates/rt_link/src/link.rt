@@ -6,7 +6,7 @@
 /// - Pair: where the AUIPC at its place and the JALR after it go together.
 /// - High: the high bits of the address, for LUI or AUIPC.
 /// - Low: its low bits, for ADDI, a load or a store.
-#[derive(Clone, Copy, Debug, PartialEq, Eq)]
+#[derive(Clone, Copy)]
 pub enum Link {
     Target { symbol: u32, addend: i32 },
     Pair { symbol: u32, addend: i32 },

@@ -6,6 +6,7 @@ ghost use Rattle.rt_insn.specs.Word.{field};
 ghost use Rattle.rt_link.specs.Checks.{is_pair, has_room, has_pair};
 
 use rt_elf::{Object, Reloc};
+use rt_insn::registers::ZERO;
 use rt_insn::{Insn, decode};
 
 // The register that an AUIPC writes.
@@ -33,7 +34,7 @@ fn is_pair(first: u32, second: u32) -> bool
     ensures { result ≡ is_pair first second }
 {
     match (auipc_register(first), jalr_base(second)) {
-        (Some(register), Some(base)) => base == register && register != 0,
+        (Some(register), Some(base)) => base == register && register != ZERO,
         _ => false,
     }
 }

@@ -5,7 +5,7 @@ ghost use Rattle.rt_link.specs.Effects.{moved, place_of, symbol_place};
 use rt_elf::{Object, Reloc};
 
 /// A place in an object: the index of a section, and an offset in its bytes.
-#[derive(Clone, Copy, Debug, PartialEq, Eq, PartialOrd, Ord, Hash)]
+#[derive(Clone, Copy, Debug, PartialEq, Eq, PartialOrd, Ord)]
 pub struct Place {
     pub section: u16,
     pub offset: u32,

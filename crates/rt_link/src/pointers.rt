@@ -6,13 +6,14 @@ ghost use Rattle.rt_link.specs.Links.{pointer_of, pointer_held};
 ghost use Rattle.rt_link.specs.Pointers.{is_address, pointer_at};
 
 use crate::place::{Place, place_of};
+use crate::relocation_type::R_RISCV_32;
 use rt_elf::{Object, Reloc};
 use std::alloc::{AllocError, Global};
 use std::collections::BTreeMap;
 
 /// A pointer, R_RISCV_32 (RISC-V psABI, "Relocations"): the index of the symbol whose address it is, and what is added
 /// to that.
-#[derive(Clone, Copy, Debug, PartialEq, Eq)]
+#[derive(Clone, Copy)]
 pub struct Pointer {
     pub symbol: u32,
     pub addend: i32,
@@ -55,7 +56,7 @@ impl Pointers {
 fn is_address(object: &Object, reloc: &Reloc) -> bool
     ensures { result ≡ is_address object.now reloc.now }
 {
-    reloc.kind == 1 && (object.is_code(reloc.section) || object.is_data(reloc.section))
+    reloc.kind == R_RISCV_32 && (object.is_code(reloc.section) || object.is_data(reloc.section))
 }
 
 fn pointer_of(reloc: &Reloc) -> Pointer

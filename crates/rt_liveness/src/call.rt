@@ -5,7 +5,7 @@ use rt_base::Sequence;
 use rt_proc::Callee;
 
 /// What is known of a call that a site makes, or of a procedure or function in which it goes on for good.
-#[derive(Clone, Copy, Debug, PartialEq, Eq)]
+#[derive(Clone, Copy)]
 pub struct Call {
     /// Whom.
     pub callee: Callee,

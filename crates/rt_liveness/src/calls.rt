@@ -1,5 +1,5 @@
 // What is known of the calls of an object's procedures.
-ghost use Rattle.std.specs.Prelude.{◌≡◌, ◌↔◌, ◌<◌, ◌+◌, ℕ, pos, false, IfOk, IsTrue, All, Some, length, get_or, slice_get};
+ghost use Rattle.std.specs.Prelude.{◌≡◌, ◌↔◌, ◌<◌, ◌+◌, ◌^◌, ℕ, pos, false, IfOk, OnOk, IsTrue, All, Some, length, get_or, slice_get};
 ghost use Rattle.rt_insn.specs.Table.{IsCode};
 ghost use Rattle.rt_insn.specs.declared.insn.Insn.TheVariants.{Jalr};
 ghost use Rattle.rt_control.specs.Laws.{IsGood};
@@ -25,6 +25,7 @@ use crate::takes::{callees_of, when_taken};
 use rt_base::{Memory, Sequence};
 use rt_body::Body;
 use rt_elf::Object;
+use rt_insn::registers::A0;
 use rt_insn::{Insn, decode};
 use rt_proc::{Callee, Place, Proc, Procs, Site, laws};
 use rt_sigs::Sigs;
@@ -73,7 +74,7 @@ fn takes_at(
 {
     let mut takes = [false; 8];
     for n in 0..8 {
-        let register = 10 + n as u8;
+        let register = A0 + n as u8;
         let defs = procedure.body.reaching(site, register);
         let when = when_taken(&interface.named, procedure.sites, defs, callee, register);
         takes[n] = is_met(&interface.taken, when);
@@ -189,6 +190,7 @@ pub fn calls_of(
     requires procs { AreProcs object.now (ends_of object.now sigs.now) procs.now }
     requires program { IsProgram (program_of object.now procs.now bodies.now sigs.now) }
     ensures calls { IfOk result (AreCallsOf (program_of object.now procs.now bodies.now sigs.now)) }
+    ensures few { OnOk result (length procs.now < 2 ^ 32) }
     ensures registers { IfOk result (All (All (All HasCallRegister))) }
 {
     laws::places();

@@ -3,12 +3,10 @@ ghost use Rattle.std.specs.Prelude.{◌≡◌, ◌<◌, AllPairs, IfOk};
 ghost use Rattle.rt_liveness.specs.Ends.{is_end, ends_of};
 
 use rt_base::{Memory, Sequence};
+use rt_elf::section_index::UNDEFINED;
 use rt_elf::{Object, Symbol};
 use rt_sigs::Sigs;
 use std::alloc::Global;
-
-// SHN_UNDEF (ELF gABI, "Special Section Indexes").
-const UNDEFINED: u16 = 0;
 
 /// Numbers, of symbols say.
 pub type Numbers = Sequence<u32>;

@@ -16,6 +16,7 @@ use crate::rule::{Port, Rule, When};
 use rt_base::{Memory, Sequence};
 use rt_body::Body;
 use rt_flow::Def;
+use rt_insn::registers::A0;
 use rt_proc::{Callee, Kind, Proc, Site};
 use std::alloc::Global;
 
@@ -34,7 +35,7 @@ pub(crate) fn when_given(named: &[Named], callee: Callee, r: u8) -> When
     match callee {
         Callee::Proc(procedure) => When::If(Port {
             procedure,
-            register: 10 + r,
+            register: A0 + r,
         }),
         Callee::Extern(symbol) => when_true(is_given(named, symbol, r)),
         Callee::Unknown(_) => when_true(r == 0),
@@ -72,7 +73,7 @@ fn add_writer(
             when: when_written(named, writer.kind, r),
             port: Port {
                 procedure: procedure.number,
-                register: 10 + r,
+                register: A0 + r,
             },
         }),
         None => Ok(()),
@@ -109,7 +110,7 @@ fn add_return(
         (reading_of procedure.now.body.now).reaching procedure.now.number site)) }
 {
     for r in 0..2 {
-        let defs = procedure.body.reaching(site, 10 + r);
+        let defs = procedure.body.reaching(site, A0 + r);
         add_writers(rules, named, procedure, r, defs)?;
     }
     Ok(())
@@ -149,7 +150,7 @@ fn add_callee(
             when: when_given(named, callee, r),
             port: Port {
                 procedure,
-                register: 10 + r,
+                register: A0 + r,
             },
         })?;
     }

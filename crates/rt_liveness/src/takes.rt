@@ -21,6 +21,7 @@ use indexmap::IndexSet;
 use rt_base::{Memory, Sequence};
 use rt_body::Body;
 use rt_flow::Def;
+use rt_insn::registers::A0;
 use rt_proc::{Callee, Callees, Kind, Proc, Site};
 use std::alloc::Global;
 
@@ -99,7 +100,7 @@ fn returns_real(
     requires { 10 ≤ register }
     ensures { result ≡ returns_real given.now.keys named.now sites.now kind register defs.now }
 {
-    is_return(kind) && register <= 11 && has_real(given, named, sites, register - 10, defs)
+    is_return(kind) && register <= 11 && has_real(given, named, sites, register - A0, defs)
 }
 
 // Whether a site of a kind reads an argument register itself, of which these definitions reach it.
@@ -134,7 +135,7 @@ pub(crate) fn when_taken(
             procedure,
             register,
         }),
-        Callee::Extern(symbol) => when_true(is_taken(named, symbol, register - 10)),
+        Callee::Extern(symbol) => when_true(is_taken(named, symbol, register - A0)),
         Callee::Unknown(_) => when_true(has_own(sites, defs)),
     }
 }
@@ -229,7 +230,7 @@ fn add_site(
 {
     let callees = callees_of(alloc, site)?;
     for n in 0..8 {
-        let defs = procedure.body.reaching(number, 10 + n);
+        let defs = procedure.body.reaching(number, A0 + n);
         add_register(
             rules,
             given,
@@ -237,7 +238,7 @@ fn add_site(
             procedure,
             site.kind,
             callees.items(),
-            10 + n,
+            A0 + n,
             defs,
         )?;
     }

@@ -4,10 +4,11 @@ ghost use Rattle.rt_make.specs.Layout.{symbols_place, strings_place, strings_end
 ghost use Rattle.rt_make.specs.Layout.{code_section, symbol_section, string_section, reloc_section};
 
 use rt_elf::Section;
+use rt_elf::section_type::{NULL, PROGBITS, RELA, STRTAB, SYMTAB};
 
 // The section of index 0.
 pub(crate) const NULL_SECTION: Section = Section {
-    kind: 0,
+    kind: NULL,
     flags: 0,
     offset: 0,
     size: 0,
@@ -62,7 +63,7 @@ impl Layout {
         ensures { result ≡ code_section self.now.words }
     {
         Section {
-            kind: 1,
+            kind: PROGBITS,
             flags: 6,
             offset: 52,
             size: 4 * self.words,
@@ -75,7 +76,7 @@ impl Layout {
         ensures { result ≡ symbol_section self.now.words self.now.relocs self.now.symbols }
     {
         Section {
-            kind: 2,
+            kind: SYMTAB,
             flags: 0,
             offset: self.symbols_place(),
             size: 16 * self.symbols,
@@ -88,7 +89,7 @@ impl Layout {
         ensures { result ≡ string_section self.now.words self.now.relocs self.now.symbols self.now.strings }
     {
         Section {
-            kind: 3,
+            kind: STRTAB,
             flags: 0,
             offset: self.strings_place(),
             size: self.strings,
@@ -101,7 +102,7 @@ impl Layout {
         ensures { result ≡ reloc_section self.now.words self.now.relocs }
     {
         Section {
-            kind: 4,
+            kind: RELA,
             flags: 0,
             offset: 52 + 4 * self.words,
             size: 12 * self.relocs,

@@ -2,10 +2,12 @@
 #![tactic(auto)]
 
 mod layout;
+mod made;
 mod numbers;
 mod packing;
 mod strings;
 
+pub use made::{MakeFault, object};
 pub use packing::pack;
 
 #[cfg(test)]

@@ -1,9 +1,10 @@
 // Lines in slots, where each is found.
 ghost use Rattle.std.specs.Prelude.{◌≡◌, ℕ, ◌<◌, [], ◌∷◌, ◌++◌, None, Some, length};
 ghost use Rattle.std.specs.Prelude.{slice_index_or, slice_set, IfOk, IsTrue, MatchOption, OnOk, ◌↔◌};
+ghost use Rattle.rt_lines.specs.declared.line.Line.{Line as Held};
 ghost use Rattle.rt_lines.specs.declared.variable.Dtv.{Dtv as Variable};
 ghost use Rattle.rt_polar.specs.Index.{has};
-ghost use Rattle.rt_polar.specs.Inside.Places.{ArePlaces, AreUses, Holds, IsSoleAt, Settles};
+ghost use Rattle.rt_polar.specs.Inside.Places.{AreHeld, ArePlaces, AreUses, Holds, IsSoleAt, Settles};
 ghost use Rattle.rt_polar.specs.Tidied.{without_self};
 
 use crate::choosing::beside;
@@ -81,6 +82,24 @@ impl Places {
         row
     }
 
+    // Notes beside the slots a line that none of them holds, as if the empty slot held it.
+    fn enter(&mut self, row: &Row, slot: usize) -> Result<(), Memory>
+        requires places { ArePlaces self.old }
+        requires within { slot < length self.old.slots.items }
+        requires empty { slice_index_or self.old.slots.items slot None ≡ None }
+        requires absent { (i : ℕ) → Holds self.old.slots.items i row.now → ⊥ }
+        requires plain { without_self row.now ≡ row.now }
+        ensures held { OnOk result (AreHeld (slice_set self.old.slots.items slot (Some row.now)) (has self.new.at)
+            (has self.new.naming) (has self.new.defining) (has self.new.consuming)) }
+        ensures slots { OnOk result (self.new.slots.items ≡ self.old.slots.items) }
+    {
+        note(&mut self.naming, Kind::Naming, row, slot)?;
+        note(&mut self.defining, Kind::Defining, row, slot)?;
+        note(&mut self.consuming, Kind::Consuming, row, slot)?;
+        self.at.insert((row.digest(), slot))?;
+        Ok(())
+    }
+
     // Puts a line that no slot holds into an empty slot.
     fn fill(&mut self, slot: usize, row: Row) -> Result<(), Memory>
         requires places { ArePlaces self.old }
@@ -91,29 +110,28 @@ impl Places {
         ensures places { OnOk result (ArePlaces self.new) }
         ensures slots { OnOk result (self.new.slots.items ≡ slice_set self.old.slots.items slot (Some row)) }
     {
-        note(&mut self.naming, Kind::Naming, &row, slot)?;
-        note(&mut self.defining, Kind::Defining, &row, slot)?;
-        note(&mut self.consuming, Kind::Consuming, &row, slot)?;
-        self.at.insert((row.digest(), slot))?;
+        self.enter(&row, slot)?;
         self.slots[slot] = Some(row);
         Ok(())
     }
 
-    // Puts a line into an empty slot, which another slot holds already, but that the first alone stays.
-    fn settle_beside(&mut self, other: usize, slot: usize, row: Row) -> Result<(), Memory>
+    // The line of a slot is to stand in an empty one too: it stays in the first of the two alone.
+    fn settle_beside(&mut self, other: usize, slot: usize) -> Result<(), Memory>
         requires places { ArePlaces self.old }
         requires within { slot < length self.old.slots.items }
         requires empty { slice_index_or self.old.slots.items slot None ≡ None }
-        requires held { Holds self.old.slots.items other row }
-        requires plain { without_self row ≡ row }
+        requires held { (l : Held) × Holds self.old.slots.items other l }
         ensures places { OnOk result (ArePlaces self.new) }
-        ensures settles { OnOk result (Settles self.old.slots.items slot row self.new.slots.items) }
+        ensures settles { OnOk result ((l : Held) → Holds self.old.slots.items other l →
+            Settles self.old.slots.items slot l self.new.slots.items) }
     {
         if other < slot {
             return Ok(());
         }
-        self.clear(other);
-        self.fill(slot, row)
+        match self.clear(other) {
+            Some(row) => self.fill(slot, row),
+            None => unreachable!(),
+        }
     }
 
     // The slot of the line, if one holds it.
@@ -143,7 +161,7 @@ impl Places {
         ensures settles { OnOk result (Settles self.old.slots.items slot row self.new.slots.items) }
     {
         match self.find(&row) {
-            Some(other) => self.settle_beside(other, slot, row),
+            Some(other) => self.settle_beside(other, slot),
             None => self.fill(slot, row),
         }
     }

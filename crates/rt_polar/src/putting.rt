@@ -23,13 +23,7 @@ pub fn put_in(x: &Dtv, v: u32, side: &Dtv) -> Result<Dtv, Memory>
 fn put_in_line(line: &Line, v: u32, side: &Dtv) -> Result<Line, Memory>
     ensures { IfOk result (λ r. r ≡ map_line (put_there v side.now) line.now) }
 {
-    match line {
-        Line::Var(x) => Ok(Line::Var(put_in(x, v, side)?)),
-        Line::Same(x, y) => Ok(Line::Same(put_in(x, v, side)?, put_in(y, v, side)?)),
-        Line::Sub(x, y) => Ok(Line::Sub(put_in(x, v, side)?, put_in(y, v, side)?)),
-        Line::Low(k, x) => Ok(Line::Low(*k, put_in(x, v, side)?)),
-        Line::Up(x, k) => Ok(Line::Up(put_in(x, v, side)?, *k)),
-    }
+    line.map(|x| put_in(x, v, side))
 }
 
 /// The lines with the side in the existential's place. The error is out of memory.

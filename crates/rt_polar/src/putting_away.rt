@@ -1,5 +1,5 @@
 // Existentials that give their places away, the least with a candidate first, until none has one.
-ghost use Rattle.std.specs.Prelude.{◌≡◌, ◌≢◌, ℕ, ◌<◌, ◌≤◌, [], ◌∷◌, ◌++◌, Option, Some};
+ghost use Rattle.std.specs.Prelude.{◌≡◌, ◌≢◌, ℕ, ◌<◌, ◌≤◌, List, [], ◌∷◌, ◌++◌, Option, Some};
 ghost use Rattle.std.specs.Prelude.{None, true, length, slice_set, IfOk, MatchOption, OnOk};
 ghost use Rattle.std.specs.BTreeSet.{contains};
 ghost use Rattle.std.specs.Ordering.{nat_cmp};
@@ -213,11 +213,33 @@ fn placed(alloc: Global, lines: Lines) -> Result<Places, Memory>
     ensures lines { IfOk result (λ places. lines_of places.slots.items ≡ tidied lines) }
 {
     let mut places = Places::new(alloc);
-    for line in lines.into_vec() {
-        let slot = places.add_slot()?;
-        places.settle(slot, Row::of(self_to_var(line)))?;
-    }
+    place_all(&mut places, lines)?;
     Ok(places)
+}
+
+// Puts the lines into slots of their own, tidied, where there are none.
+fn place_all(places: &mut Places, lines: Lines) -> Result<(), Memory>
+    requires places { ArePlaces places.old }
+    requires none { places.old.slots.items ≡ [] }
+    ensures places { OnOk result (ArePlaces places.new) }
+    ensures lines { OnOk result (lines_of places.new.slots.items ≡ tidied lines) }
+{
+    for line in lines.into_vec() {
+        place(places, line)?;
+    }
+    Ok(())
+}
+
+// Puts a line into a slot of its own behind the others, tidied.
+fn place(places: &mut Places, line: Line) -> Result<(), Memory>
+    requires { ArePlaces places.old }
+    ensures places { OnOk result (ArePlaces places.new) }
+    ensures lines { OnOk result ((lines : List TheLine) → lines_of places.old.slots.items ≡ tidied lines →
+        lines_of places.new.slots.items ≡ tidied (lines ++ line ∷ [])) }
+{
+    let slot = places.add_slot()?;
+    places.settle(slot, Row::of(self_to_var(line)))?;
+    Ok(())
 }
 
 // The existentials that lines in slots name.
@@ -255,15 +277,24 @@ fn gathered(alloc: Global, slots: Vec<Option<Row>>) -> Result<Lines, Memory>
     Ok(Sequence::from_vec(lines))
 }
 
+// Existentials give their places away, the least with a candidate first, until none has one.
+fn give_all(alloc: Global, places: &mut Places) -> Result<(), Memory>
+    requires { ArePlaces places.old }
+    ensures { OnOk result (Puts (lines_of places.new.slots.items) (lines_of places.old.slots.items)) }
+{
+    let mut pending = named(alloc, &places.slots)?;
+    while let Some(turn) = next_turn(places, &mut pending) {
+        give_away(places, &mut pending, turn)?;
+    }
+    Ok(())
+}
+
 /// What is left of the lines, tidied, when existentials gave their places away, the least with a candidate first, until
 /// none has one. The error is out of memory.
 pub fn put_away(alloc: Global, lines: Lines) -> Result<Lines, Memory>
     ensures { IfOk result (λ left. Puts left (tidied lines)) }
 {
     let mut places = placed(alloc, lines)?;
-    let mut pending = named(alloc, &places.slots)?;
-    while let Some(turn) = next_turn(&places, &mut pending) {
-        give_away(&mut places, &mut pending, turn)?;
-    }
+    give_all(alloc, &mut places)?;
     gathered(alloc, places.slots)
 }

@@ -105,6 +105,45 @@ fn is_of(x: &Dtv, variance: Variance, v: u32, sign: Variance) -> bool
     x.base == Base::Exist(v) && variance == sign
 }
 
+// Both sides with another one in the existential's place, which the last does not name.
+fn first_with(
+    x: KnownSide,
+    y: KnownSide,
+    v: u32,
+    other: KnownSide,
+) -> Result<(KnownSide, KnownSide), Memory>
+    requires { y.base ≢ Existential v }
+    ensures { IfOk result (λ r. (r.0 ≡ put_there v other x) × (r.1 ≡ put_there v other y)) }
+{
+    Ok((x.with(v, other)?, y))
+}
+
+// Both sides with another one in the existential's place, which the first does not name.
+fn last_with(
+    x: KnownSide,
+    y: KnownSide,
+    v: u32,
+    other: KnownSide,
+) -> Result<(KnownSide, KnownSide), Memory>
+    requires { x.base ≢ Existential v }
+    ensures { IfOk result (λ r. (r.0 ≡ put_there v other x) × (r.1 ≡ put_there v other y)) }
+{
+    Ok((x, y.with(v, other)?))
+}
+
+// Both sides with another one, and a copy of it, in the existential's place.
+fn each_with(
+    x: KnownSide,
+    y: KnownSide,
+    v: u32,
+    other: KnownSide,
+) -> Result<(KnownSide, KnownSide), Memory>
+    ensures { IfOk result (λ r. (r.0 ≡ put_there v other x) × (r.1 ≡ put_there v other y)) }
+{
+    let first = x.with(v, other.copy()?)?;
+    Ok((first, y.with(v, other)?))
+}
+
 // Both sides with another one in the existential's place.
 fn both_with(
     x: KnownSide,
@@ -115,13 +154,12 @@ fn both_with(
     ensures { IfOk result (λ r. (r.0 ≡ put_there v other x) × (r.1 ≡ put_there v other y)) }
 {
     if y.base() != Base::Exist(v) {
-        return Ok((x.with(v, other)?, y));
+        first_with(x, y, v, other)
+    } else if x.base() != Base::Exist(v) {
+        last_with(x, y, v, other)
+    } else {
+        each_with(x, y, v, other)
     }
-    if x.base() != Base::Exist(v) {
-        return Ok((x, y.with(v, other)?));
-    }
-    let first = x.with(v, other.copy()?)?;
-    Ok((first, y.with(v, other)?))
 }
 
 impl Row {

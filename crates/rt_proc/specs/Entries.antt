@@ -1,9 +1,10 @@
 -- The entries of procedures.
-use Rattle.std.specs.Prelude.{◌≡◌, ℕ, ◌==◌, ◌&&◌, ◌||◌, not, Bool, IsTrue, Ok, Contains, List, ◌++◌}
+use Rattle.std.specs.Prelude.{◌≡◌, ℕ, ◌==◌, ◌&&◌, not, Bool, IsTrue, Ok, Contains, List, ◌++◌}
 use Rattle.rt_elf.specs.Parts.{Parts as Object}
 use Rattle.rt_elf.specs.declared.symbol.Symbol.{Symbol}
 use Rattle.rt_elf.specs.Object.{section_of}
 use Rattle.rt_elf.specs.Sections.{is_code_section}
+use Rattle.rt_elf.specs.Symbols.{is_special}
 use Rattle.rt_link.specs.declared.place.Place.{Place}
 use Rattle.rt_control.specs.declared.form.Form.{Form}
 use Rattle.rt_control.specs.Places.{is_good}
@@ -13,7 +14,7 @@ use Rattle.rt_proc.specs.Walks.{Walk}
 
 -- SHN_UNDEF, SHN_ABS, SHN_COMMON: the symbol is of no section (ELF gABI, "Special Section Indexes")
 abbrev pub has_no_section : Symbol → Bool
-has_no_section symbol = (symbol.section == 0) || (symbol.section == 0xFFF1) || (symbol.section == 0xFFF2)
+has_no_section symbol = is_special symbol.section
 
 -- a function of an executable section, STT_FUNC (ELF gABI, "Symbol Table")
 abbrev pub is_function : Object → Symbol → Bool

@@ -13,7 +13,7 @@ use std::alloc::AllocError;
 ///   branch or of an entry of a table.
 /// - 32: a site steps to a continuation that is no place of code.
 /// - 33: a site jumps through a register, and neither returns nor jumps to an entry of a table.
-#[derive(Clone, Copy, Debug, PartialEq, Eq)]
+#[derive(Clone, Copy, Debug)]
 pub enum CodeFault {
     Bad { number: u8, place: Place },
     Memory,

@@ -7,16 +7,11 @@ use crate::fault::CodeFault;
 use crate::site::Places;
 use rt_base::Sequence;
 use rt_control::{Place, is_good};
+use rt_elf::section_index::{ABSOLUTE, COMMON, UNDEFINED};
 use rt_elf::{Object, Symbol};
 use std::alloc::Global;
 
-// SHN_UNDEF, SHN_ABS and SHN_COMMON (ELF gABI, "Special Section Indexes"), and STT_FUNC (ELF gABI, "Symbol Table").
-const UNDEFINED: u16 = 0;
-
-const ABSOLUTE: u16 = 0xFFF1;
-
-const COMMON: u16 = 0xFFF2;
-
+// STT_FUNC (ELF gABI, "Symbol Table").
 const FUNCTION: u8 = 2;
 
 // Whether a symbol is a function of an executable section.

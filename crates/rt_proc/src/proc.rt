@@ -6,7 +6,7 @@ use rt_elf::Name;
 
 /// A procedure: where it is entered, its name, which is empty where no function's symbol stands there, and the sites of
 /// its body, by their places.
-#[derive(Debug, Drop)]
+#[derive(Drop)]
 pub struct Proc {
     pub entry: Place,
     pub name: Name,

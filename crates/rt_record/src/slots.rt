@@ -15,7 +15,7 @@ use rt_lines::{Base, Dtv, Label, Line, first_free};
 use std::alloc::Global;
 
 // A field of an existential.
-#[derive(Clone, Copy, Debug, PartialEq, Eq, Hash)]
+#[derive(Clone, Copy, PartialEq, Eq, Hash)]
 pub(crate) struct Slot {
     // The existential.
     pub(crate) holder: u32,

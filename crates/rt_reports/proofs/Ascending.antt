@@ -2,11 +2,7 @@
 use Rattle.std.proofs.Common.{◌≡◌, ℕ, zero, suc, ◌+◌, ◌<◌, ◌≤◌, List, [], ◌∷◌, ◌++◌, slice_index, subst, arith}
 use Rattle.std.specs.List.Sorted.{IsStrictlyIncreasing}
 use Rattle.rt_reports.specs.Inside.Drafts.{least_after}
-
--- each number is at least the one that is left after those before it
-abbrev pub RisesFrom : ℕ → List ℕ → Type 0
-RisesFrom low [] = Unit {0}
-RisesFrom low (n ∷ ns) = (low ≤ n) × RisesFrom (n + 1) ns
+use Rattle.rt_reports.specs.Inside.Reads.{RisesFrom}
 
 pub least_after-append : (low : ℕ) (ns ms : List ℕ) → least_after low (ns ++ ms) ≡ least_after (least_after low ns) ms
 least_after-append low [] ms = λ i. least_after low ms

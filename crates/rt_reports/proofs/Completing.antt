@@ -18,11 +18,12 @@ use Rattle.rt_reports.specs.GoodReports.{IsGlobal, IsEntry, IsReport, numbers_of
 use Rattle.rt_reports.specs.ReportReadings.{IsFront}
 use Rattle.rt_reports.specs.Inside.Rows.{row_text}
 use Rattle.rt_reports.specs.Inside.Drafts.{Parts, least_after, AllNamed}
+use Rattle.rt_reports.specs.Inside.Reads.{IsGood, RisesFrom, entry_rows, heading_row, listed_rows, parts_rows, report_rows, rows_text}
 use Rattle.rt_reports.specs.declared.row.Row.{Row}
 use Rattle.rt_reports.specs.declared.row.Row.TheVariants.{Heading, Stated, End}
-use Rattle.rt_reports.proofs.Ascending.{RisesFrom, RisesFrom-increasing}
-use Rattle.rt_reports.proofs.Rows.{rows_text, heading_row, listed_rows, entry_rows, report_rows, parts_rows, report_rows-text}
-use Rattle.rt_reports.proofs.Drafts.{IsGood, made, entries_globals-push, entry_numbers-push, good_with, rows_with}
+use Rattle.rt_reports.proofs.Ascending.{RisesFrom-increasing}
+use Rattle.rt_reports.proofs.Rows.{report_rows-text}
+use Rattle.rt_reports.proofs.Drafts.{made, entries_globals-push, entry_numbers-push, good_with, rows_with}
 
 -- good parts with no entry whose end is to come, each of whose globals is named, are a report
 pub whole_report : (count : ℕ) (globals : List (ℕ × List ℕ)) (entries : List Entry) → IsGood count (made globals entries None) → AllNamed (made globals entries None) → IsReport count (record { globals = globals; entries = entries })

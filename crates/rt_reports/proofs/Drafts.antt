@@ -1,5 +1,5 @@
 -- What is known of a report that is read in part.
-use Rattle.std.proofs.Common.{◌≡◌, ℕ, ◌≤◌, ◌^◌, List, [], ◌∷◌, ◌++◌, Option, Some, None, All, Contains, map, fold, refl, ap, sym, subst, ◌∙◌, arith, append_assoc, append-nil}
+use Rattle.std.proofs.Common.{◌≡◌, ℕ, ◌≤◌, List, [], ◌∷◌, ◌++◌, Option, Some, None, All, Contains, map, fold, refl, ap, sym, subst, ◌∙◌, arith, append_assoc, append-nil}
 use Rattle.std.specs.List.{flat_map}
 use Rattle.std.proofs.lemmas.Grind.{flat_map-append}
 use Rattle.std.proofs.lemmas.List.{map-append}
@@ -12,11 +12,11 @@ use Rattle.rt_scheme.specs.declared.report.Entry.{Entry}
 use Rattle.rt_reports.specs.Globals.{line_globals, lines_globals, entries_globals}
 use Rattle.rt_reports.specs.GoodReports.{IsGlobal, IsEntry, numbers_of, entry_numbers}
 use Rattle.rt_reports.specs.Inside.Rows.{IsRow}
-use Rattle.rt_reports.specs.Inside.Drafts.{Parts, no_parts, all_entries, parts_globals, least_after, least_entry, AllNamed, with_line, with_row, Allows}
+use Rattle.rt_reports.specs.Inside.Drafts.{Parts, no_parts, least_after, with_line, with_row, Allows}
+use Rattle.rt_reports.specs.Inside.Reads.{IsGood, RisesFrom, entry_rows, heading_row, listed_rows, parts_rows}
 use Rattle.rt_reports.specs.declared.row.Row.{Row}
 use Rattle.rt_reports.specs.declared.row.Row.TheVariants.{Listed, Heading, Stated, End}
-use Rattle.rt_reports.proofs.Ascending.{RisesFrom, RisesFrom-push}
-use Rattle.rt_reports.proofs.Rows.{heading_row, listed_rows, entry_rows, parts_rows}
+use Rattle.rt_reports.proofs.Ascending.{RisesFrom-push}
 
 -- the globals of entries, one more
 pub entries_globals-push : (entries : List Entry) (entry : Entry) → entries_globals (entries ++ entry ∷ []) ≡ entries_globals entries ++ lines_globals entry.lines
@@ -32,15 +32,7 @@ entry_numbers-push entries entry = map-append (λ (e : Entry). e.number) entries
 pub numbers_of-push : (globals : List (ℕ × List ℕ)) (n : ℕ) (name : List ℕ) → numbers_of (globals ++ (n, name) ∷ []) ≡ numbers_of globals ++ n ∷ []
 numbers_of-push globals n name = map-append (λ (g : ℕ × List ℕ). g.0) globals ((n, name) ∷ [])
 
--- the parts are in range, their numbers rise, each global that is named is listed, and where no number is left each that is listed is named
-pub record IsGood (count : ℕ) (parts : Parts) : Type 0 where
-  pub globals : All IsGlobal parts.globals
-  pub entries : All (IsEntry count) (all_entries parts.entries parts.unfinished)
-  pub globals_rise : RisesFrom 0 (numbers_of parts.globals)
-  pub entries_rise : RisesFrom 0 (entry_numbers (all_entries parts.entries parts.unfinished))
-  pub listed : All (Contains (numbers_of parts.globals)) (parts_globals parts)
-  pub full : parts.unfinished ≡ None → 2 ^ 32 ≤ least_entry parts → AllNamed parts
-
+-- what was read is good
 pub no_parts-good : (count : ℕ) → IsGood count no_parts
 no_parts-good count = record {
   globals = All-nil IsGlobal;

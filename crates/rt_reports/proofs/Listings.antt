@@ -1,5 +1,5 @@
 -- What is kept with globals and with entries.
-use Rattle.std.proofs.Common.{◌≡◌, ℕ, ◌+◌, ◌≤◌, ◌<◌, ◌^◌, ◌⊎◌, inl, inr, Bool, true, false, ◌↔◌, IsTrue, get_or, take, take_all, List, [], ◌∷◌, ◌++◌, Option, Some, None, All, Contains, fold, length, nat_eq, refl, ap, sym, subst, ◌∙◌, append_assoc, append-nil}
+use Rattle.std.proofs.Common.{◌≡◌, ℕ, ◌+◌, ◌≤◌, ◌<◌, ◌⊎◌, inl, inr, Bool, true, false, ◌↔◌, IsTrue, get_or, take, take_all, List, [], ◌∷◌, ◌++◌, Option, Some, None, All, Contains, fold, length, nat_eq, refl, ap, sym, subst, ◌∙◌, append-nil}
 use Rattle.std.specs.Option.{is_some}
 use Rattle.std.proofs.lemmas.List.Sums.{fold-append}
 use Rattle.std.proofs.lemmas.List.Elements.{All-append, All-contains, All-map, All-more}
@@ -10,13 +10,11 @@ use Rattle.rt_lines.specs.declared.variable.Dtv.{Dtv}
 use Rattle.rt_lines.specs.declared.line.Line.{Line}
 use Rattle.rt_lines.specs.declared.line.Line.TheVariants.{Var, Same, Sub, Low, Up}
 use Rattle.rt_scheme.specs.declared.report.Entry.{Entry}
-use Rattle.rt_scheme.specs.declared.report.Report.{Report}
 use Rattle.rt_reports.specs.Globals.{base_globals, line_globals, lines_globals, entries_globals}
 use Rattle.rt_reports.specs.GoodReports.{numbers_of}
-use Rattle.rt_reports.specs.Inside.Drafts.{Parts, all_entries, least_after, least_entry, AllNamed, with_line, with_row, IsUnfinished, Allows, IsWhole, report_of, IsListing, IsDraft}
-use Rattle.rt_reports.specs.declared.row.Row.TheVariants.{Stated, End}
+use Rattle.rt_reports.specs.Inside.Drafts.{all_entries, least_after, AllNamed, IsUnfinished, IsListing, IsDraft}
 use Rattle.rt_reports.proofs.Runs.{least-push_global, least-push_entry}
-use Rattle.rt_reports.proofs.Drafts.{made, entries_globals-push, lines_globals-push, numbers_of-push}
+use Rattle.rt_reports.proofs.Drafts.{made, entries_globals-push, numbers_of-push}
 use Rattle.rt_reports.proofs.Sets.{numbered_has, numbered_all}
 
 -- equivalences in a row
@@ -80,16 +78,6 @@ pub draft_begun : (entries : List Entry) (unfinished : Option Entry) (named : Li
 draft_begun entries unfinished named least k entry none draft empty same =
     subst (λ n. IsDraft entries (Some entry) named (n + 1)) (sym same) (draft_heading entries named least entry (subst (λ u. IsDraft entries u named least) none draft) empty)
 
--- one line more
-pub draft_line : (entries : List Entry) (entry : Entry) (named : List ℕ) (least : ℕ) (line : Line) → IsDraft entries (Some entry) named least → IsDraft entries (Some (with_line entry line)) (fold (insert_key nat_eq) named (line_globals line)) least
-draft_line entries entry named least line draft =
-    let names : entries_globals (entries ++ with_line entry line ∷ []) ≡ entries_globals (entries ++ entry ∷ []) ++ line_globals line =
-    entries_globals-push entries (with_line entry line) ∙ (ap (λ s. entries_globals entries ++ s) (lines_globals-push entry.lines line) ∙ (sym (append_assoc (entries_globals entries) (lines_globals entry.lines) (line_globals line)) ∙ ap (λ s. s ++ line_globals line) (sym (entries_globals-push entries entry)))) in
-    record {
-      named_are = ap (λ s. fold (insert_key nat_eq) s (line_globals line)) draft.named_are ∙ (sym (fold-append (insert_key nat_eq) [] (entries_globals (entries ++ entry ∷ [])) (line_globals line)) ∙ ap (fold (insert_key nat_eq) []) (sym names));
-      risen = draft.risen ∙ (least-push_entry entries entry ∙ sym (least-push_entry entries (with_line entry line)));
-    }
-
 -- both parts of a list
 pub All-both : (P : ℕ → Type 0) (xs ys : List ℕ) → (All P xs × All P ys) ↔ All P (xs ++ ys)
 All-both P xs ys = (λ both. All-append P xs ys both.0 both.1, λ all. (All-front P xs ys all, All-back P xs ys all))
@@ -122,35 +110,10 @@ not_first P line x y first is false_first left =
 pub named_all : (globals : List (ℕ × List ℕ)) (entries : List Entry) (unfinished : Option Entry) (named : List ℕ) (least : ℕ) (r : Bool) → IsDraft entries unfinished named least → IsTrue r ↔ All (Contains named) (numbers_of globals) → IsTrue r ↔ AllNamed (made globals entries unfinished)
 named_all globals entries unfinished named least r draft test = iff_trans test (numbered_all named (entries_globals (all_entries entries unfinished)) (numbers_of globals) draft.named_are)
 
--- a line may not follow where a global of it isn't listed
-pub not_listed : (parts : Parts) (globals : List (ℕ × List ℕ)) (entries : List Entry) (unfinished : Option Entry) (line : Line) → made globals entries unfinished ≡ parts → IsTrue false ↔ All (Contains (numbers_of globals)) (line_globals line) → Allows parts (Stated line) → ⊥
-not_listed parts globals entries unfinished line is test allowed =
-    false≢true (test.1 (subst (λ (s : List (ℕ × List ℕ)). All (Contains (numbers_of s)) (line_globals line)) (ap (λ (p : Parts). p.globals) (sym is)) allowed.1))
+-- a test that fails says that what it tests is not so
+pub not_so : {X : Type 0} → IsTrue false ↔ X → X → ⊥
+not_so test x = false≢true (test.1 x)
 
--- else it may
-pub line_follows : (parts : Parts) (globals : List (ℕ × List ℕ)) (entries : List Entry) (unfinished : Option Entry) (entry : Entry) (line : Line) (lines : List Line) → made globals entries unfinished ≡ parts → unfinished ≡ Some entry → All (Contains (numbers_of globals)) (line_globals line) → lines ≡ entry.lines ++ line ∷ [] → Allows parts (Stated line) × (made globals entries (Some (record { number = entry.number; place = entry.place; name = entry.name; lines = lines })) ≡ with_row parts (Stated line))
-line_follows parts globals entries unfinished entry line lines is some listed pushed =
-    let last : Entry = record { number = entry.number; place = entry.place; name = entry.name; lines = lines } in
-    let same : made globals entries (Some last) ≡ made globals entries (Some (with_line entry line)) = λ i. made globals entries (Some (record { number = entry.number; place = entry.place; name = entry.name; lines = pushed i })) in
-    subst (λ p. Allows p (Stated line) × (made globals entries (Some last) ≡ with_row p (Stated line))) (ap (made globals entries) (sym some) ∙ is) ((tt, listed), same)
-
--- an entry's end may not follow where no number is left and a global isn't named
-pub not_full : (parts : Parts) (globals : List (ℕ × List ℕ)) (entries : List Entry) (unfinished : Option Entry) (named : List ℕ) (least : ℕ) → made globals entries unfinished ≡ parts → IsDraft entries unfinished named least → 2 ^ 32 ≤ least → IsTrue false ↔ AllNamed parts → Allows parts End → ⊥
-not_full parts globals entries unfinished named least is draft full test allowed =
-    false≢true (test.1 (allowed.1 (subst (λ n. 2 ^ 32 ≤ n) (draft.risen ∙ ap least_entry is) full)))
-
--- else it may
-pub end_follows : (parts : Parts) (globals : List (ℕ × List ℕ)) (entries : List Entry) (unfinished : Option Entry) (entry : Entry) (named : List ℕ) (least : ℕ) (pushed : List Entry) → made globals entries unfinished ≡ parts → unfinished ≡ Some entry → IsDraft entries unfinished named least → (2 ^ 32 ≤ least → AllNamed parts) → pushed ≡ entries ++ entry ∷ [] → Allows parts End × (made globals pushed None ≡ with_row parts End)
-end_follows parts globals entries unfinished entry named least pushed is some draft full grown =
-    let same : made globals entries (Some entry) ≡ parts = ap (made globals entries) (sym some) ∙ is in
-    let risen : least ≡ least_entry parts = draft.risen ∙ ap least_entry is in
-    let begun : IsUnfinished parts.unfinished = subst (λ (p : Parts). IsUnfinished p.unfinished) same tt in
-    let last : made globals pushed None ≡ with_row parts End = ap (λ s. made globals s None) grown ∙ ap (λ p. with_row p End) same in
-    ((begun, λ high. full (subst (λ n. 2 ^ 32 ≤ n) (sym risen) high)), last)
-
--- what was read is whole where no end is to come and each global is named
-pub finished : (parts : Parts) (globals given : List (ℕ × List ℕ)) (entries : List Entry) (unfinished : Option Entry) → made globals entries unfinished ≡ parts → unfinished ≡ None → AllNamed parts → given ≡ globals → IsWhole parts × (◌≡◌ {A = Report} (record { globals = given; entries = entries }) (report_of parts))
-finished parts globals given entries unfinished is none named same =
-    let whole : parts.unfinished ≡ None = ap (λ (p : Parts). p.unfinished) (sym is) ∙ none in
-    let first : ◌≡◌ {A = Report} (record { globals = given; entries = entries }) (record { globals = globals; entries = entries }) = λ i. record { globals = same i; entries = entries } in
-    ((whole, named), first ∙ ap report_of is)
+pub begun_if : (o : Option Entry) → is_some o ≡ true → IsUnfinished o
+begun_if None is = absurd (false≢true is)
+begun_if (Some entry) is = tt

@@ -1,13 +1,12 @@
 -- A text is that of one report alone.
-use Rattle.std.proofs.Common.{◌≡◌, ℕ, List, [], fold, length, ap, sym, ◌∙◌, append-nil}
-use Rattle.rt_lines.specs.Names.{AreNames}
+use Rattle.std.proofs.Common.{◌≡◌, ℕ, [], fold, length, ap, sym, ◌∙◌, append-nil}
 use Rattle.rt_texts.specs.Readings.{HasNo}
 use Rattle.rt_scheme.specs.declared.report.Report.{Report}
-use Rattle.rt_scheme.specs.Reports.{report_text}
 use Rattle.rt_reports.specs.GoodReports.{IsReport}
 use Rattle.rt_reports.specs.ReportReadings.{OneReport}
 use Rattle.rt_reports.specs.Inside.Drafts.{no_parts, with_row, report_of}
-use Rattle.rt_reports.proofs.Rows.{rows_text, report_rows, report_rows-text, report_rows-good, same_rows}
+use Rattle.rt_reports.specs.Inside.Reads.{report_rows, rows_text}
+use Rattle.rt_reports.proofs.Rows.{report_rows-text, report_rows-good, same_rows}
 use Rattle.rt_reports.proofs.Runs.{Accepts-last, accept_report, ended}
 
 -- the end of an empty text has no line end

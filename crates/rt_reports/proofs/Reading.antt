@@ -1,6 +1,7 @@
 -- Texts that are read line by line.
-use Rattle.std.proofs.Common.{◌≡◌, ◌≢◌, ℕ, true, false, ◌+◌, ◌⊎◌, inl, inr, List, [], ◌∷◌, ◌++◌, Option, Some, None, All, map, fold, length, refl, ap, sym, subst, ◌∙◌, arith, append_assoc, append-nil, length-append, Contains}
+use Rattle.std.proofs.Common.{Ok, Err, MatchResult, ◌≡◌, ◌≢◌, ℕ, true, false, ◌+◌, ◌⊎◌, inl, inr, List, [], ◌∷◌, ◌++◌, Option, Some, None, All, map, fold, length, refl, ap, sym, subst, ◌∙◌, arith, append_assoc, append-nil, length-append, Contains}
 use Rattle.std.specs.List.{flat_map}
+use Rattle.std.specs.declared.result.Result.{Result}
 use Rattle.std.specs.Bool.{◌==◌}
 use Rattle.std.proofs.lemmas.Bool.Decides.{nat_tests}
 use Rattle.std.proofs.lemmas.Grind.{flat_map-append}
@@ -19,22 +20,18 @@ use Rattle.rt_reports.specs.Globals.{entries_globals}
 use Rattle.rt_reports.specs.GoodReports.{IsEntry, IsReport, numbers_of}
 use Rattle.rt_reports.specs.ReportReadings.{with_ends, IsFront, IsNoReport, IsBadLine, IsFault}
 use Rattle.rt_reports.specs.Inside.Rows.{row_text, IsRow}
-use Rattle.rt_reports.specs.Inside.Drafts.{Parts, no_parts, all_entries, AllNamed, with_row, Allows, IsWhole, report_of}
+use Rattle.rt_reports.specs.Inside.Drafts.{Parts, no_parts, all_entries, AllNamed, with_row, Allows, Follows, IsKept, IsWhole, parts_of, report_of}
+use Rattle.rt_reports.specs.declared.draft.Draft.{Draft}
+use Rattle.rt_reports.specs.Inside.Reads.{IsAllowed, IsGood, IsLineFault, IsRead, Takes, placed, entry_rows, heading_row, listed_rows, parts_rows, report_rows, rows_text, unfinished_rows}
 use Rattle.rt_reports.specs.declared.row.Row.{Row}
 use Rattle.rt_reports.specs.declared.row.Row.TheVariants.{Stated}
 use Rattle.rt_reports.proofs.RowTexts.{one_row, row_clear}
-use Rattle.rt_reports.proofs.Rows.{rows_text, heading_row, listed_rows, entry_rows, unfinished_rows, report_rows, parts_rows, report_rows-text, report_rows-good, listed_rows-good, stated_rows-good, entries_rows-good, next_row, same_rows}
+use Rattle.rt_reports.proofs.Rows.{report_rows-text, report_rows-good, listed_rows-good, stated_rows-good, entries_rows-good, next_row, same_rows}
 use Rattle.rt_reports.proofs.Runs.{Accepts, Accepts-row, Accepts-last, accept_report, ended}
-use Rattle.rt_reports.proofs.Drafts.{IsGood, made, no_parts-good, good_with, rows_with, again-more}
+use Rattle.rt_reports.proofs.Drafts.{made, no_parts-good, good_with, rows_with, again-more}
 use Rattle.rt_reports.proofs.Completing.{complete, whole_report}
 
--- good parts stand before the rest of a text, which begins with the line of this number
-pub record IsRead (names : List (List ℕ)) (text : List ℕ) (parts : Parts) (rest : List ℕ) (number : ℕ) : Type 0 where
-  pub good : IsGood (length names) parts
-  pub again : fold with_row no_parts (parts_rows parts) ≡ parts
-  pub joined : rows_text names (parts_rows parts) ++ rest ≡ text
-  pub counted : length (parts_rows parts) + 1 ≡ number
-
+-- where reading begins
 pub read_start : (names : List (List ℕ)) (text : List ℕ) → IsRead names text no_parts text 1
 read_start names text = record { good = no_parts-good (length names); again = refl; joined = refl; counted = omega arith }
 
@@ -68,13 +65,6 @@ parts_rows-good : (count : ℕ) (parts : Parts) → IsGood count parts → All (
 parts_rows-good count parts good =
     All-append (IsRow count) (listed_rows parts.globals) (flat_map entry_rows parts.entries ++ unfinished_rows parts.unfinished) (listed_rows-good count parts.globals good.globals) (unfinished_rows-good count parts.entries parts.unfinished good.entries)
 
--- a line with which a report's text goes on is that of a line that may follow
-record IsAllowed (names : List (List ℕ)) (parts : Parts) (line : List ℕ) : Type 0 where
-  row : Row
-  good : IsRow (length names) row
-  is : row_text names row ≡ line
-  allowed : Allows parts row
-
 before_text : (names : List (List ℕ)) (rows : List Row) → with_ends (map (row_text names) rows) ≡ rows_text names rows
 before_text names rows = flat_map-map (λ (line : List ℕ). line ++ 10 ∷ []) (row_text names) rows
 
@@ -106,13 +96,29 @@ bad_line names text parts rest number line more fine read cut bad =
       bad = inr (line, more, cut, λ front. bad (front_allowed names text parts rest number line fine read cut.clear front));
     }
 
-pub unread_line : (names : List (List ℕ)) (text : List ℕ) (parts : Parts) (rest : List ℕ) (number : ℕ) (line more : List ℕ) → AreNames names → IsRead names text parts rest number → IsCut 10 rest line (10 ∷ more) → IsNoText (IsRow (length names)) (row_text names) line → IsBadLine names text number
-unread_line names text parts rest number line more fine read cut none =
-    bad_line names text parts rest number line more fine read cut (λ (a : IsAllowed names parts line). none a.row a.good a.is)
+-- a line that is read
+pub read_taken : (names : List (List ℕ)) (text : List ℕ) (parts after : Parts) (rest : List ℕ) (number next : ℕ) (line more : List ℕ) → IsRead names text parts rest number → IsCut 10 rest line (10 ∷ more) → Takes names parts line after → next ≡ number + 1 → IsRead names text after more next
+read_taken names text parts after rest number next line more read cut takes same =
+    subst (λ n. IsRead names text after more n) (sym same)
+    (subst (λ p. IsRead names text p more (number + 1)) (sym takes.after_is)
+    (read_more names text parts rest number takes.allows.row line more read cut takes.allows.good takes.allows.is takes.allows.allowed))
 
-pub refused_line : (names : List (List ℕ)) (text : List ℕ) (parts : Parts) (rest : List ℕ) (number : ℕ) (line more : List ℕ) (row : Row) → AreNames names → IsRead names text parts rest number → IsCut 10 rest line (10 ∷ more) → IsRow (length names) row → row_text names row ≡ line → (Allows parts row → ⊥) → IsBadLine names text number
-refused_line names text parts rest number line more row fine read cut good is refused =
-    bad_line names text parts rest number line more fine read cut (λ (a : IsAllowed names parts line). refused (subst (Allows parts) (one_row names a.row row fine a.good good (a.is ∙ sym is)) a.allowed))
+-- why a line is not read
+pub unread_line : (names : List (List ℕ)) (parts : Parts) (line : List ℕ) (fault : TextFault) → (fault ≡ Memory) ⊎ ((fault ≡ BadText 0) × IsNoText (IsRow (length names)) (row_text names) line) → IsLineFault names parts line fault
+unread_line names parts line fault (inl memory) = inl memory
+unread_line names parts line fault (inr told) = inr (told.0, λ (a : IsAllowed names parts line). told.1 a.row a.good a.is)
+
+pub row_taken : (names : List (List ℕ)) (line : List ℕ) (row : Row) (before after : Draft) (r : Result (Unit {0}) TextFault) → AreNames names → IsRow (length names) row → row_text names row ≡ line → Follows before row r after → MatchResult r (λ done. IsKept after × Takes names (parts_of before) line (parts_of after)) (IsLineFault names (parts_of before) line)
+row_taken names line row before after (Ok done) fine good is follows =
+    (follows.2, record { allows = record { row = row; good = good; is = is; allowed = follows.0 }; after_is = follows.1 })
+row_taken names line row before after (Err e) fine good is (inl memory) = inl memory
+row_taken names line row before after (Err e) fine good is (inr told) =
+    inr (told.0, λ (a : IsAllowed names (parts_of before) line). told.1 (subst (Allows (parts_of before)) (one_row names a.row row fine a.good good (a.is ∙ sym is)) a.allowed))
+
+pub fault_of_line : (names : List (List ℕ)) (text : List ℕ) (parts : Parts) (rest : List ℕ) (number : ℕ) (line more : List ℕ) (fault given : TextFault) → AreNames names → IsRead names text parts rest number → IsCut 10 rest line (10 ∷ more) → IsLineFault names parts line fault → given ≡ placed number fault → IsFault names text given
+fault_of_line names text parts rest number line more fault given fine read cut (inl memory) is = subst (IsFault names text) (sym (is ∙ ap (placed number) memory)) tt
+fault_of_line names text parts rest number line more fault given fine read cut (inr told) is =
+    subst (IsFault names text) (sym (is ∙ ap (placed number) told.0)) (bad_line names text parts rest number line more fine read cut told.1)
 
 -- a text whose end is bad
 ends_whole : (names : List (List ℕ)) (text : List ℕ) (parts : Parts) (rest : List ℕ) (number : ℕ) (report : Report) → AreNames names → IsRead names text parts rest number → HasNo 10 rest → IsReport (length names) report → report_text names report ≡ text → (rest ≡ []) × IsWhole parts
@@ -170,11 +176,6 @@ no_report names text number bad = by bad.bad
 pub refused_text : (names : List (List ℕ)) (text : List ℕ) (fault : TextFault) → IsFault names text fault → (fault ≡ Memory) ⊎ IsNoReport names text
 refused_text names text (BadText number) bad = inr (no_report names text number bad)
 refused_text names text Memory none = inl refl
-
--- a fault of a line that isn't out of memory tells why
-pub told_bad : {X : Type 0} (fault : TextFault) (n : ℕ) → fault ≡ BadText n → (fault ≡ Memory) ⊎ ((fault ≡ BadText 0) × X) → X
-told_bad fault n is (inl memory) = let clash : BadText n ≡ Memory = sym is ∙ memory in cc
-told_bad fault n is (inr told) = told.1
 
 -- a text's rest by the test of its length
 some_length : (n : ℕ) → false ≡ (n == 0) → n ≡ 0 → ⊥

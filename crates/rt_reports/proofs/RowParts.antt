@@ -1,8 +1,6 @@
 -- Lines of reports, read part by part.
-use Rattle.std.proofs.Common.{◌≡◌, ◌≢◌, ℕ, ◌<◌, ◌⊎◌, inl, inr, List, [], ◌∷◌, ◌++◌, length, slice_index, codes, decimal, refl, sym, ◌∙◌, arith}
+use Rattle.std.proofs.Common.{◌≡◌, ◌≢◌, ℕ, ◌<◌, List, [], ◌∷◌, ◌++◌, length, slice_index, codes, decimal, refl, sym, ◌∙◌, arith}
 use Rattle.std.proofs.lemmas.List.{append_cancel_left}
-use Rattle.rt_texts.specs.declared.fault.TextFault.{TextFault}
-use Rattle.rt_texts.specs.declared.fault.TextFault.TheVariants.{BadText, Memory}
 use Rattle.rt_texts.specs.Goods.{IsNumber}
 use Rattle.rt_texts.specs.Readings.{IsNoText, HasNo, StopsAt, IsCut}
 use Rattle.rt_texts.proofs.Cuts.{one_cut}

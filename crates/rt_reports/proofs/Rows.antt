@@ -1,5 +1,5 @@
 -- Reports as lists of their lines.
-use Rattle.std.proofs.Common.{◌≡◌, ℕ, List, [], ◌∷◌, ◌++◌, Option, Some, None, All, map, length, codes, refl, ap, sym, subst, ◌∙◌, append_assoc}
+use Rattle.std.proofs.Common.{◌≡◌, ℕ, List, [], ◌∷◌, ◌++◌, All, map, length, codes, refl, ap, sym, subst, ◌∙◌, append_assoc}
 use Rattle.std.specs.List.{flat_map}
 use Rattle.std.proofs.lemmas.Grind.{flat_map-append}
 use Rattle.std.proofs.lemmas.List.{append_cancel_left}
@@ -16,35 +16,10 @@ use Rattle.rt_scheme.specs.declared.report.Report.{Report}
 use Rattle.rt_scheme.specs.Reports.{global_text, heading_text, entry_text, report_text}
 use Rattle.rt_reports.specs.GoodReports.{IsGlobal, IsEntry, IsReport}
 use Rattle.rt_reports.specs.Inside.Rows.{row_text, IsRow}
-use Rattle.rt_reports.specs.Inside.Drafts.{Parts}
+use Rattle.rt_reports.specs.Inside.Reads.{entry_rows, heading_row, listed_rows, report_rows, rows_text}
 use Rattle.rt_reports.specs.declared.row.Row.{Row}
 use Rattle.rt_reports.specs.declared.row.Row.TheVariants.{Listed, Heading, Stated, End}
 use Rattle.rt_reports.proofs.RowTexts.{one_row, row_clear}
-
--- the text of lines
-abbrev pub rows_text : List (List ℕ) → List Row → List ℕ
-rows_text names rows = flat_map (λ (row : Row). row_text names row ++ 10 ∷ []) rows
-
--- the lines of a report
-abbrev pub heading_row : Entry → Row
-heading_row entry = Heading entry.number entry.place entry.name
-
-abbrev pub listed_rows : List (ℕ × List ℕ) → List Row
-listed_rows globals = map (λ (g : ℕ × List ℕ). Listed g.0 g.1) globals
-
-abbrev pub entry_rows : Entry → List Row
-entry_rows entry = heading_row entry ∷ (map Stated entry.lines ++ End ∷ [])
-
-abbrev pub report_rows : Report → List Row
-report_rows report = listed_rows report.globals ++ flat_map entry_rows report.entries
-
--- those of what was read
-abbrev pub unfinished_rows : Option Entry → List Row
-unfinished_rows None = []
-unfinished_rows (Some entry) = heading_row entry ∷ map Stated entry.lines
-
-abbrev pub parts_rows : Parts → List Row
-parts_rows parts = listed_rows parts.globals ++ (flat_map entry_rows parts.entries ++ unfinished_rows parts.unfinished)
 
 -- their texts
 listed_row-text : (names : List (List ℕ)) (n : ℕ) (name : List ℕ) → row_text names (Listed n name) ++ 10 ∷ [] ≡ global_text (n, name)

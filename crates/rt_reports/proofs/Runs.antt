@@ -11,10 +11,10 @@ use Rattle.rt_scheme.specs.declared.report.Report.{Report}
 use Rattle.rt_reports.specs.Globals.{line_globals, lines_globals, entries_globals}
 use Rattle.rt_reports.specs.GoodReports.{IsEntry, IsReport, numbers_of, entry_numbers}
 use Rattle.rt_reports.specs.Inside.Drafts.{Parts, no_parts, least_after, with_row, Allows}
+use Rattle.rt_reports.specs.Inside.Reads.{RisesFrom, entry_rows, listed_rows, report_rows}
 use Rattle.rt_reports.specs.declared.row.Row.{Row}
 use Rattle.rt_reports.specs.declared.row.Row.TheVariants.{Stated, End}
-use Rattle.rt_reports.proofs.Ascending.{RisesFrom, least_after-append, rises_all}
-use Rattle.rt_reports.proofs.Rows.{listed_rows, entry_rows, report_rows}
+use Rattle.rt_reports.proofs.Ascending.{least_after-append, rises_all}
 
 -- each of the lines may follow, and with all of them the parts are these
 abbrev pub Accepts : Parts → List Row → Parts → Type 0

@@ -1,13 +1,9 @@
 -- Lists of numbers without double ones.
-use Rattle.std.proofs.Common.{◌≡◌, ℕ, Bool, true, false, ◌||◌, ◌↔◌, ◌⊎◌, inl, inr, IsTrue, List, [], ◌∷◌, ◌++◌, All, Contains, fold, nat_eq, if◌then◌else◌, refl, sym, subst, ◌∙◌, arith}
+use Rattle.std.proofs.Common.{◌≡◌, ℕ, Bool, true, false, ◌↔◌, ◌⊎◌, inl, inr, IsTrue, List, [], ◌∷◌, ◌++◌, All, Contains, fold, nat_eq, if◌then◌else◌, refl, sym, subst, ◌∙◌}
 use Rattle.std.specs.List.{list_any}
-use Rattle.std.proofs.lemmas.Bool.{false≢true, or_left, or_right}
-use Rattle.std.proofs.lemmas.Bool.Decides.{nat_tests}
-use Rattle.std.proofs.lemmas.Map.Views.{Contains-from_any}
 use Rattle.std.proofs.lemmas.List.Elements.{Contains-append_left, Contains-push, Contains-push_cases, All-contains}
 use Rattle.indexmap.specs.IndexSet.{insert_key}
 use Rattle.rt_base.proofs.Lists.{Contains-none, Contains-here, Contains-there, Contains-cons_cases, All-from_contains, found_from, found_to}
-use Rattle.rt_base.proofs.Numbers.{nat_same, nat_itself}
 
 pub has_number : (keys : List ℕ) (n : ℕ) (r : Bool) → r ≡ list_any (nat_eq n) keys → IsTrue r ↔ Contains keys n
 has_number keys n r is = (λ t. found_from keys n (sym is ∙ t), λ h. is ∙ found_to keys n h)

@@ -1,3 +1,4 @@
 -- Parts of the way: what loops and functions inside the crate say, and no public contract.
 pub mod Rows
 pub mod Drafts
+pub mod Reads

@@ -10,7 +10,7 @@ use rt_lines::Label;
 ///   scheme.
 /// - Inner: another existential of that instance, by its number there.
 /// - Result: the result of a call of which nothing is known.
-#[derive(Clone, Copy, Debug, PartialEq, Eq, Hash)]
+#[derive(Clone, Copy, PartialEq, Eq, Hash)]
 pub enum Name {
     Definition {
         procedure: u32,

@@ -10,7 +10,7 @@ use rt_lines::{Label, Word};
 use std::alloc::{AllocError, Global};
 
 /// What a term belongs to: a procedure, a global, a base of the outside, or what an existential stands for.
-#[derive(Clone, Copy, Debug, PartialEq, Eq)]
+#[derive(Clone, Copy, PartialEq, Eq)]
 pub enum Root {
     /// A procedure, by its number.
     Proc(u32),

@@ -4,6 +4,8 @@ mod Lined
 mod Naming
 mod Placing
 mod Reporting
+mod Single
+mod Ordered
 mod Sketching
 mod Stopping
 mod Wording

@@ -7,6 +7,7 @@ use Rattle.rt_elf.specs.Checks.{first_fault}
 use Rattle.rt_elf.specs.Header.{header_fault, size_fault}
 use Rattle.rt_lattice.specs.declared.fault.LatFault.TheVariants as lattice
 use Rattle.rt_lattice.specs.Faults.IsFirstFault.{is_too_long as is_first_long}
+use Rattle.rt_run.specs.declared.refusal.ObjectFault.TheVariants.{Bytes}
 use Rattle.rt_run.specs.declared.refusal.Refusal.{Refusal}
 use Rattle.rt_run.specs.declared.refusal.Refusal.TheVariants.{Object, BadLattice, TextTooLarge}
 use Rattle.rt_run.specs.declared.stop.Stop.{Stop}
@@ -28,7 +29,7 @@ is_too_long : (bytes : List ℕ) → 16777216 < length bytes → first_fault byt
 unfolding first_fault header_fault size_fault
 is_too_long bytes h = let t : nat_lt 16777216 (length bytes) ≡ true = lt-ltb 16777216 (length bytes) h in rw t refl
 
-pub object_too_large : (signatures : List Signature) (bytes : List ℕ) (refusal : Refusal) → (16777216 < length bytes) × (refusal ≡ Object 16 16777216)
+pub object_too_large : (signatures : List Signature) (bytes : List ℕ) (refusal : Refusal) → (16777216 < length bytes) × (refusal ≡ Object (Bytes 16 16777216))
     → IsRefused signatures bytes refusal
 object_too_large signatures bytes refusal h = subst (IsRefused signatures bytes) (sym h.1) (of_bytes 16 16777216 (is_too_long bytes h.0))
 

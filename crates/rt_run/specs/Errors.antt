@@ -1,18 +1,19 @@
 -- The lines on the stream for errors.
 use Rattle.std.specs.Prelude.{ℕ, List, [], ◌++◌, codes, decimal, if◌then◌else◌, ◌==◌}
 use Rattle.rt_scheme.specs.NameTexts.{name_text}
+use Rattle.rt_run.specs.declared.refusal.ObjectFault.{ObjectFault}
+use Rattle.rt_run.specs.declared.refusal.ObjectFault.TheVariants.{Bytes, Relocation, Code}
 use Rattle.rt_run.specs.declared.refusal.Refusal.{Refusal}
-use Rattle.rt_run.specs.declared.refusal.Refusal.TheVariants.{Object, Link, Code, BadLattice, BadSignatures, TextTooLarge, BadLine}
-use Rattle.rt_run.specs.declared.refusal.Refusal.TheVariants.{BadJudgement}
+use Rattle.rt_run.specs.declared.refusal.Refusal.TheVariants.{Object, BadLattice, BadSignatures, TextTooLarge, BadLine, BadJudgement}
 use Rattle.rt_lattice.specs.declared.fault.LatFault.{LatFault}
 use Rattle.rt_lattice.specs.declared.fault.LatFault.TheVariants as lattice
 use Rattle.rt_lattice.specs.Roles.{role_key}
 use Rattle.rt_sigs.specs.declared.fault.SigFault.{SigFault}
 use Rattle.rt_sigs.specs.declared.fault.SigFault.TheVariants as signatures
 
--- the name of a check of the object, of its relocations or of its code that fails, by its number
-abbrev pub check_name : ℕ → List ℕ
-check_name number =
+-- the name of a refusal, by its number
+abbrev pub refusal_name : ℕ → List ℕ
+refusal_name number =
     if number == 1 then codes "Short" else
     if number == 2 then codes "Magic" else
     if number == 3 then codes "Class" else
@@ -37,11 +38,28 @@ check_name number =
     if number == 30 then codes "Illegal" else
     if number == 31 then codes "BadTarget" else
     if number == 32 then codes "FallsOff" else
-    if number == 33 then codes "IndirectJump" else codes "Unknown"
+    if number == 33 then codes "IndirectJump" else
+    if number == 40 then codes "NotToml" else
+    if number == 41 then codes "Shape" else
+    if number == 42 then codes "Unknown" else
+    if number == 43 then codes "Cycle" else
+    if number == 44 then codes "NoTop" else
+    if number == 45 then codes "NoBottom" else
+    if number == 46 then codes "NoJoin" else
+    if number == 48 then codes "NoRole" else
+    if number == 49 then codes "TooMany" else
+    if number == 50 then codes "BadLine" else
+    if number == 51 then codes "UnknownConst" else
+    if number == 52 then codes "Twice" else
+    if number == 53 then codes "TooLarge" else
+    if number == 54 then codes "Args" else
+    if number == 61 then codes "BadText" else
+    if number == 62 then codes "BadText" else
+    if number == 63 then codes "TextTooLarge" else codes "None"
 
--- the number and the name of a check
-abbrev pub check_text : ℕ → List ℕ
-check_text number = codes "error " ++ decimal number ++ codes " " ++ check_name number
+-- the number and the name of a refusal
+abbrev pub number_text : ℕ → List ℕ
+number_text number = codes "error " ++ decimal number ++ codes " " ++ refusal_name number
 
 -- a byte of the input
 abbrev pub byte_text : ℕ → List ℕ
@@ -59,46 +77,58 @@ offset_text offset = codes " offset " ++ decimal offset ++ codes "\n"
 abbrev pub place_text : ℕ → ℕ → List ℕ
 place_text section offset = section_text section ++ offset_text offset
 
--- a line with a name that a file has
-abbrev pub named_line : List ℕ → List ℕ → List ℕ
-named_line text name = text ++ name_text name ++ codes "\n"
+-- the line of a refusal that has no place
+abbrev pub plain_line : ℕ → List ℕ
+plain_line number = number_text number ++ codes "\n"
 
--- a line with the number of a line of a file, from 1
-abbrev pub numbered_line : List ℕ → ℕ → List ℕ
-numbered_line text number = text ++ decimal number ++ codes "\n"
+-- a name that a file has, behind something
+abbrev pub name_after : List ℕ → List ℕ
+name_after name = codes " " ++ name_text name
+
+-- the line of a refusal about a name that a file has
+abbrev pub named_line : ℕ → List ℕ → List ℕ
+named_line number name = number_text number ++ name_after name ++ codes "\n"
+
+-- the line of a refusal about a line of a file, by its number, from 1
+abbrev pub numbered_line : ℕ → ℕ → List ℕ
+numbered_line number at = number_text number ++ codes " " ++ decimal at ++ codes "\n"
 
 -- the line of a fault of a lattice file; out of memory is none
 abbrev pub lattice_line : LatFault → List ℕ
-lattice_line lattice.NotToml = codes "error 40 NotToml\n"
-lattice_line (lattice.Shape key) = named_line (codes "error 41 Shape ") key
-lattice_line (lattice.Unknown name) = named_line (codes "error 42 Unknown ") name
-lattice_line (lattice.Cycle name) = named_line (codes "error 43 Cycle ") name
-lattice_line lattice.NoTop = codes "error 44 NoTop\n"
-lattice_line lattice.NoBottom = codes "error 45 NoBottom\n"
-lattice_line (lattice.NoJoin first second) = named_line (codes "error 46 NoJoin " ++ name_text first ++ codes " ") second
-lattice_line (lattice.NoRole role) = codes "error 48 NoRole " ++ role_key role ++ codes "\n"
-lattice_line lattice.TooMany = codes "error 49 TooMany\n"
+lattice_line lattice.NotToml = plain_line 40
+lattice_line (lattice.Shape key) = named_line 41 key
+lattice_line (lattice.Unknown name) = named_line 42 name
+lattice_line (lattice.Cycle name) = named_line 43 name
+lattice_line lattice.NoTop = plain_line 44
+lattice_line lattice.NoBottom = plain_line 45
+lattice_line (lattice.NoJoin first second) = number_text 46 ++ name_after first ++ name_after second ++ codes "\n"
+lattice_line (lattice.NoRole role) = number_text 48 ++ codes " " ++ role_key role ++ codes "\n"
+lattice_line lattice.TooMany = plain_line 49
 lattice_line lattice.Memory = []
 
 -- the line of a fault of a file of signatures
 abbrev pub signatures_line : SigFault → List ℕ
-signatures_line (signatures.BadLine number) = numbered_line (codes "error 50 BadLine ") number
-signatures_line (signatures.UnknownConst number) = numbered_line (codes "error 51 UnknownConst ") number
-signatures_line (signatures.Twice number) = numbered_line (codes "error 52 Twice ") number
-signatures_line (signatures.Args number) = numbered_line (codes "error 54 Args ") number
-signatures_line signatures.TooLarge = codes "error 53 TooLarge\n"
+signatures_line (signatures.BadLine number) = numbered_line 50 number
+signatures_line (signatures.UnknownConst number) = numbered_line 51 number
+signatures_line (signatures.Twice number) = numbered_line 52 number
+signatures_line signatures.TooLarge = plain_line 53
+signatures_line (signatures.Args number) = numbered_line 54 number
 signatures_line signatures.Memory = []
+
+-- the line of a fault of an object
+abbrev pub object_line : ObjectFault → List ℕ
+object_line (Bytes number byte) = number_text number ++ byte_text byte
+object_line (Relocation number section offset) = number_text number ++ place_text section offset
+object_line (Code number section offset) = number_text number ++ place_text section offset
 
 -- the line of a refusal
 abbrev pub refusal_line : Refusal → List ℕ
-refusal_line (Object number offset) = check_text number ++ byte_text offset
-refusal_line (Link number section offset) = check_text number ++ place_text section offset
-refusal_line (Code number section offset) = check_text number ++ place_text section offset
+refusal_line (Object fault) = object_line fault
 refusal_line (BadLattice fault) = lattice_line fault
 refusal_line (BadSignatures fault) = signatures_line fault
-refusal_line TextTooLarge = codes "error 63 TextTooLarge\n"
-refusal_line (BadLine place) = codes "error 61 BadText" ++ byte_text place
-refusal_line BadJudgement = codes "error 62 BadText\n"
+refusal_line (BadLine byte) = number_text 61 ++ byte_text byte
+refusal_line BadJudgement = plain_line 62
+refusal_line TextTooLarge = plain_line 63
 
 -- the line of a file that wasn't read
 abbrev pub read_line : List ℕ → List ℕ

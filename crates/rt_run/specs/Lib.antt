@@ -9,4 +9,5 @@ pub mod Headers
 pub mod Texts
 pub mod Entails
 pub mod Status
+pub mod Laws
 pub mod Inside

@@ -11,9 +11,10 @@ use Rattle.rt_proc.specs.Faults.{HasNoFault, IsFirstFault}
 use Rattle.rt_proc.specs.Procs.{AreProcs}
 use Rattle.rt_sigs.specs.Signatures.{Signature}
 use Rattle.rt_liveness.specs.Ends.{ends_of}
+use Rattle.rt_run.specs.declared.refusal.ObjectFault.{ObjectFault}
+use Rattle.rt_run.specs.declared.refusal.ObjectFault.TheVariants.{Bytes, Relocation, Code}
 use Rattle.rt_run.specs.declared.refusal.Refusal.{Refusal}
-use Rattle.rt_run.specs.declared.refusal.Refusal.TheVariants.{Object as BadObject, Link as BadLink, Code as BadCode, BadLattice}
-use Rattle.rt_run.specs.declared.refusal.Refusal.TheVariants.{BadSignatures, TextTooLarge, BadLine, BadJudgement}
+use Rattle.rt_run.specs.declared.refusal.Refusal.TheVariants.{Object as BadObject}
 
 -- the bytes pass all checks of an object, and are read as this one
 pub record IsReadAs (bytes : List ℕ) (object : Object) : Type 0 where
@@ -27,23 +28,22 @@ pub record IsInProfile (object : Object) (ends : List ℕ) (procs : List Proc) :
   pub is_sound : HasNoFault object ends
   pub are_procs : AreProcs object ends procs
 
--- why an object is refused, where the functions of these symbols don't return: the first check of its relocations that fails, else the
--- first fault of its code
-abbrev pub IsObjectRefused : Object → List ℕ → Refusal → Type 0
-IsObjectRefused object ends (BadObject number offset) = ⊥
-IsObjectRefused object ends (BadLink number section offset) = link_fault object ≡ Some (BadReloc number section offset)
-IsObjectRefused object ends (BadCode number section offset) =
+-- why an object is refused whose bytes pass all checks, where the functions of these symbols don't return: the first check of its
+-- relocations that fails, else the first fault of its code
+abbrev pub IsFaultOfObject : Object → List ℕ → ObjectFault → Type 0
+IsFaultOfObject object ends (Bytes number byte) = ⊥
+IsFaultOfObject object ends (Relocation number section offset) = link_fault object ≡ Some (BadReloc number section offset)
+IsFaultOfObject object ends (Code number section offset) =
     (link_fault object ≡ None) × IsFirstFault object ends number (record { section = section; offset = offset })
-IsObjectRefused object ends (BadLattice fault) = ⊥
-IsObjectRefused object ends (BadSignatures fault) = ⊥
-IsObjectRefused object ends TextTooLarge = ⊥
-IsObjectRefused object ends (BadLine place) = ⊥
-IsObjectRefused object ends BadJudgement = ⊥
+
+abbrev pub IsObjectRefused : Object → List ℕ → Refusal → Type 0
+IsObjectRefused object ends (BadObject fault) = IsFaultOfObject object ends fault
+IsObjectRefused object ends other = ⊥
 
 -- why the bytes of an object are refused, where these are the signatures of functions outside: the first check of them that fails, else
 -- what refuses the object that they are read as
 pub data IsRefused (signatures : List Signature) (bytes : List ℕ) : Refusal → Type 0 where
-  of_bytes : (number offset : ℕ) → first_fault bytes ≡ Some (Bad number offset) →
-      IsRefused signatures bytes (BadObject number offset)
+  of_bytes : (number byte : ℕ) → first_fault bytes ≡ Some (Bad number byte) →
+      IsRefused signatures bytes (BadObject (Bytes number byte))
   of_object : (object : Object) (refusal : Refusal) → IsReadAs bytes object → IsObjectRefused object (ends_of object signatures) refusal
       → IsRefused signatures bytes refusal

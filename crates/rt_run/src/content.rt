@@ -1,7 +1,7 @@
 // What is written of an object.
 
 /// What is written of each of an object's procedures.
-#[derive(Clone, Copy, Debug, PartialEq, Eq)]
+#[derive(Clone, Copy, PartialEq, Eq)]
 pub enum Content {
     /// Lines: a report.
     Lines(Told),
@@ -12,7 +12,7 @@ pub enum Content {
 }
 
 /// Which lines a report gives of each procedure.
-#[derive(Clone, Copy, Debug, PartialEq, Eq)]
+#[derive(Clone, Copy, PartialEq, Eq)]
 pub enum Told {
     /// Those of its instructions.
     Constraints,

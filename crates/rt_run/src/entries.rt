@@ -13,7 +13,7 @@ use rt_base::Memory;
 use rt_lines::Lines;
 use rt_proc::Proc;
 use rt_scheme::{Entries, Entry, Place2};
-use std::alloc::{AllocError, Global};
+use std::alloc::Global;
 
 // The entry of a procedure with a number and lines.
 fn entry_of(alloc: Global, number: u32, proc: &Proc, lines: Lines) -> Result<Entry, Memory>
@@ -52,9 +52,7 @@ pub fn entries_of(alloc: Global, told: Told, analysis: &Analysis<'_>) -> Result<
     let mut lists = analysis.lists(alloc, told)?;
     let mut entries = Entries::new(alloc);
     for (place, proc) in analysis.facts.procs().items().iter().enumerate() {
-        let Ok(number) = u32::try_from(place) else {
-            return Err(AllocError);
-        };
+        let number = place as u32;
         let Some(lines) = take_at(&mut lists, place) else {
             // Each procedure has lines.
             unreachable!()

@@ -19,7 +19,7 @@ use rt_header::{Sketches, header};
 use rt_lattice::Lattice;
 use rt_sigs::Sigs;
 use rt_sketch::{Sketch, of};
-use std::alloc::{AllocError, Global};
+use std::alloc::Global;
 
 impl Analysis<'_> {
     // The sketch of the scheme of the procedure of a number.
@@ -43,9 +43,7 @@ impl Analysis<'_> {
     {
         let mut sketches = Sketches::new(alloc);
         for place in 0..self.facts.procs().items().len() {
-            let Ok(number) = u32::try_from(place) else {
-                return Err(AllocError);
-            };
+            let number = place as u32;
             sketches.push((number, self.sketch(alloc, number)?))?;
         }
         Ok(sketches)

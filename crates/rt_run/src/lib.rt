@@ -8,6 +8,7 @@ mod entries;
 mod globals;
 mod headers;
 mod inputs;
+pub mod laws;
 mod lists;
 mod no_text;
 mod objects;
@@ -19,5 +20,5 @@ mod texts;
 mod top;
 mod words;
 
-pub use refusal::Refusal;
+pub use refusal::{ObjectFault, Refusal};
 pub use top::run;

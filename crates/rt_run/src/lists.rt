@@ -10,7 +10,7 @@ use crate::content::Told;
 use rt_base::Memory;
 use rt_lines::Lines;
 use rt_table::{Bodies, lines_of};
-use std::alloc::{AllocError, Global};
+use std::alloc::Global;
 
 /// For each procedure its lines, where they are known.
 pub type Lists = Vec<Option<Lines>>;
@@ -100,9 +100,7 @@ impl Analysis<'_> {
         ensures lists { IfOk result (λ lists. AreListsOf Told.Schemes self.now lists.items) }
         ensures full { IfOk result (λ lists. (number : ℕ) → number < length (procs_in self.now) → IsListed lists.items number) }
     {
-        let Ok(count) = u32::try_from(self.facts.procs().len()) else {
-            return Err(AllocError);
-        };
+        let count = self.facts.procs().len() as u32;
         let mut lists = Vec::with_capacity(alloc, count as usize)?;
         for number in 0..count {
             lists.push(self.scheme_lines(number)?)?;

@@ -6,7 +6,7 @@ use crate::refusal::Refusal;
 use std::alloc::AllocError;
 
 /// Why there is no text to write.
-#[derive(Debug, Drop)]
+#[derive(Drop)]
 pub enum NoText {
     /// An input is refused.
     Refused(Refusal),

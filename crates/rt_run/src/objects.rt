@@ -12,7 +12,7 @@ ghost use Rattle.rt_run.specs.Inside.NoTexts.{IsNoText};
 ghost use Rattle.rt_run.specs.Objects.{IsInProfile, IsObjectRefused, IsReadAs, IsRefused};
 
 use crate::no_text::NoText;
-use crate::refusal::Refusal;
+use crate::refusal::{ObjectFault, Refusal};
 use rt_elf::{ElfFault, Object};
 use rt_link::{LinkFault, Links, resolve};
 use rt_proc::{CodeFault, Procs, find};
@@ -40,7 +40,7 @@ fn read_object(alloc: Global, bytes: &[u8]) -> Result<Object, NoText>
     match rt_elf::read(alloc, bytes) {
         Ok(object) => Ok(object),
         Err(ElfFault::Bad { number, offset }) => {
-            Err(NoText::Refused(Refusal::Object(number, offset)))
+            Err(NoText::Refused(Refusal::Object(ObjectFault::Bytes(number, offset))))
         }
         Err(ElfFault::Memory) => Err(NoText::Memory),
     }
@@ -60,7 +60,9 @@ fn links_of(alloc: Global, object: &Object) -> Result<Links, NoText>
                 section,
                 offset,
             },
-        ) => Err(NoText::Refused(Refusal::Link(number, section, offset))),
+        ) => Err(NoText::Refused(Refusal::Object(ObjectFault::Relocation(
+            number, section, offset,
+        )))),
         Err(LinkFault::Memory) => Err(NoText::Memory),
     }
 }
@@ -76,10 +78,8 @@ fn procs_of(alloc: Global, object: &Object, links: &Links, ends: &[u32]) -> Resu
 {
     match find(alloc, object, links, ends) {
         Ok(procs) => Ok(procs),
-        Err(CodeFault::Bad { number, place }) => Err(NoText::Refused(Refusal::Code(
-            number,
-            place.section,
-            place.offset,
+        Err(CodeFault::Bad { number, place }) => Err(NoText::Refused(Refusal::Object(
+            ObjectFault::Code(number, place.section, place.offset),
         ))),
         Err(CodeFault::Memory) => Err(NoText::Memory),
     }

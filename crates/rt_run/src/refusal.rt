@@ -1,7 +1,7 @@
 // Why an input is refused.
 ghost use Rattle.std.specs.Prelude.{◌≡◌, ◌++◌, IfOk, OnOk};
-ghost use Rattle.rt_run.specs.Errors.{byte_text, check_name, check_text, lattice_line, named_line, numbered_line};
-ghost use Rattle.rt_run.specs.Errors.{offset_text, place_text, read_line, refusal_line, section_text, signatures_line};
+ghost use Rattle.rt_run.specs.Errors.{byte_text, lattice_line, name_after, named_line, numbered_line, object_line, plain_line};
+ghost use Rattle.rt_run.specs.Errors.{number_text, offset_text, place_text, read_line, refusal_line, refusal_name, section_text, signatures_line};
 
 use rt_base::Memory;
 use rt_lattice::{LatFault, Role};
@@ -10,15 +10,22 @@ use rt_sigs::SigFault;
 use rt_texts::print_number;
 use std::alloc::Global;
 
-/// Why an input is refused.
-#[derive(Debug, Drop)]
-pub enum Refusal {
-    /// A check of the object fails: its number, and the byte of the file.
-    Object(u8, u32),
-    /// A check of the object's relocations fails: its number, and the section and the offset of the relocation.
-    Link(u8, u16, u32),
-    /// The object's code has a fault: its number, and the section and the offset of the place.
+/// Why an object is refused.
+#[derive(Drop)]
+pub enum ObjectFault {
+    /// A check of its bytes fails: its number, and the byte of the file.
+    Bytes(u8, u32),
+    /// A check of its relocations fails: its number, and the section and the offset of the relocation.
+    Relocation(u8, u16, u32),
+    /// Its code has a fault: its number, and the section and the offset of the place.
     Code(u8, u16, u32),
+}
+
+/// Why an input is refused.
+#[derive(Drop)]
+pub enum Refusal {
+    /// The object has this fault.
+    Object(ObjectFault),
     /// The lattice file has this fault, which isn't out of memory.
     BadLattice(LatFault),
     /// The file of signatures has this fault, which isn't out of memory.
@@ -31,9 +38,9 @@ pub enum Refusal {
     BadJudgement,
 }
 
-// The name of a check of the object, of its relocations or of its code, by its number.
-fn check_name(number: u8) -> &'static str
-    ensures { result.now ≡ check_name number }
+// The name of a refusal, by its number.
+fn refusal_name(number: u8) -> &'static str
+    ensures { result.now ≡ refusal_name number }
 {
     match number {
         1 => "Short",
@@ -61,18 +68,35 @@ fn check_name(number: u8) -> &'static str
         31 => "BadTarget",
         32 => "FallsOff",
         33 => "IndirectJump",
-        _ => "Unknown",
+        40 => "NotToml",
+        41 => "Shape",
+        42 => "Unknown",
+        43 => "Cycle",
+        44 => "NoTop",
+        45 => "NoBottom",
+        46 => "NoJoin",
+        48 => "NoRole",
+        49 => "TooMany",
+        50 => "BadLine",
+        51 => "UnknownConst",
+        52 => "Twice",
+        53 => "TooLarge",
+        54 => "Args",
+        61 => "BadText",
+        62 => "BadText",
+        63 => "TextTooLarge",
+        _ => "None",
     }
 }
 
-// Adds the number and the name of a check.
-fn push_check(number: u8, line: &mut Vec<u8>) -> Result<(), Memory>
-    ensures { OnOk result (line.new.items ≡ line.old.items ++ check_text number) }
+// Adds the number and the name of a refusal.
+fn push_number(number: u8, line: &mut Vec<u8>) -> Result<(), Memory>
+    ensures { OnOk result (line.new.items ≡ line.old.items ++ number_text number) }
 {
     line.extend_from_slice(b"error ")?;
     print_number(u32::from(number), line)?;
     line.extend_from_slice(b" ")?;
-    line.extend_from_slice(check_name(number).as_bytes())
+    line.extend_from_slice(refusal_name(number).as_bytes())
 }
 
 // Adds what stands for a byte.
@@ -112,45 +136,55 @@ fn push_place(section: u16, offset: u32, line: &mut Vec<u8>) -> Result<(), Memor
     push_offset(offset, line)
 }
 
-// Adds the line of a check of the object.
-fn push_object(number: u8, byte: u32, line: &mut Vec<u8>) -> Result<(), Memory>
-    ensures { OnOk result (line.new.items ≡ line.old.items ++ refusal_line (Refusal.Object number byte)) }
+// Adds the line of a refusal at a byte.
+fn push_at_byte(number: u8, byte: u32, line: &mut Vec<u8>) -> Result<(), Memory>
+    ensures { OnOk result (line.new.items ≡ line.old.items ++ (number_text number ++ byte_text byte)) }
 {
-    push_check(number, line)?;
+    push_number(number, line)?;
     push_byte(byte, line)
 }
 
-// Adds the line of a check of its relocations or of its code.
-fn push_at(number: u8, section: u16, offset: u32, line: &mut Vec<u8>) -> Result<(), Memory>
-    ensures { OnOk result (line.new.items ≡ line.old.items ++ refusal_line (Refusal.Link number section offset)) }
+// Adds the line of a refusal at a place of a section.
+fn push_at_place(number: u8, section: u16, offset: u32, line: &mut Vec<u8>) -> Result<(), Memory>
+    ensures { OnOk result (line.new.items ≡ line.old.items ++ (number_text number ++ place_text section offset)) }
 {
-    push_check(number, line)?;
+    push_number(number, line)?;
     push_place(section, offset, line)
 }
 
-// Adds the line of a bad line of a text.
-fn push_bad_line(byte: u32, line: &mut Vec<u8>) -> Result<(), Memory>
-    ensures { OnOk result (line.new.items ≡ line.old.items ++ refusal_line (Refusal.BadLine byte)) }
+// Adds the line of a refusal that has no place.
+fn push_plain(number: u8, line: &mut Vec<u8>) -> Result<(), Memory>
+    ensures { OnOk result (line.new.items ≡ line.old.items ++ plain_line number) }
 {
-    line.extend_from_slice(b"error 61 BadText")?;
-    push_byte(byte, line)
-}
-
-// Adds a text, a name that a file has, and the line's end.
-fn push_named(text: &[u8], name: &[u8], line: &mut Vec<u8>) -> Result<(), Memory>
-    ensures { OnOk result (line.new.items ≡ line.old.items ++ named_line text.now name.now) }
-{
-    line.extend_from_slice(text)?;
-    print_name(name, line)?;
+    push_number(number, line)?;
     line.extend_from_slice(b"\n")
 }
 
-// Adds a text, the number of a line of a file, and the line's end.
-fn push_numbered(text: &[u8], number: u32, line: &mut Vec<u8>) -> Result<(), Memory>
-    ensures { OnOk result (line.new.items ≡ line.old.items ++ numbered_line text.now number) }
+// Adds a space and a name that a file has.
+fn push_name(name: &[u8], line: &mut Vec<u8>) -> Result<(), Memory>
+    ensures { OnOk result (line.new.items ≡ line.old.items ++ name_after name.now) }
 {
-    line.extend_from_slice(text)?;
-    print_number(number, line)?;
+    line.extend_from_slice(b" ")?;
+    print_name(name, line)?;
+    Ok(())
+}
+
+// Adds the line of a refusal about a name that a file has.
+fn push_named(number: u8, name: &[u8], line: &mut Vec<u8>) -> Result<(), Memory>
+    ensures { OnOk result (line.new.items ≡ line.old.items ++ named_line number name.now) }
+{
+    push_number(number, line)?;
+    push_name(name, line)?;
+    line.extend_from_slice(b"\n")
+}
+
+// Adds the line of a refusal about a line of a file, by its number.
+fn push_numbered(number: u8, at: u32, line: &mut Vec<u8>) -> Result<(), Memory>
+    ensures { OnOk result (line.new.items ≡ line.old.items ++ numbered_line number at) }
+{
+    push_number(number, line)?;
+    line.extend_from_slice(b" ")?;
+    print_number(at, line)?;
     line.extend_from_slice(b"\n")
 }
 
@@ -158,16 +192,18 @@ fn push_numbered(text: &[u8], number: u32, line: &mut Vec<u8>) -> Result<(), Mem
 fn push_no_join(first: &[u8], second: &[u8], line: &mut Vec<u8>) -> Result<(), Memory>
     ensures { OnOk result (line.new.items ≡ line.old.items ++ lattice_line (LatFault.NoJoin first.now second.now)) }
 {
-    line.extend_from_slice(b"error 46 NoJoin ")?;
-    print_name(first, line)?;
-    push_named(b" ", second, line)
+    push_number(46, line)?;
+    push_name(first, line)?;
+    push_name(second, line)?;
+    line.extend_from_slice(b"\n")
 }
 
 // Adds the line of a role without a name.
 fn push_no_role(role: Role, line: &mut Vec<u8>) -> Result<(), Memory>
     ensures { OnOk result (line.new.items ≡ line.old.items ++ lattice_line (LatFault.NoRole role)) }
 {
-    line.extend_from_slice(b"error 48 NoRole ")?;
+    push_number(48, line)?;
+    line.extend_from_slice(b" ")?;
     line.extend_from_slice(role.key().as_bytes())?;
     line.extend_from_slice(b"\n")
 }
@@ -177,15 +213,15 @@ fn push_lattice(fault: &LatFault, line: &mut Vec<u8>) -> Result<(), Memory>
     ensures { OnOk result (line.new.items ≡ line.old.items ++ lattice_line fault.now) }
 {
     match fault {
-        LatFault::NotToml => line.extend_from_slice(b"error 40 NotToml\n"),
-        LatFault::Shape(key) => push_named(b"error 41 Shape ", key.items(), line),
-        LatFault::Unknown(name) => push_named(b"error 42 Unknown ", name.items(), line),
-        LatFault::Cycle(name) => push_named(b"error 43 Cycle ", name.items(), line),
-        LatFault::NoTop => line.extend_from_slice(b"error 44 NoTop\n"),
-        LatFault::NoBottom => line.extend_from_slice(b"error 45 NoBottom\n"),
+        LatFault::NotToml => push_plain(40, line),
+        LatFault::Shape(key) => push_named(41, key.items(), line),
+        LatFault::Unknown(name) => push_named(42, name.items(), line),
+        LatFault::Cycle(name) => push_named(43, name.items(), line),
+        LatFault::NoTop => push_plain(44, line),
+        LatFault::NoBottom => push_plain(45, line),
         LatFault::NoJoin(first, second) => push_no_join(first.items(), second.items(), line),
         LatFault::NoRole(role) => push_no_role(*role, line),
-        LatFault::TooMany => line.extend_from_slice(b"error 49 TooMany\n"),
+        LatFault::TooMany => push_plain(49, line),
         LatFault::Memory => Ok(()),
     }
 }
@@ -195,12 +231,25 @@ fn push_signatures(fault: SigFault, line: &mut Vec<u8>) -> Result<(), Memory>
     ensures { OnOk result (line.new.items ≡ line.old.items ++ signatures_line fault) }
 {
     match fault {
-        SigFault::BadLine(number) => push_numbered(b"error 50 BadLine ", number, line),
-        SigFault::UnknownConst(number) => push_numbered(b"error 51 UnknownConst ", number, line),
-        SigFault::Args(number) => push_numbered(b"error 54 Args ", number, line),
-        SigFault::Twice(number) => push_numbered(b"error 52 Twice ", number, line),
-        SigFault::TooLarge => line.extend_from_slice(b"error 53 TooLarge\n"),
+        SigFault::BadLine(number) => push_numbered(50, number, line),
+        SigFault::UnknownConst(number) => push_numbered(51, number, line),
+        SigFault::Twice(number) => push_numbered(52, number, line),
+        SigFault::TooLarge => push_plain(53, line),
+        SigFault::Args(number) => push_numbered(54, number, line),
         SigFault::Memory => Ok(()),
+    }
+}
+
+// Adds the line of a fault of an object.
+fn push_object(fault: &ObjectFault, line: &mut Vec<u8>) -> Result<(), Memory>
+    ensures { OnOk result (line.new.items ≡ line.old.items ++ object_line fault.now) }
+{
+    match fault {
+        ObjectFault::Bytes(number, byte) => push_at_byte(*number, *byte, line),
+        ObjectFault::Relocation(number, section, offset)
+        | ObjectFault::Code(number, section, offset) => {
+            push_at_place(*number, *section, *offset, line)
+        }
     }
 }
 
@@ -209,15 +258,12 @@ fn push_refusal(refusal: &Refusal, line: &mut Vec<u8>) -> Result<(), Memory>
     ensures { OnOk result (line.new.items ≡ line.old.items ++ refusal_line refusal.now) }
 {
     match refusal {
-        Refusal::Object(number, offset) => push_object(*number, *offset, line),
-        Refusal::Link(number, section, offset) | Refusal::Code(number, section, offset) => {
-            push_at(*number, *section, *offset, line)
-        }
+        Refusal::Object(fault) => push_object(fault, line),
         Refusal::BadLattice(fault) => push_lattice(fault, line),
         Refusal::BadSignatures(fault) => push_signatures(*fault, line),
-        Refusal::TextTooLarge => line.extend_from_slice(b"error 63 TextTooLarge\n"),
-        Refusal::BadLine(place) => push_bad_line(*place, line),
-        Refusal::BadJudgement => line.extend_from_slice(b"error 62 BadText\n"),
+        Refusal::BadLine(byte) => push_at_byte(61, *byte, line),
+        Refusal::BadJudgement => push_plain(62, line),
+        Refusal::TextTooLarge => push_plain(63, line),
     }
 }
 

@@ -17,7 +17,7 @@ use rt_proc::Proc;
 use rt_scheme::{Place2, Scheme, print_heading};
 use rt_sigs::Sigs;
 use rt_sketch::{of, print};
-use std::alloc::{AllocError, Global};
+use std::alloc::Global;
 
 impl Analysis<'_> {
     // The scheme of the procedure of a number.
@@ -78,9 +78,7 @@ pub fn sketches_text(
     let analysis = Analysis::of(alloc, program, sigs, lattice)?;
     let mut text = Vec::new(alloc);
     for (place, proc) in analysis.facts.procs().items().iter().enumerate() {
-        let Ok(number) = u32::try_from(place) else {
-            return Err(AllocError);
-        };
+        let number = place as u32;
         analysis.push_sketch(alloc, number, proc, &mut text)?;
     }
     Ok(text)

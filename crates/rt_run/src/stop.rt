@@ -2,7 +2,7 @@
 use crate::refusal::Refusal;
 
 /// Why a command has no text to write.
-#[derive(Debug, Drop)]
+#[derive(Drop)]
 pub enum Stop<'a> {
     /// An input is refused.
     Refused(Refusal),
@@ -13,7 +13,7 @@ pub enum Stop<'a> {
 }
 
 /// How the work of a command ends.
-#[derive(Debug, Drop)]
+#[derive(Drop)]
 pub enum Ending<'a> {
     /// The text is written.
     Written,

@@ -12,7 +12,7 @@ use crate::content::Content;
 use crate::entail::entail_text;
 use crate::inputs::{content_of, lattice_for, signatures_for};
 use crate::no_text::NoText;
-use crate::refusal::{Refusal, read_line, refusal_line};
+use crate::refusal::{ObjectFault, Refusal, read_line, refusal_line};
 use crate::stop::{Ending, Stop};
 use crate::texts::object_text;
 use crate::words::{Options, Request, read_words};
@@ -55,7 +55,7 @@ fn report<'a, F: Files>(
         Ok(sigs) => sigs,
         Err(stop) => return Err(stop),
     };
-    let too_large = Refusal::Object(16, 16_777_216);
+    let too_large = Refusal::Object(ObjectFault::Bytes(16, 16_777_216));
     let bytes = match content_of(alloc, object, OBJECT_LIMIT, too_large, files) {
         Ok(bytes) => bytes,
         Err(stop) => return Err(stop),

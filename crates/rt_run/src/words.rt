@@ -7,7 +7,7 @@ ghost use Rattle.rt_run.specs.Inside.Meant.{meaning, options_of};
 use crate::content::{Content, Told};
 
 /// The files that options name.
-#[derive(Clone, Copy, Debug)]
+#[derive(Clone, Copy)]
 pub struct Options<'a> {
     /// The file of a lattice.
     pub lattice: Option<&'a str>,
@@ -16,7 +16,7 @@ pub struct Options<'a> {
 }
 
 /// What the words ask for.
-#[derive(Clone, Copy, Debug)]
+#[derive(Clone, Copy)]
 pub enum Request<'a> {
     /// What is written of an object.
     Report {

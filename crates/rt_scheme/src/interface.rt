@@ -2,7 +2,7 @@
 use rt_lines::Label;
 
 // An argument or a result of a procedure.
-#[derive(Clone, Copy, Debug, PartialEq, Eq, Hash)]
+#[derive(Clone, Copy, PartialEq, Eq, Hash)]
 pub struct Interface {
     // The procedure's number.
     pub procedure: u32,

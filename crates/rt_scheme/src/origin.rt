@@ -2,7 +2,7 @@
 use rt_lines::Label;
 
 // What an existential of an instance is for.
-#[derive(Clone, Copy, Debug, PartialEq, Eq, Hash)]
+#[derive(Clone, Copy, PartialEq, Eq, Hash)]
 pub enum Origin {
     // The scheme's own variable of a label, that of an argument or a result.
     Port(Label),

@@ -12,7 +12,7 @@ use rt_texts::{print_lines, print_number};
 use std::alloc::Global;
 
 /// A place in the object.
-#[derive(Clone, Copy, Debug, PartialEq, Eq)]
+#[derive(Clone, Copy, PartialEq, Eq)]
 pub struct Place2 {
     /// The section's index.
     pub section: u16,

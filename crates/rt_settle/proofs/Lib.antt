@@ -9,3 +9,4 @@ pub mod Grouping
 pub mod Sorting
 pub mod Stable
 pub mod Naming
+pub mod Marks

@@ -1,3 +1,4 @@
 pub mod Sorted
 pub mod Chosen
 pub mod Groups
+pub mod Marks

@@ -1,5 +1,6 @@
 //! The laws of the schemes that are chosen: functions that do nothing, each for the law that it ensures.
 ghost use Rattle.rt_settle.specs.Chosen.{ChosenAlike, ChosenReduced, ChosenScheme, ConstantsStand, OneChoice};
+ghost use Rattle.rt_settle.specs.Marks.{ChosenLoosely, ChosenMarks};
 
 /// Of all schemes that say the same, one is chosen: no two are, whatever the procedure and the lines of its group.
 pub fn one_choice()
@@ -25,4 +26,12 @@ pub fn scheme()
 /// follows from the others, and a chain of lines joins each existential to the procedure or to a global.
 pub fn reduced()
     ensures { ChosenReduced }
+{}
+
+/// Marks of a scheme are marks of its lists: the loose bounds of the procedure's variables that follow from the lines of its
+/// group are those that follow from what is chosen; and whatever lines the outside of the procedure adds, it can derive the
+/// same loosely from both.
+pub fn marks()
+    ensures alike { ChosenLoosely }
+    ensures loose { ChosenMarks }
 {}

@@ -10,7 +10,7 @@ use Rattle.rt_lines.specs.declared.label.Label.{Label}
 use Rattle.rt_shape.specs.Graphs.{Graph, letter_eq}
 use Rattle.rt_shape.specs.Inside.Classes.{Joined}
 use Rattle.rt_shape.specs.Inside.Classes.Joined.{joined_pair, joined_self}
-use Rattle.rt_shape.specs.Inside.Joins.{AreSound}
+use Rattle.rt_shape.specs.Inside.Joins.{AreAlone, AreEmpty, AreSound}
 
 -- what a list of lists holds, one list more at its end
 pub Contains-pushed_cases : {X : Type 0} (xs : List (List X)) (ys : List X) (c : ℕ) (x : X) → Contains (get_or (xs ++ ys ∷ []) c []) x → Contains (get_or xs c []) x ⊎ ((c ≡ length xs) × Contains ys x)
@@ -23,11 +23,6 @@ Contains-pushed_cases xs ys c x h = by (cases_lt c (length xs)) (cases_eq c (len
         let whole = length_push xs ys in
         let beyond : length (xs ++ ys ∷ []) ≤ c = omega arith in
         absurd (Contains-none x (subst (λ zs. Contains zs x) (get_or_past (xs ++ ys ∷ []) c [] beyond) h))
-
--- nodes below n, each alone in a list
-pub record AreAlone (n : ℕ) (members : List (List ℕ)) : Type 0 where
-  pub each : length members ≡ n
-  pub own : (c k : ℕ) → Contains (get_or members c []) k → (c ≡ k) × (k < n)
 
 pub AreAlone-push : (n : ℕ) (members : List (List ℕ)) (own : List ℕ) → AreAlone n members → own ≡ n ∷ [] → AreAlone (n + 1) (members ++ own ∷ [])
 AreAlone-push n members own are e = record {
@@ -44,11 +39,6 @@ AreAlone-push n members own are e = record {
     by c k (inr (f, h)) =
         let same : n ≡ k = only k (Contains-cons_cases n [] k (subst (λ xs. Contains xs k) e h)) in
         (f ∙ are.each ∙ same, omega arith)
-
--- so many empty lists
-pub record AreEmpty {X : Type 0} (n : ℕ) (letters : List (List X)) : Type 0 where
-  pub each : length letters ≡ n
-  pub none : (c : ℕ) (x : X) → Contains (get_or letters c []) x → ⊥
 
 pub AreEmpty-push : {X : Type 0} (n : ℕ) (letters : List (List X)) (own : List X) → AreEmpty n letters → own ≡ [] → AreEmpty (n + 1) (letters ++ own ∷ [])
 AreEmpty-push n letters own are e = record {

@@ -3,7 +3,6 @@ use Rattle.std.proofs.Common.{◌≡◌, ℕ, Bool, true, false, nat_eq, refl, s
 use Rattle.std.specs.Cmp.{IsEquivalence}
 use Rattle.std.proofs.lemmas.Bool.{eqb-true, and_parts}
 use Rattle.rt_lines.specs.declared.label.Label.{Label}
-use Rattle.rt_lines.specs.declared.variable.Base.{Base}
 use Rattle.rt_lines.specs.contracts.label.LabelEq.TheImpl.Laws as label_laws
 use Rattle.rt_lines.specs.contracts.variable.BaseEq.TheImpl.Laws as base_laws
 use Rattle.rt_lines.specs.Equality.{base_eq, label_eq}

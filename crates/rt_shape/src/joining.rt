@@ -2,7 +2,7 @@
 ghost use Rattle.std.specs.Prelude.{◌≡◌, ℕ, ◌+◌, ◌<◌, List, Contains, IfOk, OnOk};
 ghost use Rattle.rt_shape.specs.Graphs.{Graph};
 ghost use Rattle.rt_shape.specs.Inside.Classes.{AreClasses, Joined};
-ghost use Rattle.rt_shape.specs.Inside.Joins.{IsSound, Leads, MayEnter, MayJoin, work};
+ghost use Rattle.rt_shape.specs.Inside.Joins.{AreAlone, AreEmpty, IsSound, Leads, MayEnter, MayJoin, work};
 
 use crate::closing::{own_classes, pointed};
 use crate::tree::Tree;
@@ -28,6 +28,30 @@ struct Joining {
     todo: Vec<(u32, u32)>,
 }
 
+// For each of so many classes its own node alone.
+fn alone(alloc: Global, count: u32) -> Result<Vec<Sequence<u32>>, Memory>
+    ensures { IfOk result (λ members. AreAlone count members.items) }
+{
+    let mut members = Vec::with_capacity(alloc, count as usize)?;
+    for node in 0..count {
+        let mut own = Sequence::new(alloc);
+        own.push(node)?;
+        members.push(own)?;
+    }
+    Ok(members)
+}
+
+// For each of so many classes no letters.
+fn without_letters(alloc: Global, count: u32) -> Result<Vec<Sequence<(Label, u32)>>, Memory>
+    ensures { IfOk result (λ letters. AreEmpty count letters.items) }
+{
+    let mut letters = Vec::with_capacity(alloc, count as usize)?;
+    for _ in 0..count {
+        letters.push(Sequence::new(alloc))?;
+    }
+    Ok(letters)
+}
+
 impl Joining {
     // Each node in a class of its own, without letters.
     fn new(alloc: Global, count: u32, pairs: &[(u32, u32)]) -> Result<Joining, Memory>
@@ -35,14 +59,8 @@ impl Joining {
         ensures { IfOk result (λ s. (graph : Graph) → graph.count ≡ count → IsSound graph pairs.now s) }
     {
         let class = own_classes(alloc, count)?;
-        let mut members = Vec::with_capacity(alloc, count as usize)?;
-        let mut letters = Vec::with_capacity(alloc, count as usize)?;
-        for node in 0..count {
-            let mut own = Sequence::new(alloc);
-            own.push(node)?;
-            members.push(own)?;
-            letters.push(Sequence::new(alloc))?;
-        }
+        let members = alone(alloc, count)?;
+        let letters = without_letters(alloc, count)?;
         let todo = pairs.to_vec(alloc)?;
         Ok(Joining {
             class,

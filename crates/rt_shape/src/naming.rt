@@ -1,5 +1,5 @@
 // The variables that lines name, and those of one shape by the lines themselves.
-ghost use Rattle.std.specs.Prelude.{◌≡◌, ℕ, ◌⊎◌, Some, IfOk, IfSome, OnOk};
+ghost use Rattle.std.specs.Prelude.{◌≡◌, ℕ, ◌⊎◌, [], ◌∷◌, ◌++◌, Some, IfOk, IfSome, MatchOption, OnOk};
 ghost use Rattle.rt_lines.specs.declared.variable.Dtv.{Dtv};
 ghost use Rattle.rt_rules.specs.Rules.{HasSide};
 ghost use Rattle.rt_shape.specs.Graphs.{Has, IsKept, IsTree};
@@ -31,13 +31,22 @@ pub fn named(alloc: Global, lines: &[Line]) -> Result<Naming, Memory>
     let mut pairs = Vec::new(alloc);
     for line in lines {
         let sides = enter_line(&mut tree, line)?;
-        if let Some(pair) = sides {
-            pairs.push(pair)?;
-        }
+        add_pair(&mut pairs, sides)?;
     }
     // The call says that it is a tree.
     tree.count();
     Ok(Naming { tree, pairs })
+}
+
+// Adds a pair at the end, if there is one.
+fn add_pair(pairs: &mut Vec<(u32, u32)>, pair: Option<(u32, u32)>) -> Result<(), Memory>
+    ensures { OnOk result (MatchOption pair (pairs.new.items ≡ pairs.old.items)
+        (λ p. pairs.new.items ≡ pairs.old.items ++ p ∷ [])) }
+{
+    if let Some(pair) = pair {
+        pairs.push(pair)?;
+    }
+    Ok(())
 }
 
 // Gives nodes to the sides of a line. Those of its two sides, where it says that they have one shape.

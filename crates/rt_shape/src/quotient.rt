@@ -1,9 +1,10 @@
 // The graph of the classes of a tree's nodes.
-ghost use Rattle.std.specs.Prelude.{◌≡◌, ℕ, ◌<◌, ◌^◌, length, List, All, Contains, IfOk};
+ghost use Rattle.std.specs.Prelude.{◌≡◌, ℕ, ◌+◌, ◌<◌, ◌^◌, length, List, All, Contains, IfOk};
 ghost use Rattle.rt_lines.specs.declared.line.Line.{Line};
 ghost use Rattle.rt_shape.specs.Graphs.{IsTree};
 ghost use Rattle.rt_shape.specs.Shapes.{ArePairs, IsNaming, IsShapeOf};
-ghost use Rattle.rt_shape.specs.Inside.Classes.{AreBasesOf, AreClasses, AreEdgesOf, AreStepsOne, IsClosed, IsNumbering, IsQuotient};
+ghost use Rattle.rt_shape.specs.Inside.Classes.{AreBasesOf, AreClasses, AreEdgesOf, AreStepsOne, IsClosed};
+ghost use Rattle.rt_shape.specs.Inside.Classes.{IsNumberOf, IsNumbering, IsQuotient};
 
 use crate::closing::closed;
 use crate::shape::Shape;
@@ -45,8 +46,17 @@ fn quotient(
     let nodes = tree.count() as usize;
     prove!(class.len() == nodes);
     let (number, count) = numbered(alloc, class)?;
-    let bases = bases_of(alloc, tree, &number)?;
-    let edges = edges_of(alloc, tree, &number)?;
+    numbered_shape(alloc, tree, &number, count)
+}
+
+// The graph of the numbers of the tree's nodes, so many.
+fn numbered_shape(alloc: Global, tree: &Tree, number: &[u32], count: u32) -> Result<Shape, Memory>
+    requires tree { IsTree tree.now }
+    requires number { (class : List ℕ) × (length class ≡ tree.now.count) × AreStepsOne tree.now class × IsNumbering class number.now count }
+    ensures { IfOk result (λ shape. (shape.count ≡ count) × IsQuotient tree.now number.now shape) }
+{
+    let bases = bases_of(alloc, tree, number)?;
+    let edges = edges_of(alloc, tree, number)?;
     Ok(Shape::from_parts(count, bases, edges))
 }
 
@@ -61,17 +71,27 @@ fn numbered(alloc: Global, class: &[u32]) -> Result<(Vec<u32>, u32), Memory>
     let mut numbers = Vec::with_capacity(alloc, class.len())?;
     let mut count = 0;
     for c in class {
-        let number = match known[*c as usize] {
-            Some(number) => number,
-            None => {
-                known[*c as usize] = Some(count);
-                count += 1;
-                count - 1
-            }
-        };
+        let number = number_of(&mut known, &mut count, *c);
         numbers.push(number)?;
     }
     Ok((numbers, count))
+}
+
+// The number of a class: the next one, where it has none.
+fn number_of(known: &mut Vec<Option<u32>>, count: &mut u32, class: u32) -> u32
+    requires known { class < length known.old.items }
+    requires few { count.old + 1 < 2 ^ 32 }
+    ensures { IsNumberOf class known.old.items count.old result known.new.items count.new }
+{
+    match known[class as usize] {
+        Some(number) => number,
+        None => {
+            let number = *count;
+            known[class as usize] = Some(number);
+            *count += 1;
+            number
+        }
+    }
 }
 
 // The numbers of the bases' nodes.

@@ -1,4 +1,4 @@
--- The load and the store of a node of a sketch lead to one node.
+-- The load and the store of a node of a sketch lead to one node, and lines have one sketch.
 use Rattle.std.proofs.Common.{◌≡◌, ℕ, inl, inr, Option, Some, None, List, [], ◌∷◌, ◌++◌, refl, ap, sym, ◌∙◌}
 use Rattle.std.specs.Prelude.{slice_get}
 use Rattle.std.proofs.lemmas.Option.{slice_get_within}
@@ -14,9 +14,10 @@ use Rattle.rt_loose.specs.Laws.{IsOneEnd}
 use Rattle.rt_loose.specs.Loose.{IsLoose}
 use Rattle.rt_loose.proofs.Lawful.{pointer_law}
 use Rattle.rt_lattice.specs.Bounds.{IsAntisymmetric}
-use Rattle.rt_tree.specs.Trees.{Nodes, IsTree, edge_of, marks_from, marks_of, step_of, walk}
+use Rattle.rt_tree.specs.Laws.{OneTree}
+use Rattle.rt_tree.specs.Trees.{AreSame, Nodes, IsTree, edge_of, marks_from, marks_of, step_of, walk}
 use Rattle.rt_tree.proofs.Words.{leads, marked, marks-append, node_of, step_in, then_some, walk_in, walk_on}
-use Rattle.rt_sketch.specs.Laws.{OneEndLaw}
+use Rattle.rt_sketch.specs.Laws.{OneEndLaw, OneSketch}
 use Rattle.rt_sketch.specs.Sketches.{AreMarks, IsAdmitted, IsJoinOf, IsMeetOf, IsSketchOf, of_procedure}
 use Rattle.rt_base.proofs.Options.{some_of, is_some_of}
 
@@ -50,12 +51,19 @@ module _ (order : Below) (anti : IsAntisymmetric (IsAtOrBelow order) order.count
         by (inl none) = absurd (some none)
         by (inr d) = d
 
-    -- and marks are there
-    marks_there : (w : List Label) → Derivable order lines (Var (of_procedure own w)) → (m : ℕ × ℕ) × (marks_from tree 0 w ≡ Some m)
-    marks_there w d =
-        let to : (n : ℕ) × (walk tree 0 w ≡ Some n) = some_of (walk tree 0 w) ((sketch.words w).1 (inr d)) in
+    -- marks are where a word is admitted
+    marks_at : (w : List Label) → IsAdmitted order lines own w → (m : ℕ × ℕ) × (marks_from tree 0 w ≡ Some m)
+    marks_at w admitted =
+        let to : (n : ℕ) × (walk tree 0 w ≡ Some n) = some_of (walk tree 0 w) ((sketch.words w).1 admitted) in
         let node = node_of tree to.0 (walk_in tree is_tree.nodes 0 w to.0 is_tree.rooted to.1) in
         (marks_of node.0, marked tree 0 w to.0 node.0 to.1 node.1)
+
+    -- and nowhere else
+    admitted_at : (w : List Label) (m : ℕ × ℕ) → marks_from tree 0 w ≡ Some m → IsAdmitted order lines own w
+    admitted_at w m e = let to = leads tree 0 w m e in (sketch.words w).0 (is_some_of (walk tree 0 w) to.0 to.1)
+
+    marks_there : (w : List Label) → Derivable order lines (Var (of_procedure own w)) → (m : ℕ × ℕ) × (marks_from tree 0 w ≡ Some m)
+    marks_there w d = marks_at w (inr d)
 
     -- two words, behind which there are the same bounds, have the same marks
     same_marks : (u v : List Label) → (u ≡ [] → ⊥) → (v ≡ [] → ⊥) → IsOneEnd order lines (of_procedure own u) (of_procedure own v) → marks_from tree 0 u ≡ marks_from tree 0 v
@@ -100,6 +108,35 @@ module _ (order : Below) (anti : IsAntisymmetric (IsAtOrBelow order) order.count
 
       ends : load ≡ store
       ends = sketch.minimal.one load store (step_in tree is_tree.nodes n load Load loads) (step_in tree is_tree.nodes n store Store stores) alike
+
+  -- the marks of a variable are one pair
+  one_pair : (lines : List Line) (x : Dtv) (m n : ℕ × ℕ) → AreMarks order lines x m → AreMarks order lines x n → m ≡ n
+  one_pair lines x (low, up) (low', up') p q =
+      let lows : low ≡ low' = one_join (λ k. IsLoose order lines (Low k x)) (λ k. IsLoose order lines (Low k x)) low low' (λ k h. h) (λ k h. h) p.low q.low in
+      let ups : up ≡ up' = one_meet (λ k. IsLoose order lines (Up x k)) (λ k. IsLoose order lines (Up x k)) up up' (λ k h. h) (λ k h. h) p.up q.up in
+      rw (lows, ups) refl
+
+  -- two sketches have the same words and marks
+  are_same : (own : ℕ) (lines : List Line) (a b : Nodes) → IsTree a → IsTree b → IsSketchOf order own lines a → IsSketchOf order own lines b → AreSame a b
+  are_same own lines a b is is' sketch sketch' w = by (marks_from a 0 w) (marks_from b 0 w) refl refl
+    where
+      clash : (o : Option (ℕ × ℕ)) (x : ℕ × ℕ) → o ≡ Some x → None ≡ o → ⊥
+      clash None x e f = cc
+      clash (Some y) x e f = cc
+
+      by : (o p : Option (ℕ × ℕ)) → o ≡ marks_from a 0 w → p ≡ marks_from b 0 w → o ≡ p
+      by None None e f = refl
+      by None (Some n) e f =
+          let there = marks_at own lines a is sketch w (admitted_at own lines b is' sketch' w n (sym f)) in
+          absurd (clash (marks_from a 0 w) there.0 there.1 e)
+      by (Some m) None e f =
+          let there = marks_at own lines b is' sketch' w (admitted_at own lines a is sketch w m (sym e)) in
+          absurd (clash (marks_from b 0 w) there.0 there.1 f)
+      by (Some m) (Some n) e f = ap Some (one_pair lines (of_procedure own w) m n (sketch.marks w m (sym e)) (sketch'.marks w n (sym f)))
+
+pub one_sketch : OneTree → OneSketch
+one_sketch one_tree order own lines a b anti is is' sketch sketch' =
+    one_tree a b is is' sketch.minimal sketch'.minimal sketch.numbered sketch'.numbered (are_same order anti own lines a b is is' sketch sketch')
 
 pub one_end : OneEndLaw
 one_end order own lines tree anti is_tree sketch n load store loads stores =

@@ -14,7 +14,7 @@ use rt_scheme::Schemes;
 use rt_settle::{GroupSchemes, solve_group};
 use rt_sigs::Sigs;
 use rt_table::{Facts, lines_of};
-use std::alloc::{AllocError, Global};
+use std::alloc::Global;
 
 // Puts each scheme at its procedure's number.
 fn set_schemes(schemes: &mut Schemes, found: GroupSchemes)
@@ -53,8 +53,7 @@ fn solve_next(
 
 /// The schemes of all procedures, group after group: those of a group's members have nothing to spare, and say to whoever
 /// calls them, under the order of the lattice, the same as the lists of the members together, where callees outside the
-/// group have the schemes that were found before and functions outside their signatures. The error is out of memory, which
-/// also comes where 32 bits don't number the procedures.
+/// group have the schemes that were found before and functions outside their signatures. The error is out of memory.
 ///
 /// Condition: the groups are those of the facts' procedures, callees first, the signatures are those that the facts were
 /// prepared with, and their constants are names of the lattice.
@@ -73,10 +72,7 @@ pub fn solve_all(
         groups.now) }
     ensures given { IfOk result (AreGiven facts.now.object.now (size_of lattice.now)) }
 {
-    let Ok(count) = u32::try_from(facts.procs().len()) else {
-        return Err(AllocError);
-    };
-    let mut schemes = Schemes::new(alloc, count)?;
+    let mut schemes = Schemes::new(alloc, facts.procs().len() as u32)?;
     for group in groups.items() {
         solve_next(alloc, facts, group.items(), &mut schemes, sigs, lattice)?;
     }

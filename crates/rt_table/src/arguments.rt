@@ -9,6 +9,7 @@ use crate::context::Context;
 use crate::receiver::Receiver;
 use rt_base::Memory;
 use rt_frame::Spot;
+use rt_insn::registers::A0;
 use rt_lines::{Label, Loc};
 use rt_rows::{Rows, Term};
 use rt_track::Value;
@@ -60,7 +61,7 @@ impl Context<'_> {
     {
         match label {
             Label::In(Loc::Arg(number)) => {
-                let side = self.use_side(site, 10 + number)?;
+                let side = self.use_side(site, A0 + number)?;
                 self.flow(side, to, rows)
             }
             Label::In(Loc::Stack(offset)) => {

@@ -11,6 +11,7 @@ use rt_base::Memory;
 use rt_body::Operation;
 use rt_frame::Addition;
 use rt_frame::questions::{addition, is_kept};
+use rt_insn::registers::ZERO;
 use rt_lattice::Role;
 use rt_rows::Rows;
 
@@ -94,7 +95,7 @@ impl Context<'_> {
         requires index { index < 32 }
         ensures { OnOk result (rows.new ≡ rows.old ++ indexed (context_of self.now) site to other index) }
     {
-        if to != 0 {
+        if to != ZERO {
             let side = self.use_side(site, other)?;
             self.flow(side, self.definition(site, to), rows)?;
         }

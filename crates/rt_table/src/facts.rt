@@ -1,5 +1,5 @@
 // What is known of an object's procedures.
-ghost use Rattle.std.specs.Prelude.{◌≡◌, length, map};
+ghost use Rattle.std.specs.Prelude.{◌≡◌, ◌<◌, ◌^◌, length, map};
 ghost use Rattle.rt_body.specs.Told.{sites_in};
 ghost use Rattle.rt_frame.specs.Told.{frame_sites};
 ghost use Rattle.rt_table.specs.Inside.Registers.{HaveRegisters, HaveRegisters-prop};
@@ -26,6 +26,7 @@ pub struct Facts<'a> {
     ghost calls_each: { length calls ≡ length frames.items },
     ghost of_one: { map (λ framed. frame_sites framed.frame) frames.items ≡ map sites_in bodies.items },
     ghost registers: { HaveRegisters calls } by { HaveRegisters-prop calls },
+    ghost few: { length procs.now < 2 ^ 32 },
 }
 
 // The frame of a procedure, and the offsets of the words of the stack that it takes as arguments, ascending.
@@ -37,9 +38,10 @@ pub(crate) struct Framed {
 }
 
 impl<'a> Facts<'a> {
-    /// The procedures.
+    /// The procedures. There are fewer than 2^32.
     pub fn procs(&self) -> &'a Procs
-        ensures { result.now ≡ self.now.procs.now }
+        ensures procs { result.now ≡ self.now.procs.now }
+        ensures few { length result.now < 2 ^ 32 }
     {
         self.procs
     }

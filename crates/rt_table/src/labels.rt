@@ -6,6 +6,7 @@ ghost use Rattle.rt_scheme.specs.Ports.{has_port};
 ghost use Rattle.rt_table.specs.Table.{is_covered, port_arguments, port_words, register_arguments, stack_arguments};
 
 use rt_base::Memory;
+use rt_insn::registers::A0;
 use rt_lines::{Label, Loc};
 use rt_liveness::Call;
 use rt_scheme::Ports;
@@ -29,7 +30,7 @@ pub(crate) fn register_arguments(alloc: Global, call: &Call) -> Result<Vec<Label
 {
     let mut labels = Vec::new(alloc);
     for number in 0..8 {
-        let takes = call.takes_register(10 + number);
+        let takes = call.takes_register(A0 + number);
         push_if(takes, Label::In(Loc::Arg(number)), &mut labels)?;
     }
     Ok(labels)

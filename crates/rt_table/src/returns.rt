@@ -8,6 +8,7 @@ use crate::context::Context;
 use rt_base::Memory;
 use rt_flow::Def;
 use rt_frame::questions::results;
+use rt_insn::registers::A0;
 use rt_lines::Label;
 use rt_rows::{Row, Rows, Term};
 
@@ -41,7 +42,7 @@ impl Context<'_> {
         ensures { OnOk result (rows.new ≡ rows.old ++ result_rows (context_of self.now) site result_number) }
     {
         let to = Term::port(self.alloc, self.procedure, Label::Out(result_number))?;
-        let register = 10 + result_number;
+        let register = A0 + result_number;
         let defs = results(self.alloc, self.body, self.calls, site, register)?;
         self.returned(&to, register, &defs, rows)
     }

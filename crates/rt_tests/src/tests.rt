@@ -1,6 +1,8 @@
 // Runs over files and streams in memory. What a command writes and refuses is shown by cases of the built program; here a
 // read and a write fail, and a report is read back. The modules have what crates below say beyond the program's answers.
+mod bounds;
 mod counts;
+mod headers;
 mod memory;
 mod trees;
 

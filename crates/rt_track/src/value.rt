@@ -6,7 +6,7 @@ ghost use Rattle.rt_track.specs.Values.{onto, plus, sum};
 /// What a register holds: a constant, a symbol's address plus an offset in bytes, the stack pointer at the entry plus an
 /// offset, what a register held at the entry plus an offset, what the definition of a register at a site gave plus an offset,
 /// or one of several values that differ. Constants and offsets wrap at 32 bits.
-#[derive(Clone, Copy, Debug, PartialEq, Eq, Hash)]
+#[derive(Clone, Copy, PartialEq, Eq)]
 pub enum Value {
     Const(u32),
     Sym(u32, i32),

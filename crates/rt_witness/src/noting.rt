@@ -1,13 +1,13 @@
 // Numbers of lines in the rows of the nodes of what they name.
 ghost use Rattle.std.specs.Prelude.{◌≡◌, ◌∷◌, [], length, IfOk, OnOk};
 ghost use Rattle.rt_lines.specs.declared.variable.Dtv.{Dtv as Variable};
-ghost use Rattle.rt_shape.specs.Graphs.{walk};
+ghost use Rattle.rt_shape.specs.Graphs.{bare, node_of, walk};
 ghost use Rattle.rt_shape.specs.Shapes.{IsFront};
 ghost use Rattle.rt_witness.specs.Witnesses.{AreKept, AreNoted, HasFront, IsNotedAt, IsNotedIn};
 
 use crate::rows::{empty_rows, put};
 use rt_base::{Memory, Sequence};
-use rt_lines::{Dtv, Label, Line, Word};
+use rt_lines::{Base, Dtv, Label, Line, Word};
 use rt_shape::Shape;
 use std::alloc::Global;
 
@@ -61,17 +61,23 @@ fn note_side(
     ensures noted { OnOk result ((y : Variable) → IsFront y x.now → IsNotedIn shape.now rows.new.items i y) }
     ensures kept { OnOk result (AreKept rows.old.items rows.new.items) }
 {
-    let bare = Dtv {
-        base: x.base,
-        word: Word::empty(alloc),
-    };
-    let mut node = shape.node(&bare);
+    let mut node = node_of_base(alloc, shape, x.base);
     note(node, i, rows)?;
     for letter in x.word.items() {
         node = node_after(shape, node, letter);
         note(node, i, rows)?;
     }
     Ok(())
+}
+
+// The node of a base alone.
+fn node_of_base(alloc: Global, shape: &Shape, base: Base) -> Option<u32>
+    ensures { result ≡ node_of shape.now (bare base) }
+{
+    shape.node(&Dtv {
+        base,
+        word: Word::empty(alloc),
+    })
 }
 
 // The node after a node, by a label.

@@ -1,11 +1,11 @@
 // Lines by what they name.
-ghost use Rattle.std.specs.Prelude.{◌≡◌, List, true, false, IfOk};
+ghost use Rattle.std.specs.Prelude.{◌≡◌, List, true, false, length, IfOk};
 ghost use Rattle.rt_lines.specs.declared.line.Line.{Line as Given};
 ghost use Rattle.rt_lines.specs.declared.line.Line.TheVariants.{Var as Exists};
 ghost use Rattle.rt_lines.specs.Orders.{Below};
 ghost use Rattle.rt_rules.specs.Rules.{Derivable};
-ghost use Rattle.rt_shape.specs.Shapes.{IsNamed};
-ghost use Rattle.rt_witness.specs.Witnesses.{IsLeft, IsWitnesses};
+ghost use Rattle.rt_shape.specs.Shapes.{IsNamed, IsShapeOf};
+ghost use Rattle.rt_witness.specs.Witnesses.{AreNaming, AreNoted, IsLeft, IsWitnesses};
 
 use crate::naming::naming;
 use crate::noting::noted;
@@ -25,15 +25,31 @@ pub struct Witnesses {
     naming: Vec<Sequence<usize>>,
 }
 
+// The shape of the lines, and for each of its nodes the numbers of the lines that name a variable of that node.
+fn by_shape(alloc: Global, lines: &[Line]) -> Result<(Shape, Vec<Sequence<usize>>), Memory>
+    ensures { IfOk result (λ made. IsShapeOf lines.now made.0 × AreNoted made.0 lines.now (length lines.now) made.1.items) }
+{
+    let shape = rt_shape::of(alloc, lines)?;
+    let noted = noted(alloc, &shape, lines)?;
+    Ok((shape, noted))
+}
+
+// The variables that the lines name, and for each the numbers of the lines with a side that begins with it.
+fn by_variable(alloc: Global, lines: &[Line]) -> Result<(Named, Vec<Sequence<usize>>), Memory>
+    ensures { IfOk result (λ made. AreNaming made.0 lines.now made.1.items) }
+{
+    let named = Named::of(alloc, lines, &[])?;
+    let naming = naming(alloc, &named, lines)?;
+    Ok((named, naming))
+}
+
 impl Witnesses {
     /// Of the lines, in memory and time linear in their letters, but for what their shape takes. The error is out of memory.
     pub fn of(alloc: Global, lines: &[Line]) -> Result<Witnesses, Memory>
         ensures { IfOk result (IsWitnesses lines.now) }
     {
-        let shape = rt_shape::of(alloc, lines)?;
-        let noted = noted(alloc, &shape, lines)?;
-        let named = Named::of(alloc, lines, &[])?;
-        let naming = naming(alloc, &named, lines)?;
+        let (shape, noted) = by_shape(alloc, lines)?;
+        let (named, naming) = by_variable(alloc, lines)?;
         Ok(Witnesses {
             shape,
             noted,

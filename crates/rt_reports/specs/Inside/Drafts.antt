@@ -10,6 +10,7 @@ use Rattle.rt_scheme.specs.declared.report.Report.{Report}
 use Rattle.rt_reports.specs.Globals.{line_globals, entries_globals}
 use Rattle.rt_reports.specs.GoodReports.{numbers_of, entry_numbers}
 use Rattle.rt_reports.specs.declared.row.Row.{Row}
+use Rattle.rt_reports.specs.declared.draft.Draft.{Draft}
 use Rattle.rt_reports.specs.declared.row.Row.TheVariants.{Listed, Heading, Stated, End}
 
 -- what was read: the globals, the entries with their ends, and the entry whose end is still to come
@@ -84,12 +85,6 @@ Allows parts (Heading number place name) = (parts.unfinished ≡ None) × (least
 Allows parts (Stated line) = IsUnfinished parts.unfinished × All (Contains (numbers_of parts.globals)) (line_globals line)
 Allows parts End = IsUnfinished parts.unfinished × (2 ^ 32 ≤ least_entry parts → AllNamed parts)
 
--- the parts with the line; where it may not follow the fault is `BadText(0)`, and memory may run out
-abbrev pub Follows : Parts → Row → Result Parts TextFault → Type 0
-Follows parts row r =
-    MatchResult r (λ after. Allows parts row × (after ≡ with_row parts row)) (λ e. (e ≡ Memory) ⊎
-    ((e ≡ BadText 0) × (Allows parts row → ⊥)))
-
 -- the parts are those of a report
 abbrev pub IsWhole : Parts → Type 0
 IsWhole parts = (parts.unfinished ≡ None) × AllNamed parts
@@ -106,3 +101,17 @@ pub record IsListing (globals : List (ℕ × List ℕ)) (numbers : List ℕ) (le
 pub record IsDraft (entries : List Entry) (unfinished : Option Entry) (named : List ℕ) (least : ℕ) : Type 0 where
   pub named_are : named ≡ fold (insert_key nat_eq) [] (entries_globals (all_entries entries unfinished))
   pub risen : least ≡ least_after 0 (entry_numbers (all_entries entries unfinished))
+
+-- what was read, of a draft that keeps the rest rightly
+abbrev pub parts_of : Draft → Parts
+parts_of draft = record { globals = draft.listed.globals; entries = draft.entries; unfinished = draft.unfinished }
+
+pub record IsKept (draft : Draft) : Type 0 where
+  pub listing : IsListing draft.listed.globals draft.listed.numbers draft.listed.least
+  pub drafted : IsDraft draft.entries draft.unfinished draft.named draft.least
+
+-- a draft with one line more; where the line may not follow the fault is `BadText(0)`, and memory may run out
+abbrev pub Follows : Draft → Row → Result (Unit {0}) TextFault → Draft → Type 0
+Follows before row r after =
+    MatchResult r (λ done. Allows (parts_of before) row × (parts_of after ≡ with_row (parts_of before) row) × IsKept after)
+    (λ e. (e ≡ Memory) ⊎ ((e ≡ BadText 0) × (Allows (parts_of before) row → ⊥)))

@@ -1,5 +1,6 @@
 -- Nodes that have to be one, and classes of nodes.
-use Rattle.std.specs.Prelude.{◌≡◌, ℕ, ◌<◌, ◌↔◌, ◌==◌, if◌then◌else◌, min, max, List, Contains, length, Some, slice_index}
+use Rattle.std.specs.Prelude.{◌≡◌, ℕ, ◌+◌, ◌<◌, ◌↔◌, ◌==◌, if◌then◌else◌, min, max, List, Contains, length, Option, Some, None, slice_index}
+use Rattle.std.specs.Prelude.{slice_index_or, slice_set}
 use Rattle.std.specs.Map.{lookup}
 use Rattle.rt_lines.specs.declared.label.Label.{Label}
 use Rattle.rt_lines.specs.declared.label.Label.TheVariants.{In, Out, Load, Store, Field}
@@ -58,6 +59,12 @@ pub record IsViolated (graph : Graph) (pairs : List (ℕ × ℕ)) (class : List 
   pub second_in : j < graph.count
   pub joined : Joined graph pairs i j
   pub apart : slice_index class i ≡ slice_index class j → ⊥
+
+-- the number of a class is the known one, or where none is known the next one, which is known from then on
+pub data IsNumberOf (class : ℕ) (known : List (Option ℕ)) (count : ℕ) (number : ℕ) (after : List (Option ℕ)) (next : ℕ) : Type 0 where
+  is_known : slice_index_or known class None ≡ Some number → after ≡ known → next ≡ count → IsNumberOf class known count number after next
+  is_next : slice_index_or known class None ≡ None → after ≡ slice_set known class (Some count) → next ≡ count + 1 → number ≡ count →
+      IsNumberOf class known count number after next
 
 -- the classes numbered from 0, each by all numbers below the count
 pub record IsNumbering (class : List ℕ) (number : List ℕ) (count : ℕ) : Type 0 where

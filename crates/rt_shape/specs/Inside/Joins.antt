@@ -15,6 +15,16 @@ abbrev pub Leads : Graph → List (ℕ × ℕ) → ℕ → Label → ℕ → Typ
 Leads graph pairs c l t = (t < graph.count) ×
     ((k : ℕ) × (j : Label) × Joined graph pairs k c × (pointed j ≡ l) × (step_of graph k j ≡ Some t))
 
+-- nodes below n, each alone in a list
+pub record AreAlone (n : ℕ) (members : List (List ℕ)) : Type 0 where
+  pub each : length members ≡ n
+  pub own : (c k : ℕ) → Contains (slice_index_or members c []) k → (c ≡ k) × (k < n)
+
+-- so many empty lists
+pub record AreEmpty {X : Type 0} (n : ℕ) (letters : List (List X)) : Type 0 where
+  pub each : length letters ≡ n
+  pub none : (c : ℕ) (x : X) → Contains (slice_index_or letters c []) x → ⊥
+
 -- what is in one class has to be one, and so has what is left to do
 pub record AreSound (graph : Graph) (pairs : List (ℕ × ℕ)) (class : List ℕ) (members : List (List ℕ))
     (letters : List (List (Label × ℕ))) (first : List ((ℕ × Label) × ℕ)) (todo : List (ℕ × ℕ)) : Type 0 where

@@ -21,8 +21,8 @@ returns-in_err-roles-clause-fault c =
 
 pub invariant_of-result : goal.invariant_of-result
 invariant_of-result c =
-    keeps _ _ _ _ c.requires c.in_ok-order.ensures.named c.in_ok-order.ensures.ok c.in_ok-bounds.ensures.transitive c.in_ok-bounds.ensures.none c.in_ok-bounds.ensures.bounds
+    keeps _ _ _ _ c.requires c.in_ok-order.ensures.named c.in_ok-order.ensures.ok c.in_ok-bounds.ensures.whole.transitive c.in_ok-bounds.ensures.none c.in_ok-bounds.ensures.bounds
     c.in_ok-roles.ensures.ok
 
 pub returns-clause-lattice : goal.returns-clause-lattice
-returns-clause-lattice c = lattice_says _ _ _ _ c.in_ok-order.ensures.ok c.in_ok-bounds.ensures.none c.in_ok-bounds.ensures.bounds c.in_ok-roles.ensures.ok
+returns-clause-lattice c = lattice_says _ _ _ _ c.in_ok-order.ensures.ok c.in_ok-bounds.ensures.whole c.in_ok-bounds.ensures.none c.in_ok-bounds.ensures.bounds c.in_ok-roles.ensures.ok

@@ -1,16 +1,8 @@
 use Rattle.std.proofs.Common.{◌≡◌, List, Result, Ok, Err, IfOk, sym, subst}
-use Rattle.std.specs.BTreeSet.{contains}
-use Rattle.std.specs.Ordering.{nat_cmp}
 use Rattle.rt_lines.specs.declared.line.Line.{Line}
-use Rattle.rt_rules.specs.Put.{use_of}
-use Rattle.rt_polar.specs.Inside.Places.{Holds, lines_of}
+use Rattle.rt_polar.specs.Inside.Places.{lines_of}
 use Rattle.rt_polar.specs.Puts.{Puts}
 use Rattle.rt_polar.specs.Tidied.{tidied}
-use Rattle.rt_polar.specs.Index.{has}
-use Rattle.rt_polar.proofs.Cuts.{use_has}
-use Rattle.rt_polar.proofs.Falling.{gives_falls}
-use Rattle.rt_polar.proofs.Giving.{turn_step, turns_end}
-use Rattle.rt_polar.proofs.Holding.{use_names}
 use Rattle.rt_polar.proofs.putting_away.put_away.Goals as goal
 
 -- what holds of a value holds of one that it equals
@@ -18,36 +10,7 @@ if_ok : {E : Type 0} (P : List Line → Type 0) (r : Result (List Line) E) (line
 if_ok P (Ok ls) lines p e = subst P (sym e) p
 if_ok P (Err e) lines p h = tt
 
-pub loop-turn-init : goal.loop-turn-init
-loop-turn-init c = record {
-  places = c.in_ok-places.ensures.places;
-  pending = λ sign n z slot sole.
-      c.in_ok-pending.ensures slot n (use_of sign n z) (subst (λ slots. Holds slots slot (use_of sign n z)) (sym c.deref.ensures.value) sole.holds) (use_names sign n (use_of sign n z) (use_has sign n z));
-  puts = λ left p. subst (Puts left) c.in_ok-places.ensures.lines p;
-}
-
-pub loop-turn-smaller : goal.loop-turn-smaller
-loop-turn-smaller c =
-    let t = c.in-Some.turn in
-    let slots = c.loop-turn.places.slots.items in
-    let g = c.in_ok-give_away.ensures.gives in
-    gives_falls t.existential g.0 t.slot slots (contains nat_cmp c.next_turn.new.pending) (lines_of c.give_away.new.places.slots.items) g.1 g.2
-
-pub loop-turn-preserved : goal.loop-turn-preserved
-loop-turn-preserved c =
-    let t = c.in-Some.turn in
-    let slots = c.loop-turn.places.slots.items in
-    let g = c.in_ok-give_away.ensures.gives in
-    record {
-      places = c.in_ok-give_away.ensures.places;
-      pending = c.in_ok-give_away.ensures.pending;
-      puts = λ left p. c.loop-turn.invariant.puts left
-          (turn_step t.existential g.0 t.slot slots (has c.loop-turn.places.at) (contains nat_cmp c.next_turn.new.pending) (lines_of c.give_away.new.places.slots.items) left c.loop-turn.invariant.places.found g.1 g.2 p);
-    }
-
 pub returns : goal.returns
 returns c =
-    let slots = c.loop-turn.places.slots.items in
-    if_ok (λ left. Puts left (tidied c.args.lines)) c.gathered.result (lines_of slots)
-    (c.loop-turn.invariant.puts (lines_of slots) (turns_end slots (has c.loop-turn.places.at) c.loop-turn.invariant.places.found c.in_default.ensures))
-    c.gathered.ensures
+    let left = lines_of c.give_all.new.places.slots.items in
+    if_ok (λ ls. Puts ls (tidied c.args.lines)) c.gathered.result left (subst (Puts left) c.in_ok-places.ensures.lines c.in_ok-give_all.ensures) c.gathered.ensures

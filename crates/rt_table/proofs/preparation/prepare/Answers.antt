@@ -40,6 +40,7 @@ invariant_of-result c =
       calls_each = told.one_each ∙ sym c.in_ok-bodies.ensures.one_each ∙ sym framed.one_each;
       of_one = maps-same (λ (f : Framed). frame_sites f.frame) sites_in frames bodies framed.one_each (λ q f body less. (framed.each q body f less).sites);
       registers = c.in_ok-calls.ensures.registers;
+      few = c.in_ok-calls.ensures.few;
     }
 
 pub returns : goal.returns

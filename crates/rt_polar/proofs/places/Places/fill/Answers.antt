@@ -1,13 +1,12 @@
-use Rattle.std.proofs.Common.{subst}
-use Rattle.rt_polar.specs.Index.{has, IsBareNoted}
-use Rattle.rt_polar.proofs.Holding.{held_filled}
-use Rattle.rt_polar.proofs.Pairs.{bare_noted}
+use Rattle.std.proofs.Common.{List, Option, Some, sym, subst}
+use Rattle.std.proofs.Math.ListN.{set}
+use Rattle.rt_lines.specs.declared.line.Line.{Line}
+use Rattle.rt_polar.specs.Index.{has}
+use Rattle.rt_polar.specs.Inside.Places.{AreHeld}
 use Rattle.rt_polar.proofs.places.Places.fill.Goals as goal
 
 pub returns-clause-places : goal.returns-clause-places
 returns-clause-places c =
-    let old = c.args.self.now in
-    held_filled old.slots.items c.args.slot c.args.row (has old.at) (has c.insert.new.self) (has old.naming) (has old.defining) (has old.consuming) (has c.note.new.index) (has c.note-2.new.index) (has c.note-3.new.index)
-    c.requires.within c.requires.empty c.requires.absent c.requires.plain c.requires.places
-    (subst (λ d. IsBareNoted d c.args.slot (has old.at) (has c.insert.new.self)) c.digest.ensures (bare_noted c.digest.result c.args.slot (has old.at) (has c.insert.new.self) (λ n i. c.in_ok-insert.ensures.updates.0 (n, i))))
-    c.in_ok-note.ensures c.in_ok-note-2.ensures c.in_ok-note-3.ensures
+    let new = c.enter.new.self in
+    let P : List (Option Line) → Type 0 = λ items. AreHeld (set items c.args.slot (Some c.args.row)) (has new.at) (has new.naming) (has new.defining) (has new.consuming) in
+    subst P (sym c.in_ok-enter.ensures.slots) c.in_ok-enter.ensures.held

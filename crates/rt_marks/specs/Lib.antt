@@ -1,0 +1,2 @@
+pub mod Outsides
+pub mod Laws

@@ -1,9 +1,0 @@
-use Rattle.std.proofs.Common.{length}
-use Rattle.rt_reports.proofs.Reading.{IsRead}
-use Rattle.rt_reports.proofs.reader.read_report.Given as goal
-
-abbrev pub invariant-loop-line : goal.invariant-loop-line
-invariant-loop-line l = IsRead l.names l.text l.draft l.rest l.number
-
-abbrev pub decreases-loop-line : goal.decreases-loop-line
-decreases-loop-line l = length l.rest
