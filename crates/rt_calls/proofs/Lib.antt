@@ -1,2 +1,4 @@
 pub mod Adding
+pub mod Calling
+pub mod Placing
 pub mod Same

@@ -1,11 +1,14 @@
-//! Groups of procedures that call each other, callees first.
+//! Groups of procedures that call each other, callees first, and which group calls which.
 #![tactic(auto)]
 
 ghost use Rattle.std.specs.Prelude.{IfOk};
 ghost use Rattle.rt_calls.specs.Calls.{AreGroupsOf};
 
+mod callees;
 mod edges;
+pub mod laws;
 
+pub use callees::callees_of;
 use rt_base::Memory;
 pub use rt_components::Groups;
 use rt_proc::Procs;

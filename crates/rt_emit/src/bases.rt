@@ -63,9 +63,9 @@ fn note_all_fixed(bases: &mut IndexSet<Base>, line: &Line) -> Result<(), Memory>
     Ok(())
 }
 
-/// The bases that are kept, each once: existentials that the flow lines use, and the globals and procedures that the lines
-/// name. The error is out of memory.
-pub fn kept_bases(alloc: Global, lines: &[Line], flow: &[Line]) -> Result<IndexSet<Base>, Memory>
+// The bases that are kept, each once: existentials that the flow lines use, and the globals and procedures that the lines
+// name.
+fn kept_bases(alloc: Global, lines: &[Line], flow: &[Line]) -> Result<IndexSet<Base>, Memory>
     requires scheme { AreOfScheme lines.now }
     requires flow { flow.now ≡ flow_lines lines.now }
     ensures { IfOk result (λ bases. AreKeptBases lines.now bases.keys) }
@@ -80,8 +80,19 @@ pub fn kept_bases(alloc: Global, lines: &[Line], flow: &[Line]) -> Result<IndexS
     Ok(bases)
 }
 
-/// The bases as a vector. The error is out of memory.
-pub fn listed(alloc: Global, bases: IndexSet<Base>) -> Result<Vec<Base>, Memory>
+// The same as a vector.
+fn bases_of(alloc: Global, lines: &[Line], flow: &[Line]) -> Result<Vec<Base>, Memory>
+    requires scheme { AreOfScheme lines.now }
+    requires flow { flow.now ≡ flow_lines lines.now }
+    ensures { IfOk result (λ bases. AreKeptBases lines.now bases.items) }
+{
+    let kept = kept_bases(alloc, lines, flow)?;
+    let bases = listed(alloc, kept)?;
+    Ok(bases)
+}
+
+// The bases as a vector.
+fn listed(alloc: Global, bases: IndexSet<Base>) -> Result<Vec<Base>, Memory>
     ensures { IfOk result (λ list. list.items ≡ bases.keys) }
 {
     bases.into_iter().collect(alloc)
@@ -114,8 +125,8 @@ fn push_first(
     }
 }
 
-/// The first variables of the kept bases. The error is out of memory.
-pub fn first_variables(
+// The first variables of these bases.
+fn first_of(
     alloc: Global,
     lines: &[Line],
     bases: &[Base],
@@ -132,4 +143,22 @@ pub fn first_variables(
         push_first(alloc, shape, letters, &mut queue, *base)?;
     }
     Ok(queue)
+}
+
+/// The first variables of the kept bases. The error is out of memory.
+pub fn first_variables(
+    alloc: Global,
+    lines: &[Line],
+    flow: &[Line],
+    shape: &Shape,
+    letters: &Letters,
+) -> Result<Queue, Memory>
+    requires scheme { AreOfScheme lines.now }
+    requires flow { flow.now ≡ flow_lines lines.now }
+    requires shape { IsShapeOf lines.now shape.now }
+    requires letters { AreLettersOf shape.now letters.now }
+    ensures { IfOk result (AreFirst lines.now) }
+{
+    let bases = bases_of(alloc, lines, flow)?;
+    first_of(alloc, lines, &bases, shape, letters)
 }

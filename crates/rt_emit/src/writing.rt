@@ -12,7 +12,7 @@ ghost use Rattle.rt_emit.specs.Inside.Bases.{AreFirst};
 ghost use Rattle.rt_emit.specs.Inside.Letters.{letters_at, AreLettersOf};
 ghost use Rattle.rt_emit.specs.Inside.Writing.{line_by, total, IsNext, IsTurn};
 
-use crate::bases::{first_variables, kept_bases, listed};
+use crate::bases::first_variables;
 use crate::letters::{Letters, letters_of};
 use crate::queue::Queue;
 use rt_base::Memory;
@@ -114,6 +114,23 @@ fn write_queued(
     Ok(written)
 }
 
+// The lines of the shape over kept bases, where the shape is that of the lines.
+fn lines_of(
+    alloc: Global,
+    lines: &[Line],
+    flow: &[Line],
+    shape: &Shape,
+) -> Result<Vec<Line>, Memory>
+    requires scheme { AreOfScheme lines.now }
+    requires flow { flow.now ≡ flow_lines lines.now }
+    requires shape { IsShapeOf lines.now shape.now }
+    ensures { IfOk result (λ written. (order : Below) → AreShapeLines order lines.now written.items) }
+{
+    let mut letters = letters_of(alloc, lines, shape)?;
+    let mut queue = first_variables(alloc, lines, flow, shape, &letters)?;
+    write_queued(alloc, shape, &mut letters, &mut queue)
+}
+
 /// The lines of the shape over kept bases, in the order of their variables: each class of variables of one shape has the
 /// first of them as its word. The flow lines are the `<=` lines and bounds of the tidied lines. The error is out of
 /// memory.
@@ -123,9 +140,5 @@ pub fn shape_lines(alloc: Global, lines: &[Line], flow: &[Line]) -> Result<Vec<L
     ensures { IfOk result (λ written. (order : Below) → AreShapeLines order lines.now written.items) }
 {
     let shape = rt_shape::of(alloc, lines)?;
-    let mut letters = letters_of(alloc, lines, &shape)?;
-    let kept = kept_bases(alloc, lines, flow)?;
-    let bases = listed(alloc, kept)?;
-    let mut queue = first_variables(alloc, lines, &bases, &shape, &letters)?;
-    write_queued(alloc, &shape, &mut letters, &mut queue)
+    lines_of(alloc, lines, flow, &shape)
 }

@@ -92,8 +92,7 @@ fn numbers_by(
     if exact {
         return Ok(classes.numbers);
     }
-    let numbers = counted(alloc, lines)?;
-    Ok(numbers)
+    counted(alloc, lines)
 }
 
 // Classes by arcs from outside.
@@ -112,22 +111,36 @@ fn found(alloc: Global, named: &Named, lines: &[Line], outer: &Classes) -> Resul
     ensures exact { IfOk result (λ told. IsTrue told.exact → AreEquals lines.now named.now outer.now.numbers.items) }
     ensures table { IfOk result (λ told. IfSome told.table (Tells lines.now)) }
 {
-    if are_apart(alloc, named, outer)? {
+    if is_exact(alloc, named, lines, outer)? {
         return Ok(Finding {
             exact: true,
             table: None,
         });
     }
+    told(alloc, named, lines, outer)
+}
+
+// Whether it is known without a table of ways that classes from outside are exact.
+fn is_exact(alloc: Global, named: &Named, lines: &[Line], outer: &Classes) -> Result<bool, Memory>
+    requires named { named.now ≡ named_by lines.now [] }
+    requires outer { AreOuterEquals lines.now named.now outer.now.count outer.now.numbers.items }
+    ensures { IfOk result (λ yes. IsTrue yes → AreEquals lines.now named.now outer.now.numbers.items) }
+{
+    if are_apart(alloc, named, outer)? {
+        return Ok(true);
+    }
+    are_inside(alloc, named, lines, outer)
+}
+
+// Whether arcs from inside say the same of existentials as classes from outside.
+fn are_inside(alloc: Global, named: &Named, lines: &[Line], outer: &Classes) -> Result<bool, Memory>
+    requires named { named.now ≡ named_by lines.now [] }
+    requires outer { AreOuterEquals lines.now named.now outer.now.count outer.now.numbers.items }
+    ensures { IfOk result (λ yes. IsTrue yes → AreEquals lines.now named.now outer.now.numbers.items) }
+{
     let lower = Lower::of(alloc, lines, &[])?;
     let inner = lower.equals(alloc)?;
-    if agree(alloc, named, outer, &inner.numbers)? {
-        return Ok(Finding {
-            exact: true,
-            table: None,
-        });
-    }
-    let told = told(alloc, named, lines, outer)?;
-    Ok(told)
+    agree(alloc, named, outer, &inner.numbers)
 }
 
 // Whether classes from outside put no other variable together with an existential.

@@ -4,8 +4,8 @@ ghost use Rattle.rt_lines.specs.declared.line.Line.{Line as Given};
 ghost use Rattle.rt_lines.specs.declared.variable.Dtv.{Dtv as Variable};
 ghost use Rattle.rt_named.specs.Naming.{named as named_by};
 ghost use Rattle.rt_outline.specs.Equal.{AreOuterEquals};
-ghost use Rattle.rt_sat.specs.Increments.{Tells};
-ghost use Rattle.rt_equals.specs.Comparing.{AreEquals};
+ghost use Rattle.rt_sat.specs.Increments.{named_of, Tells};
+ghost use Rattle.rt_equals.specs.Comparing.{AreEquals, AreMarked};
 ghost use Rattle.rt_equals.specs.Joined.{AreJoined, IsJoined};
 
 use crate::agreeing::marked;
@@ -35,16 +35,41 @@ pub(crate) fn told(
     ensures exact { IfOk result (λ told. IsTrue told.exact → AreEquals lines.now named.now outer.now.numbers.items) }
     ensures table { IfOk result (λ told. IfSome told.table (Tells lines.now)) }
 {
-    let own = apart(alloc, named.len())?;
-    let marks = marked(alloc, named, outer, &own)?;
-    let sides = marked_sides(alloc, named, lines, outer, &marks)?;
-    let shape = rt_shape::of(alloc, lines)?;
-    let growing = GrowingTable::of(alloc, lines, &shape, &sides, Extent::Whole)?;
+    let marks = own_marks(alloc, named, outer)?;
+    let growing = grown(alloc, named, lines, outer, &marks)?;
     let exact = are_joined(&growing, &outer.numbers, &marks);
     Ok(Finding {
         exact,
         table: Some(growing),
     })
+}
+
+// At each number of an existential one of the variables that have it.
+fn own_marks(alloc: Global, named: &Named, outer: &Classes) -> Result<Vec<Option<usize>>, Memory>
+    requires each { length outer.now.numbers.items ≡ length named.now }
+    requires few { (i : ℕ) → i < length named.now → slice_index_or outer.now.numbers.items i 0 < outer.now.count }
+    ensures each { IfOk result (λ marks. length marks.items ≡ outer.now.count) }
+    ensures marked { IfOk result (λ marks. AreMarked named.now outer.now.numbers.items (length named.now) marks.items) }
+{
+    let own = apart(alloc, named.len())?;
+    marked(alloc, named, outer, &own)
+}
+
+// A table of ways, with places for the sides that have a marked number and for the variables of bounds.
+fn grown(
+    alloc: Global,
+    named: &Named,
+    lines: &[Line],
+    outer: &Classes,
+    marks: &[Option<usize>],
+) -> Result<GrowingTable, Memory>
+    requires { named.now ≡ named_by lines.now [] }
+    ensures named { IfOk result (λ growing. (extra : List Variable) × (named_of growing ≡ named_by lines.now extra)) }
+    ensures tells { IfOk result (λ growing. Tells lines.now growing) }
+{
+    let sides = marked_sides(alloc, named, lines, outer, marks)?;
+    let shape = rt_shape::of(alloc, lines)?;
+    GrowingTable::of(alloc, lines, &shape, &sides, Extent::Whole)
 }
 
 // So many numbers, no two of them equal.

@@ -8,3 +8,4 @@ pub mod Compared
 pub mod Settling
 pub mod Parting
 pub mod Handing
+pub mod Rounding

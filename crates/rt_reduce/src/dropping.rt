@@ -48,7 +48,7 @@ pub fn drop_derivable(alloc: Global, lines: &[Line], order: &Order) -> Result<Li
     ensures drops { IfOk result (λ left. Drops order.now [] lines.now left) }
     ensures stood { IfOk result (λ left. (l : Given) → Contains left l → Contains lines.now l) }
 {
-    drop_known(alloc, lines, &[], None, None, order)
+    drop_known(alloc, lines, &[], None, &mut None, order)
 }
 
 // The same, where lines that stood before are given, of which none follows from the others, and maybe arcs from outside of all
@@ -58,11 +58,11 @@ pub(crate) fn drop_known(
     lines: &[Line],
     before: &[Line],
     outer: Option<Upper>,
-    table: Option<GrowingTable>,
+    table: &mut Option<GrowingTable>,
     order: &Order,
 ) -> Result<Lines, Memory>
     requires outer { IfSome outer (IsOuterOf lines.now) }
-    requires table { IfSome table (IsTableAbout lines.now) }
+    requires table { IfSome table.old (IsTableAbout lines.now) }
     requires needed { AreNeeded order.now before.now }
     requires below { All (HasConstantsBelow order.now.count) before.now }
     requires constants { All (HasConstantsBelow order.now.count) lines.now }
@@ -144,7 +144,7 @@ fn drop_flow(
     lines: &[Line],
     before: &[Line],
     outer: Option<Upper>,
-    table: Option<GrowingTable>,
+    table: &mut Option<GrowingTable>,
     order: &Order,
     first: usize,
 ) -> Result<Vec<Line>, Memory>
@@ -152,16 +152,37 @@ fn drop_flow(
     requires needed { AreNeeded order.now before.now }
     requires below { All (HasConstantsBelow order.now.count) before.now }
     requires outer { IfSome outer (IsOuterOf lines.now) }
-    requires table { IfSome table (IsTableAbout lines.now) }
+    requires table { IfSome table.old (IsTableAbout lines.now) }
     requires constants { All (HasConstantsBelow order.now.count) lines.now }
     ensures drops { IfOk result (λ left. Drops order.now [] lines.now left.items) }
     ensures stood { IfOk result (λ left. (l : Given) → Contains left.items l → Contains lines.now l) }
 {
     let known = known(alloc, lines, before, order, first)?;
-    let told = vec![in alloc; false; lines.len()]?;
     let outer = outer_of(alloc, lines, &known, outer)?;
-    let fated = fates_of(alloc, outer.as_ref(), lines, &known, order)?;
-    let left = drop_fated(alloc, lines, outer.as_ref(), table, &told, &fated, order)?;
+    let left = drop_staying(alloc, lines, outer.as_ref(), table, &known, order)?;
+    Ok(left)
+}
+
+// The same, where it is known of some lines that they stay.
+fn drop_staying(
+    alloc: Global,
+    lines: &[Line],
+    outer: Option<&Upper>,
+    table: &mut Option<GrowingTable>,
+    known: &[bool],
+    order: &Order,
+) -> Result<Vec<Line>, Memory>
+    requires outer { IfSome outer (λ t. IsOuterOf lines.now t.now) }
+    requires table { IfSome table.old (IsTableAbout lines.now) }
+    requires each { length known.now ≡ length lines.now }
+    requires known { AreStaying order.now lines.now known.now }
+    requires constants { All (HasConstantsBelow order.now.count) lines.now }
+    ensures drops { IfOk result (λ left. Drops order.now [] lines.now left.items) }
+    ensures stood { IfOk result (λ left. (l : Given) → Contains left.items l → Contains lines.now l) }
+{
+    let told = vec![in alloc; false; lines.len()]?;
+    let fated = fates_of(alloc, outer, lines, known, order)?;
+    let left = drop_fated(alloc, lines, outer, table, &told, &fated, order)?;
     Ok(left)
 }
 
@@ -193,13 +214,13 @@ fn drop_fated(
     alloc: Global,
     lines: &[Line],
     outer: Option<&Upper>,
-    table: Option<GrowingTable>,
+    table: &mut Option<GrowingTable>,
     told: &[bool],
     fated: &Fated,
     order: &Order,
 ) -> Result<Vec<Line>, Memory>
     requires outer { IfSome outer (λ t. IsOuterOf lines.now t.now) }
-    requires table { IfSome table (IsTableAbout lines.now) }
+    requires table { IfSome table.old (IsTableAbout lines.now) }
     requires each { length lines.now ≤ length told.now }
     requires told { AreTold lines.now told.now }
     requires long { length fated.now.fates.items ≡ length lines.now }
@@ -397,11 +418,11 @@ fn settled(
 fn inner_beside(
     alloc: Global,
     lines: &[Line],
-    table: Option<GrowingTable>,
+    table: &mut Option<GrowingTable>,
     fates: &[Fate],
     order: &Order,
 ) -> Result<Option<Inner>, Memory>
-    requires table { IfSome table (IsTableAbout lines.now) }
+    requires table { IfSome table.old (IsTableAbout lines.now) }
     requires constants { All (HasConstantsBelow order.now.count) lines.now }
     ensures { IfOk result (λ inner. IfSome inner (λ t. IsLowerWith lines.now [] t)) }
 {

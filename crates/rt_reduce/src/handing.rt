@@ -5,7 +5,7 @@ ghost use Rattle.rt_lines.specs.declared.line.Line.{Line as Given};
 ghost use Rattle.rt_lines.specs.Lines.{HasConstantsBelow};
 ghost use Rattle.rt_rules.specs.Rules.{Derivable};
 ghost use Rattle.rt_reduce.specs.Inside.Dropping.{AreStaying};
-ghost use Rattle.rt_reduce.specs.Inside.Handing.{AreNeeded};
+ghost use Rattle.rt_reduce.specs.Inside.Handing.{AreNeeded, DoFollow};
 
 use crate::copying::copies;
 use crate::derivable::derives_line;
@@ -31,15 +31,31 @@ pub(crate) fn handed(
     ensures each { IfOk result (λ stays. length stays.items ≡ length lines.now) }
     ensures staying { IfOk result (λ stays. AreStaying order.now lines.now stays.items) }
 {
-    let here = set_of(alloc, lines)?;
     let known = set_of(alloc, before)?;
-    let gone = without(alloc, before, &here)?;
-    let come = without(alloc, lines, &known)?;
-    if !is_each_once(alloc, lines)? || !follow(alloc, &come, &gone, order)? {
+    if !is_each_once(alloc, lines)? || !come_follow(alloc, lines, before, &known, order)? {
         let none = vec![in alloc; false; lines.len()]?;
         return Ok(none);
     }
     flags(alloc, lines, &known)
+}
+
+// Whether each of the lines that isn't among known ones follows from those that stood before and are gone.
+fn come_follow(
+    alloc: Global,
+    lines: &[Line],
+    before: &[Line],
+    known: &IndexSet<Line>,
+    order: &Order,
+) -> Result<bool, Memory>
+    requires below { All (HasConstantsBelow order.now.count) before.now }
+    requires constants { All (HasConstantsBelow order.now.count) lines.now }
+    ensures { IfOk result (λ yes. IsTrue yes → DoFollow order.now lines.now before.now known.now.keys) }
+{
+    let here = set_of(alloc, lines)?;
+    let gone = without(alloc, before, &here)?;
+    let come = without(alloc, lines, known)?;
+    let yes = follow(alloc, &come, &gone, order)?;
+    Ok(yes)
 }
 
 // The lines as a set.

@@ -1,5 +1,5 @@
 // What lines say beforehand of which variables lie below which: arcs from inside, and a table where these leave bounds open.
-ghost use Rattle.std.specs.Prelude.{◌≡◌, ◌∷◌, ◌<◌, [], List, All, Contains, true, IfOk, IfSome, IsTrue, length};
+ghost use Rattle.std.specs.Prelude.{◌≡◌, ◌∷◌, ◌<◌, [], List, All, Contains, true, IfOk, OnOk, IfSome, IsTrue, length};
 ghost use Rattle.rt_lines.specs.declared.line.Line.{Line as Given};
 ghost use Rattle.rt_lines.specs.declared.variable.Dtv.{Dtv as Variable};
 ghost use Rattle.rt_lines.specs.Lines.{HasConstantsBelow};
@@ -7,7 +7,6 @@ ghost use Rattle.rt_lines.specs.Orders.{Below};
 ghost use Rattle.rt_outline.specs.Lines.{HasBelow};
 ghost use Rattle.rt_reduce.specs.Inside.Deciding.{IsLowerWith, IsTableAbout};
 ghost use Rattle.rt_sat.specs.Increments.{Tells};
-ghost use Rattle.rt_sure.specs.Grounds.{IsTableOf};
 
 use crate::bounds::{lows, ups};
 use crate::dropping::fate_of;
@@ -41,29 +40,21 @@ impl Model for Inner {
 
 impl Inner {
     // What lines say, with a table if arcs leave a bound open of which nothing is known: the one that may be given, if it leaves
-    // none open, else one that is made of the lines.
+    // none open, else one that is made of the lines. The given one is taken, unless arcs leave none open.
     pub(crate) fn of(
         alloc: Global,
         lines: &[Line],
-        given: Option<GrowingTable>,
+        given: &mut Option<GrowingTable>,
         fates: &[Fate],
         order: &Order,
     ) -> Result<Inner, Memory>
-        requires given { IfSome given (IsTableAbout lines.now) }
+        requires given { IfSome given.old (IsTableAbout lines.now) }
         requires constants { All (HasConstantsBelow order.now.count) lines.now }
         ensures { IfOk result (λ inner. IsLowerWith lines.now [] inner) }
     {
-        let plain = Inner::plain(alloc, lines)?;
-        if plain.open_count(alloc, lines, fates, order)? == 0 {
-            return Ok(plain);
-        }
-        let told = plain.with_given(given);
-        if told.table.is_some() && told.open_count(alloc, lines, fates, order)? == 0 {
-            return Ok(told);
-        }
-        let sides = bounded(alloc, lines)?;
-        let table = table_of(alloc, lines, &sides, Extent::Whole)?;
-        Ok(told.with_table(table))
+        let mut inner = Inner::plain(alloc, lines)?;
+        inner.widen(alloc, lines, given, fates, order)?;
+        Ok(inner)
     }
 
     // Arcs from inside of lines, without a table.
@@ -74,25 +65,47 @@ impl Inner {
         Ok(Inner { arcs, table: None })
     }
 
-    // The same, with the table that may be given.
-    fn with_given(self, given: Option<GrowingTable>) -> Inner
-        requires { IfSome given (IsTableAbout self.lines) }
-        ensures { result ≡ self }
+    // Adds a table, if arcs leave a bound open of which nothing is known.
+    fn widen(
+        &mut self,
+        alloc: Global,
+        lines: &[Line],
+        given: &mut Option<GrowingTable>,
+        fates: &[Fate],
+        order: &Order,
+    ) -> Result<(), Memory>
+        requires own { IsLowerWith lines.now [] self.old }
+        requires given { IfSome given.old (IsTableAbout lines.now) }
+        requires constants { All (HasConstantsBelow order.now.count) lines.now }
+        ensures { OnOk result (self.new ≡ self.old) }
     {
-        let Inner { arcs, table: _ } = self;
-        Inner { arcs, table: given }
+        if self.open_count(alloc, lines, fates, order)? == 0 {
+            return Ok(());
+        }
+        self.take(given);
+        if self.table.is_some() && self.open_count(alloc, lines, fates, order)? == 0 {
+            return Ok(());
+        }
+        self.fill(alloc, lines)
     }
 
-    // The same, with a table.
-    fn with_table(self, table: GrowingTable) -> Inner
-        requires { IsTableOf self.lines table }
-        ensures { result ≡ self }
+    // Takes the table that may be given.
+    fn take(&mut self, given: &mut Option<GrowingTable>)
+        requires { IfSome given.old (IsTableAbout self.old.lines) }
+        ensures { self.new ≡ self.old }
     {
-        let Inner { arcs, table: _ } = self;
-        Inner {
-            arcs,
-            table: Some(table),
-        }
+        self.table = given.take();
+    }
+
+    // Adds a table that is made of the lines.
+    fn fill(&mut self, alloc: Global, lines: &[Line]) -> Result<(), Memory>
+        requires { self.old.lines ≡ lines.now }
+        ensures { OnOk result (self.new ≡ self.old) }
+    {
+        let sides = bounded(alloc, lines)?;
+        let table = table_of(alloc, lines, &sides, Extent::Whole)?;
+        self.table = Some(table);
+        Ok(())
     }
 
     // Whether one of the variables is known to lie below one of the others. All are named.

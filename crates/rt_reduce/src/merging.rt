@@ -15,11 +15,13 @@ ghost use Rattle.rt_rules.specs.Put.{exist, put as put_side, put_lines};
 ghost use Rattle.rt_polar.specs.Tidied.{tidied};
 ghost use Rattle.rt_reduction.specs.Emits.{AreOfScheme};
 ghost use Rattle.rt_reduction.specs.Merges.{HasEqual, Merges};
-ghost use Rattle.rt_reduce.specs.Inside.Alike.{AreAlikeAt, IsAlike, HasNumber};
+ghost use Rattle.rt_named.specs.Naming.{named as named_by};
+ghost use Rattle.rt_equals.specs.Comparing.{AreEquals};
+ghost use Rattle.rt_reduce.specs.Inside.Alike.{AreAlikeAt, AreNumbered, IsAlike, HasNumber};
 ghost use Rattle.rt_reduce.specs.Inside.Bases.{IsAloneAt};
 ghost use Rattle.rt_reduce.specs.Inside.Compared.{IsCompared};
 ghost use Rattle.rt_reduce.specs.Inside.Deciding.{IsOwnOuter, IsTableAbout};
-ghost use Rattle.rt_reduce.specs.Inside.Merging.{IsEarlier, IsFirstAmong, IsFirstEqual};
+ghost use Rattle.rt_reduce.specs.Inside.Merging.{AreMerged, IsEarlier, IsFirstAmong, IsFirstEqual};
 
 use crate::alike::{number, numbers};
 use crate::bases::{Bases, is_alone, noted};
@@ -61,26 +63,78 @@ pub fn merge_equal(
     ensures named { IfOk result (λ left. (n : ℕ) → NamesBase left.lines (Existential n) → NamesBase lines.now (Existential n)) }
     ensures table { IfOk result (λ left. IfSome left.table (IsTableAbout left.lines)) }
 {
-    let start = copies(alloc, lines)?;
-    let now = Sequence::from_vec(start);
     let sides = sides(alloc, lines)?;
     if !has_existential(&sides) {
+        let left = copies(alloc, lines)?;
         return Ok(Leftover {
-            lines: now,
+            lines: Sequence::from_vec(left),
             table: None,
         });
     }
+    merge_compared(alloc, lines, sides, outer)
+}
+
+// What is left of the lines whose variables are given, which are compared once.
+fn merge_compared(
+    alloc: Global,
+    lines: &[Line],
+    sides: Vec<Dtv>,
+    outer: &Upper,
+) -> Result<Leftover, Memory>
+    requires sides { sides.items ≡ flat_map sides_of lines.now }
+    requires outer { IsOwnOuter lines.now outer.now }
+    ensures left { IfOk result (λ left. AreMerged lines.now left.lines) }
+    ensures table { IfOk result (λ left. IfSome left.table (IsTableAbout left.lines)) }
+{
     let comparison = Comparison::of(alloc, lines)?;
     let compared = comparison.equals(alloc, outer)?;
     let Equals {
         numbers: equals,
         table,
     } = compared;
-    let numbers = numbers(alloc, &comparison, &equals, &sides)?;
-    let bases = noted(alloc, &sides, &numbers, equals.len())?;
-    let pending = pending(alloc, &comparison, &equals, &sides, &bases)?;
-    let left = merge_pending(alloc, &comparison, &equals, &numbers, sides, pending, now)?;
+    let left = merge_numbered(alloc, lines, &comparison, &equals, sides)?;
     Ok(Leftover { lines: left, table })
+}
+
+// What is left of the lines, where the numbers of all variables that they name are given.
+fn merge_numbered(
+    alloc: Global,
+    lines: &[Line],
+    comparison: &Comparison,
+    equals: &[usize],
+    sides: Vec<Dtv>,
+) -> Result<Lines, Memory>
+    requires own { comparison.now.lines ≡ lines.now }
+    requires named { comparison.now.named ≡ named_by lines.now [] }
+    requires equals { AreEquals lines.now comparison.now.named equals.now }
+    requires sides { sides.items ≡ flat_map sides_of lines.now }
+    ensures { IfOk result (AreMerged lines.now) }
+{
+    let numbers = numbers(alloc, comparison, equals, &sides)?;
+    let pending = pending_of(alloc, comparison, equals, &sides, &numbers)?;
+    let start = copies(alloc, lines)?;
+    let now = Sequence::from_vec(start);
+    let left = merge_pending(alloc, comparison, equals, &numbers, sides, pending, now)?;
+    Ok(left)
+}
+
+// The existentials that are bases of the variables, but for some that have no equal.
+fn pending_of(
+    alloc: Global,
+    comparison: &Comparison,
+    equals: &[usize],
+    sides: &[Dtv],
+    numbers: &[usize],
+) -> Result<BTreeSet<u32>, Memory>
+    requires equals { AreEquals comparison.now.lines comparison.now.named equals.now }
+    requires numbers { AreNumbered comparison.now.named equals.now sides.now numbers.now }
+    requires sides { sides.now ≡ flat_map sides_of comparison.now.lines }
+    ensures { IfOk result (λ pending. (order : Below) (n : ℕ) → HasEqual order comparison.now.lines n →
+        contains nat_cmp pending n ≡ true) }
+{
+    let bases = noted(alloc, sides, numbers, equals.len())?;
+    let pending = pending(alloc, comparison, equals, sides, &bases)?;
+    Ok(pending)
 }
 
 // Lets each of the existentials, least first, give its place to the first of its equals, if it has one.

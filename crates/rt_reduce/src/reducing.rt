@@ -3,14 +3,15 @@ ghost use Rattle.std.specs.Prelude.{All, IfOk};
 ghost use Rattle.rt_lines.specs.Lines.{HasConstantsBelow};
 ghost use Rattle.rt_polar.specs.Tidied.{tidied};
 ghost use Rattle.rt_reduction.specs.Emits.{AreOfScheme};
-ghost use Rattle.rt_reduction.specs.Rounds.{IsReducedForm, Reduces};
+ghost use Rattle.rt_reduction.specs.Rounds.{IsReducedForm, IsRound, Reduces};
+ghost use Rattle.rt_reduce.specs.Inside.Handing.{AreNeeded};
 ghost use Rattle.rt_reduce.specs.Rounds.{IsStart};
 
 use crate::copying::copies;
 use crate::rounds::round_after;
 use crate::settling::is_settled;
-use rt_base::Memory;
-use rt_lines::{Lines, Order};
+use rt_base::{Memory, Sequence};
+use rt_lines::{Line, Lines, Order};
 use rt_polar::tidy;
 use rt_simplify::{prepare, split_records};
 use std::alloc::Global;
@@ -50,8 +51,22 @@ fn go_round(alloc: Global, lines: Lines, order: &Order) -> Result<Lines, Memory>
 {
     let mut now = round_after(alloc, lines, &[], order)?;
     while !is_settled(alloc, now.items())? {
-        let before = copies(alloc, now.items())?;
-        now = round_after(alloc, now, &before, order)?;
+        now = next_round(alloc, now.items(), order)?;
     }
     Ok(now)
+}
+
+// What is left of lines that a round left by one more.
+fn next_round(alloc: Global, lines: &[Line], order: &Order) -> Result<Lines, Memory>
+    requires scheme { AreOfScheme lines.now }
+    requires constants { All (HasConstantsBelow order.now.count) lines.now }
+    requires needed { AreNeeded order.now lines.now }
+    ensures round { IfOk result (λ after. IsRound order.now (tidied lines.now) after) }
+    ensures scheme { IfOk result (λ after. AreOfScheme after) }
+    ensures constants { IfOk result (λ after. All (HasConstantsBelow order.now.count) after) }
+    ensures needed { IfOk result (λ after. AreNeeded order.now after) }
+{
+    let copies = copies(alloc, lines)?;
+    let after = round_after(alloc, Sequence::from_vec(copies), lines, order)?;
+    Ok(after)
 }

@@ -6,6 +6,7 @@ ghost use Rattle.rt_reduction.specs.Emits.{AreOfScheme};
 ghost use Rattle.rt_reduction.specs.Rounds.{IsRound};
 ghost use Rattle.rt_reduce.specs.Inside.Deciding.{IsOuterOf, IsOwnOuter};
 ghost use Rattle.rt_reduce.specs.Inside.Handing.{AreNeeded};
+ghost use Rattle.rt_reduce.specs.Inside.Rounding.{IsLeftOf, IsWritten};
 ghost use Rattle.rt_reduce.specs.Rounds.{IsBegun};
 
 use crate::dropping::drop_known;
@@ -49,19 +50,38 @@ pub(crate) fn round_after(
     ensures constants { IfOk result (λ after. All (HasConstantsBelow order.now.count) after) }
     ensures needed { IfOk result (λ after. AreNeeded order.now after) }
 {
+    let written = written(alloc, lines)?;
+    let after = left_of(alloc, written.items(), before, order)?;
+    Ok(after)
+}
+
+// The lines, tidied and prepared, with their shape written anew.
+fn written(alloc: Global, lines: Lines) -> Result<Lines, Memory>
+    requires { AreOfScheme lines }
+    ensures { IfOk result (IsWritten (tidied lines)) }
+{
     let start = tidy(alloc, lines)?;
     let simple = prepare(alloc, start)?;
-    let emitted = emit_shape(alloc, simple.items())?;
-    let all = emitted.items();
-    let outer = Upper::of(alloc, all, &[])?;
-    let equal = merge_equal(alloc, all, &outer, order)?;
+    let written = emit_shape(alloc, simple.items())?;
+    Ok(written)
+}
+
+// What is left when existentials that equal a side give their places to it, and then each line goes that the others derive.
+fn left_of(alloc: Global, lines: &[Line], before: &[Line], order: &Order) -> Result<Lines, Memory>
+    requires constants { All (HasConstantsBelow order.now.count) lines.now }
+    requires needed { AreNeeded order.now before.now }
+    requires below { All (HasConstantsBelow order.now.count) before.now }
+    ensures { IfOk result (IsLeftOf order.now lines.now) }
+{
+    let outer = Upper::of(alloc, lines, &[])?;
+    let equal = merge_equal(alloc, lines, &outer, order)?;
     let Leftover {
         lines: merged,
-        table,
+        mut table,
     } = equal;
     let left = merged.items();
-    let outer = if_same(outer, all, left);
-    let after = drop_known(alloc, left, before, outer, table, order)?;
+    let outer = if_same(outer, lines, left);
+    let after = drop_known(alloc, left, before, outer, &mut table, order)?;
     Ok(after)
 }
 

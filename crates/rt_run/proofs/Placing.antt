@@ -1,10 +1,9 @@
 -- Lines at the numbers of procedures.
-use Rattle.std.proofs.Common.{◌≡◌, ◌∙◌, ◌⊎◌, ℕ, ◌+◌, ◌<◌, ◌≤◌, List, [], ◌∷◌, ◌++◌, All, Contains, Option, Some, None, IsSome, append_assoc, ap, arith, get_or, inl, inr, length, length-append, map, option_map, refl, set, subst, sym}
-use Rattle.std.proofs.Math.Seq.{get_or-append_seam}
+use Rattle.std.proofs.Common.{◌≡◌, ◌∙◌, ◌⊎◌, ℕ, ◌+◌, ◌<◌, ◌≤◌, List, [], ◌∷◌, ◌++◌, All, Contains, Option, Some, None, IsSome, ap, arith, get_or, inl, inr, length, map, option_map, refl, set, subst, sym}
 use Rattle.std.proofs.lemmas.Bool.{cases_order}
-use Rattle.std.proofs.lemmas.List.{get_or-set_other, get_or-set_same, get_or_default, length-set}
+use Rattle.std.proofs.lemmas.List.{get_or-set_other, get_or-set_same, get_or_default, length-map, length-set}
 use Rattle.std.proofs.Math.ListN.{get_or-map as get_or-map_same}
-use Rattle.std.proofs.lemmas.List.Elements.{Contains-get_or}
+use Rattle.std.proofs.lemmas.List.Elements.{Contains-append_left, Contains-get_or, Contains-push, Contains-push_cases}
 use Rattle.rt_lines.specs.declared.line.Line.{Line}
 use Rattle.rt_lines.specs.Lines.{HasConstantsBelow}
 use Rattle.rt_lattice.specs.Lattices.{size_of}
@@ -12,18 +11,17 @@ use Rattle.rt_proc.specs.declared.proc.Proc.{Proc}
 use Rattle.rt_calls.specs.Calls.{AreGroupsOf}
 use Rattle.rt_components.specs.Groups.{group_at}
 use Rattle.rt_scheme.specs.declared.scheme.Scheme.{Scheme}
+use Rattle.rt_table.specs.Bodies.{lists_in, numbers_in}
 use Rattle.rt_table.specs.Lists.{AreLinesOf, HasGlobalsOf}
 use Rattle.rt_run.specs.declared.analysis.Analysis.{Analysis}
 use Rattle.rt_run.specs.declared.content.Told.TheVariants as told
-use Rattle.rt_run.specs.Inside.Analyses.{AreListed, AreListsOf, AreToldOf, IsAnalysis, IsBodyOf, IsListed, object_in, procs_in}
+use Rattle.rt_run.specs.Inside.Analyses.{AreListed, AreListsOf, AreToldOf, IsAnalysis, IsListed, object_in, procs_in}
 
--- the lists from a place on are put
-pub record IsPut (group : List ℕ) (bodies : List (List Line)) (old now : List (Option (List Line))) (left : List (List Line)) : Type 0 where
-  pub put : List (List Line)
-  pub joined : left ++ put ≡ bodies
+-- these lists are put
+pub record IsPut (done : List (ℕ × List Line)) (old now : List (Option (List Line))) : Type 0 where
   pub long : length now ≡ length old
-  pub each : (number : ℕ) (lines : List Line) → get_or now number None ≡ Some lines → (get_or old number None ≡ Some lines) ⊎ IsBodyOf group bodies number lines
-  pub members : (i : ℕ) → length left ≤ i → i < length group → IsListed now (get_or group i 0)
+  pub each : (number : ℕ) (lines : List Line) → get_or now number None ≡ Some lines → (get_or old number None ≡ Some lines) ⊎ Contains done (number, lines)
+  pub members : (body : ℕ × List Line) → Contains done body → IsListed now body.0
   pub kept : (number : ℕ) → IsListed old number → IsListed now number
 
 -- what is put at a place is there, and what was there before
@@ -43,68 +41,71 @@ listed_set now number lines n inside h = by (cases_order n number) h
     by (inr (inr above)) (inl same) = own same
     by (inr (inr above)) (inr there) = other (λ e. omega (arith, e, above)) there
 
--- the place of the next list is one of the group
-pub place_within : (group : List ℕ) (bodies : List (List Line)) (old now : List (Option (List Line))) (left rest : List (List Line)) (lines : List Line)
-    → length bodies ≡ length group → left ≡ rest ++ lines ∷ [] → IsPut group bodies old now left → length rest < length group
-place_within group bodies old now left rest lines one_each last is_put =
-    let whole : length (left ++ is_put.put) ≡ length bodies = ap length is_put.joined in
-    let shorter : length left ≡ length rest + 1 = ap length last ∙ length-append rest (lines ∷ []) in
-    omega (arith, whole, shorter, length-append left is_put.put, one_each)
-
--- the body at a place is the one that was put there
-at_seam : (bodies put rest : List (List Line)) (lines : List Line) → (rest ++ lines ∷ []) ++ put ≡ bodies → lines ≡ get_or bodies (length rest) []
-at_seam bodies put rest lines joined = sym (subst (λ b. get_or b (length rest) [] ≡ lines) (sym (append_assoc rest (lines ∷ []) put) ∙ joined) (get_or-append_seam rest lines put []))
-
 some_is : (a b : List Line) → Some a ≡ Some b → a ≡ b
 some_is a b e = cc
 
 -- one more list is put
-pub put_more : (group : List ℕ) (bodies : List (List Line)) (old now now' : List (Option (List Line))) (left rest : List (List Line)) (lines : List Line) (number : ℕ)
-    → left ≡ rest ++ lines ∷ [] → length rest < length group → number ≡ get_or group (length rest) 0 → number < length now → now' ≡ set now number (Some lines)
-    → IsPut group bodies old now left → IsPut group bodies old now' rest
-put_more group bodies old now now' left rest lines number last within is_member inside is is_put = record {
-  put = lines ∷ is_put.put;
-  joined = sym (append_assoc rest (lines ∷ []) is_put.put) ∙ (ap (λ l. l ++ is_put.put) (sym last) ∙ is_put.joined);
-  long = ap length is ∙ (length-set now number (Some lines) ∙ is_put.long);
-  each = λ n found here. by n found (subst (λ l. get_or l n None ≡ Some found) is here) (cases_order n number);
-  members = λ i from below. subst (λ l. IsListed l (get_or group i 0)) (sym is) (listed_set now number lines (get_or group i 0) inside (member i from below (cases_order i (length rest))));
-  kept = λ n there. subst (λ l. IsListed l n) (sym is) (listed_set now number lines n inside (inr (is_put.kept n there)));
+pub put_more : (done : List (ℕ × List Line)) (old now : List (Option (List Line))) (number : ℕ) (lines : List Line) → number < length now → IsPut done old now
+    → IsPut (done ++ (number, lines) ∷ []) old (set now number (Some lines))
+put_more done old now number lines inside is_put = record {
+  long = length-set now number (Some lines) ∙ is_put.long;
+  each = λ n found here. by n found here (cases_order n number);
+  members = λ body there. listed_set now number lines body.0 inside (member body (Contains-push_cases done (number, lines) body there));
+  kept = λ n there. listed_set now number lines n inside (inr (is_put.kept n there));
 }
   where
-    member : (i : ℕ) → length rest ≤ i → i < length group → (i ≡ length rest) ⊎ ((i < length rest) ⊎ (length rest < i)) → (get_or group i 0 ≡ number) ⊎ IsListed now (get_or group i 0)
-    member i from below (inl same) = inl (ap (λ k. get_or group k 0) same ∙ sym is_member)
-    member i from below (inr (inl before)) = absurd (omega (arith, from, before))
-    member i from below (inr (inr after)) = inr (is_put.members i (omega (arith, after, ap length last ∙ length-append rest (lines ∷ []))) below)
+    member : (body : ℕ × List Line) → Contains done body ⊎ ((number, lines) ≡ body) → (body.0 ≡ number) ⊎ IsListed now body.0
+    member body (inl before) = inr (is_put.members body before)
+    member body (inr same) = inl (sym (ap (λ (b : ℕ × List Line). b.0) same))
 
-    own : (n : ℕ) (found : List Line) → get_or (set now number (Some lines)) n None ≡ Some found → n ≡ number → IsBodyOf group bodies n found
+    later : (n : ℕ) (found : List Line) → (get_or old n None ≡ Some found) ⊎ Contains done (n, found) → (get_or old n None ≡ Some found) ⊎ Contains (done ++ (number, lines) ∷ []) (n, found)
+    later n found (inl there) = inl there
+    later n found (inr body) = inr (Contains-append_left done ((number, lines) ∷ []) (n, found) body)
+
+    other : (n : ℕ) (found : List Line) → get_or (set now number (Some lines)) n None ≡ Some found → (n ≡ number → ⊥) → (get_or old n None ≡ Some found) ⊎ Contains (done ++ (number, lines) ∷ []) (n, found)
+    other n found here differs = later n found (is_put.each n found (sym (get_or-set_other now number n (Some lines) None differs) ∙ here))
+
+    own : (n : ℕ) (found : List Line) → get_or (set now number (Some lines)) n None ≡ Some found → n ≡ number → Contains (done ++ (number, lines) ∷ []) (n, found)
     own n found here same =
         let is_found : lines ≡ found = some_is lines found (sym (get_or-set_same now number (Some lines) None inside) ∙ subst (λ k. get_or (set now number (Some lines)) k None ≡ Some found) same here) in
-        record {
-          place = length rest;
-          within = within;
-          is_member = sym is_member ∙ sym same;
-          lines_are = sym is_found ∙ at_seam bodies is_put.put rest lines (ap (λ l. l ++ is_put.put) (sym last) ∙ is_put.joined);
-        }
+        subst (λ ls. Contains (done ++ (number, lines) ∷ []) (n, ls)) is_found (subst (λ k. Contains (done ++ (number, lines) ∷ []) (k, lines)) (sym same) (Contains-push done (number, lines)))
 
-    by : (n : ℕ) (found : List Line) → get_or (set now number (Some lines)) n None ≡ Some found → (n ≡ number) ⊎ ((n < number) ⊎ (number < n)) → (get_or old n None ≡ Some found) ⊎ IsBodyOf group bodies n found
+    by : (n : ℕ) (found : List Line) → get_or (set now number (Some lines)) n None ≡ Some found → (n ≡ number) ⊎ ((n < number) ⊎ (number < n)) → (get_or old n None ≡ Some found) ⊎ Contains (done ++ (number, lines) ∷ []) (n, found)
     by n found here (inl same) = inr (own n found here same)
-    by n found here (inr (inl below)) = is_put.each n found (sym (get_or-set_other now number n (Some lines) None (λ e. omega (arith, e, below))) ∙ here)
-    by n found here (inr (inr above)) = is_put.each n found (sym (get_or-set_other now number n (Some lines) None (λ e. omega (arith, e, above))) ∙ here)
+    by n found here (inr (inl below)) = other n found here (λ e. omega (arith, e, below))
+    by n found here (inr (inr above)) = other n found here (λ e. omega (arith, e, above))
 
 -- before any is put
-pub put_none : (group : List ℕ) (bodies left : List (List Line)) (old : List (Option (List Line))) → length bodies ≡ length group → left ≡ bodies → IsPut group bodies old old left
-put_none group bodies left old one_each is = record {
-  put = [];
-  joined = append_none left ∙ is;
+pub put_none : (old : List (Option (List Line))) → IsPut [] old old
+put_none old = record {
   long = refl;
   each = λ number lines here. inl here;
-  members = λ i from below. absurd (omega (arith, from, below, one_each, ap length is));
+  members = λ body (k, less, is). absurd (omega (arith, less));
   kept = λ number there. there;
 }
+
+-- a number that stands with a list is within
+pub number_within : (bodies : List (ℕ × List Line)) (n k number : ℕ) (lines : List Line) → All (λ m. m < n) (numbers_in bodies) → k < length bodies
+    → (number, lines) ≡ get_or bodies k (number, lines) → number < n
+number_within bodies n k number lines all less is =
+    let first : get_or (numbers_in bodies) k number ≡ number = get_or-map_same (λ (b : ℕ × List Line). b.0) bodies k (number, lines) ∙ sym (ap (λ (b : ℕ × List Line). b.0) is) in
+    subst (λ m. m < n) first (all k number (omega (arith, less, length-map bodies (λ (b : ℕ × List Line). b.0))))
+
+-- those of a list of numbers are there
+pub put_members : (bodies : List (ℕ × List Line)) (old now : List (Option (List Line))) → IsPut bodies old now → AreListed now (numbers_in bodies)
+put_members bodies old now is_put = λ i less.
+    let within : i < length bodies = subst (λ n. i < n) (length-map bodies (λ (b : ℕ × List Line). b.0)) less in
+    subst (IsListed now) (sym (get_or-map_same (λ (b : ℕ × List Line). b.0) bodies i (0, [])))
+    (is_put.members (get_or bodies i (0, [])) (Contains-get_or bodies i (0, []) within))
+
+-- so it is when all are put
+pub put_whole : (bodies yielded : List (ℕ × List Line)) (old now : List (Option (List Line))) → map (λ body. body) yielded ≡ bodies → IsPut yielded old now
+    → AreListed now (numbers_in bodies)
+put_whole bodies yielded old now all is_put = put_members bodies old now (subst (λ (b : List (ℕ × List Line)). IsPut b old now) (sym (same yielded) ∙ all) is_put)
   where
-    append_none : (l : List (List Line)) → l ++ [] ≡ l
-    append_none [] = refl
-    append_none (x ∷ l) = ap (λ t. x ∷ t) (append_none l)
+    same : (xs : List (ℕ × List Line)) → map (λ body. body) xs ≡ xs
+    same [] = refl
+    same (x ∷ xs) = ap (λ ys. x ∷ ys) (same xs)
 
 -- the members of a group are procedures
 pub members_within : (procs : List Proc) (groups : List (List ℕ)) (group : List ℕ) → AreGroupsOf procs groups → Contains groups group → All (λ n. n < length procs) group
@@ -113,35 +114,42 @@ members_within procs groups group are (k, less, is) = λ i d within.
     (are.nodes (get_or group i d)).1 (k, less, subst (λ g. Contains g (get_or group i d)) (sym at) (Contains-get_or group i d within))
 
 -- The lines of a group's members are told.
-pub lists_more : (analysis : Analysis) (group : List ℕ) (bodies : List (List Line)) (old new : List (Option (List Line)))
-    → IsAnalysis analysis → Contains analysis.groups group → length bodies ≡ length group
-    → AreLinesOf (object_in analysis) analysis.lattice.now.roles (procs_in analysis) analysis.sigs.now analysis.schemes group bodies
-    → All (All (HasConstantsBelow (size_of analysis.lattice.now))) bodies → All (HasGlobalsOf (object_in analysis)) bodies
-    → ((number : ℕ) (lines : List Line) → get_or new number None ≡ Some lines → (get_or old number None ≡ Some lines) ⊎ IsBodyOf group bodies number lines)
+pub lists_more : (analysis : Analysis) (group : List ℕ) (bodies : List (ℕ × List Line)) (old new : List (Option (List Line)))
+    → IsAnalysis analysis → Contains analysis.groups group → numbers_in bodies ≡ group
+    → AreLinesOf (object_in analysis) analysis.lattice.now.roles (procs_in analysis) analysis.sigs.now analysis.schemes group (lists_in bodies)
+    → All (All (HasConstantsBelow (size_of analysis.lattice.now))) (lists_in bodies) → All (HasGlobalsOf (object_in analysis)) (lists_in bodies)
+    → ((number : ℕ) (lines : List Line) → get_or new number None ≡ Some lines → (get_or old number None ≡ Some lines) ⊎ Contains bodies (number, lines))
     → AreListsOf told.Constraints analysis old → AreListsOf told.Constraints analysis new
-lists_more analysis group bodies old new is_analysis is_group one_each are_lines constants globals each before = λ number lines here. by number lines (each number lines here)
+lists_more analysis group bodies old new is_analysis is_group numbers are_lines constants globals each before = λ number lines here. by number lines (each number lines here)
   where
-    by : (number : ℕ) (lines : List Line) → (get_or old number None ≡ Some lines) ⊎ IsBodyOf group bodies number lines
+    one_each : length bodies ≡ length group
+    one_each = sym (length-map bodies (λ (b : ℕ × List Line). b.0)) ∙ ap length numbers
+
+    by : (number : ℕ) (lines : List Line) → (get_or old number None ≡ Some lines) ⊎ Contains bodies (number, lines)
         → AreToldOf told.Constraints (object_in analysis) analysis.lattice.now analysis.sigs.now (procs_in analysis) analysis.schemes number lines
     by number lines (inl there) = before number lines there
-    by number lines (inr body) =
-        let within : body.place < length bodies = omega (arith, body.within, one_each) in
+    by number lines (inr (place, within, is)) =
+        let found : get_or bodies place (0, []) ≡ (number, lines) = get_or_default bodies place (0, []) (number, lines) within ∙ is in
+        let is_number : get_or group place 0 ≡ number =
+        subst (λ g. get_or g place 0 ≡ number) numbers (get_or-map_same (λ (b : ℕ × List Line). b.0) bodies place (0, []) ∙ ap (λ (b : ℕ × List Line). b.0) found) in
+        let is_lines : get_or (lists_in bodies) place [] ≡ lines = get_or-map_same (λ (b : ℕ × List Line). b.1) bodies place (0, []) ∙ ap (λ (b : ℕ × List Line). b.1) found in
+        let inside : place < length (lists_in bodies) = omega (arith, within, length-map bodies (λ (b : ℕ × List Line). b.1)) in
         record {
           are_told = record {
             groups = analysis.groups;
             are_groups = is_analysis.groups;
             group = group;
             is_group = is_group;
-            bodies = bodies;
+            bodies = lists_in bodies;
             are_lines = are_lines;
-            place = body.place;
-            within = body.within;
-            is_member = body.is_member;
-            lines_are = body.lines_are;
+            place = place;
+            within = omega (arith, within, one_each);
+            is_member = is_number;
+            lines_are = sym is_lines;
           };
           are_kept = record {
-            constants = subst (All (HasConstantsBelow (size_of analysis.lattice.now))) (sym body.lines_are) (constants body.place [] within);
-            globals = subst (HasGlobalsOf (object_in analysis)) (sym body.lines_are) (globals body.place [] within);
+            constants = subst (All (HasConstantsBelow (size_of analysis.lattice.now))) is_lines (constants place [] inside);
+            globals = subst (HasGlobalsOf (object_in analysis)) is_lines (globals place [] inside);
           };
         }
 

@@ -7,9 +7,12 @@ use rt_calls::{Groups, groups_of};
 use rt_lattice::Lattice;
 use rt_scheme::Schemes;
 use rt_sigs::Sigs;
-use rt_solve::solve_all;
+use rt_solve::{Schedule, Steps, solve_all};
 use rt_table::{Facts, prepare};
 use std::alloc::Global;
+
+/// The number by which the workers are driven who solve the groups.
+const SCHEDULE: u32 = 0;
 
 /// What is known of an object's procedures, the groups of those that call each other, and their schemes.
 #[derive(Drop)]
@@ -52,7 +55,17 @@ impl<'a> Analysis<'a> {
     {
         let facts = prepare(alloc, &program.object, &program.links, &program.procs, sigs)?;
         let groups = groups_of(alloc, &program.procs)?;
-        let schemes = solve_all(alloc, &facts, &groups, sigs, lattice)?;
+        let mut schedule = Schedule::new(alloc, SCHEDULE);
+        let mut steps = Steps::new(());
+        let schemes = solve_all(
+            alloc,
+            &facts,
+            &groups,
+            sigs,
+            lattice,
+            &mut schedule,
+            &mut steps,
+        )?;
         Ok(Analysis {
             facts,
             groups,

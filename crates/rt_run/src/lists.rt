@@ -3,7 +3,8 @@ ghost use Rattle.std.specs.Prelude.{◌≡◌, ◌<◌, ◌⊎◌, ℕ, List, So
 ghost use Rattle.std.specs.Prelude.{IfOk, OnOk, length, option_map, replicate, slice_index_or};
 ghost use Rattle.rt_lines.specs.declared.line.Line.{Line};
 ghost use Rattle.rt_scheme.specs.declared.scheme.Scheme.{Scheme};
-ghost use Rattle.rt_run.specs.Inside.Analyses.{AreListed, AreListsOf, IsAnalysis, IsBodyOf, IsListed, procs_in};
+ghost use Rattle.rt_table.specs.Bodies.{numbers_in};
+ghost use Rattle.rt_run.specs.Inside.Analyses.{AreListed, AreListsOf, IsAnalysis, IsListed, procs_in};
 
 use crate::analysis::Analysis;
 use crate::content::Told;
@@ -15,19 +16,16 @@ use std::alloc::Global;
 /// For each procedure its lines, where they are known.
 pub type Lists = Vec<Option<Lines>>;
 
-// Puts the lists of a group's members at their numbers.
-fn put(group: &[u32], bodies: Bodies, lists: &mut Lists)
-    requires one_each { length bodies ≡ length group.now }
-    requires within { All (λ number. number < length lists.old.items) group.now }
+// Puts the lists of lines at their procedures' numbers.
+fn put(bodies: Bodies, lists: &mut Lists)
+    requires { All (λ number. number < length lists.old.items) (numbers_in bodies) }
     ensures long { length lists.new.items ≡ length lists.old.items }
     ensures each { (number : ℕ) (lines : List Line) → slice_index_or lists.new.items number None ≡ Some lines
-        → (slice_index_or lists.old.items number None ≡ Some lines) ⊎ IsBodyOf group.now bodies number lines }
-    ensures members { AreListed lists.new.items group.now }
+        → (slice_index_or lists.old.items number None ≡ Some lines) ⊎ Contains bodies (number, lines) }
+    ensures members { AreListed lists.new.items (numbers_in bodies) }
     ensures kept { (number : ℕ) → IsListed lists.old.items number → IsListed lists.new.items number }
 {
-    let mut left = bodies.into_vec();
-    while let Some(lines) = left.pop() {
-        let number = group[left.len()];
+    for (number, lines) in bodies.into_vec() {
         lists[number as usize] = Some(lines);
     }
 }
@@ -63,7 +61,7 @@ impl Analysis<'_> {
             self.sigs,
             self.lattice,
         )?;
-        put(group, bodies, lists);
+        put(bodies, lists);
         Ok(())
     }
 

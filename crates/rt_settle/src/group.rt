@@ -1,10 +1,10 @@
 // Schemes of groups of procedures.
-ghost use Rattle.std.specs.Prelude.{◌≡◌, ◌↔◌, ◌++◌, All, IfOk, IsTrue, OnOk};
+ghost use Rattle.std.specs.Prelude.{◌≡◌, ◌↔◌, All, IfOk, IsTrue};
 ghost use Rattle.rt_lines.specs.Lines.{HasConstantsBelow};
 ghost use Rattle.rt_scheme.specs.Schemes.{AreSchemeLines};
 ghost use Rattle.rt_scheme.specs.Splitting.{AreInterfaceLines};
 ghost use Rattle.rt_settle.specs.Chosen.{IsChosenFrom};
-ghost use Rattle.rt_settle.specs.Groups.{AreSchemesFrom, AreSchemesOf, IsSchemeFrom, TellsOutside, joined};
+ghost use Rattle.rt_settle.specs.Groups.{AreSchemesFrom, AreSchemesOf, IsSchemeFrom, TellsOutside};
 
 use crate::scheme::settle;
 use rt_base::{Memory, Sequence};
@@ -12,32 +12,8 @@ use rt_lines::{Line, Lines, Order};
 use rt_scheme::{Scheme, is_scheme_line, split};
 use std::alloc::Global;
 
-/// Lists of lines, one for each of some procedures.
-pub type Lists = Sequence<Lines>;
-
 /// Schemes, one for each member of a group.
 pub type GroupSchemes = Sequence<Scheme>;
-
-// Adds copies of lines.
-fn push_lines(all: &mut Vec<Line>, lines: &[Line]) -> Result<(), Memory>
-    ensures { OnOk result (all.new.items ≡ all.old.items ++ lines.now) }
-{
-    for line in lines {
-        all.push(line.copy()?)?;
-    }
-    Ok(())
-}
-
-// The lines of all lists.
-fn join(alloc: Global, lists: &[Lines]) -> Result<Lines, Memory>
-    ensures { IfOk result (λ all. all ≡ joined lists.now) }
-{
-    let mut all = Vec::new(alloc);
-    for list in lists {
-        push_lines(&mut all, list.items())?;
-    }
-    Ok(Sequence::from_vec(all))
-}
 
 // Whether each line may stand in a scheme of the procedure.
 fn are_scheme_lines(own: u32, lines: &[Line]) -> bool
@@ -89,24 +65,23 @@ fn schemes_for(
     Ok(Sequence::from_vec(schemes))
 }
 
-/// The schemes of procedures that call each other, from one list of lines for each of them, in which existentials of one
-/// number are the same: for each member, in order, the scheme that is chosen, which says the same to callers, under the order
-/// of constants, what the lines of all lists say, with no constant and no global more, and which has nothing to spare.
+/// The schemes of procedures that call each other, from the lines of all of them, in which existentials of one number are the
+/// same: for each member, in order, the scheme that is chosen, which says the same to callers, under the order of constants, what
+/// the lines say, with no constant and no global more, and which has nothing to spare.
 ///
-/// The lines of all lists are settled, first for the outside of all members at once. A member's scheme are these lines, where
-/// they name no other procedure; else an existential stands for each argument and result of the others, and the lines are
-/// settled once more. The error is out of memory.
-pub fn solve_group(
+/// The lines are settled, first for the outside of all members at once. A member's scheme are these lines, where they name no
+/// other procedure; else an existential stands for each argument and result of the others, and the lines are settled once more.
+/// The error is out of memory.
+pub fn schemes_of(
     alloc: Global,
     members: &[u32],
-    lists: &Lists,
+    all: Lines,
     order: &Order,
 ) -> Result<GroupSchemes, Memory>
-    requires interface { AreInterfaceLines (joined lists.now) }
-    requires constants { All (HasConstantsBelow order.now.count) (joined lists.now) }
-    ensures { IfOk result (λ schemes. AreSchemesOf order.now members.now (joined lists.now) schemes) }
+    requires interface { AreInterfaceLines all }
+    requires constants { All (HasConstantsBelow order.now.count) all }
+    ensures { IfOk result (λ schemes. AreSchemesOf order.now members.now all schemes) }
 {
-    let all = join(alloc, lists.items())?;
     let settled = settle(alloc, all, order)?;
     schemes_for(alloc, members, &settled, order)
 }

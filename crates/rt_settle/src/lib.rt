@@ -6,5 +6,5 @@ pub mod laws;
 mod ordering;
 mod scheme;
 
-pub use group::{GroupSchemes, Lists, solve_group};
+pub use group::{GroupSchemes, schemes_of};
 pub use scheme::settle;

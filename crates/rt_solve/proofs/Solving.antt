@@ -1,8 +1,8 @@
--- The schemes of group after group.
-use Rattle.std.proofs.Common.{◌≡◌, ◌≢◌, ℕ, ◌+◌, ◌<◌, ◌≤◌, ◌⊎◌, inl, inr, Option, None, List, [], All, AllPairs, Contains, fold, length, get_or, replicate, sym, ap, subst, ◌∙◌, arith}
+-- What is solved where the schemes of a group's members are added.
+use Rattle.std.proofs.Common.{◌≡◌, ◌≢◌, ℕ, ◌<◌, Option, None, List, [], All, AllPairs, Contains}
+use Rattle.std.proofs.Common.{fold, length, get_or, sym, ap, subst, ◌∙◌, arith}
 use Rattle.std.specs.List.Sorted.{IsStrictlyIncreasing}
-use Rattle.std.proofs.lemmas.Bool.{cases_eq}
-use Rattle.std.proofs.lemmas.List.{get_or_default, get_or_past, length-replicate}
+use Rattle.std.proofs.lemmas.List.{get_or_default, get_or_past}
 use Rattle.std.proofs.lemmas.List.Elements.{Contains-get_or}
 use Rattle.std.proofs.lemmas.List.Kept.{AllPairs-from_increasing}
 use Rattle.rt_lines.specs.Lines.{HasConstantsBelow}
@@ -11,14 +11,14 @@ use Rattle.rt_lines.specs.Orders.{Below}
 use Rattle.rt_lattice.specs.declared.roles.Roles.{Roles}
 use Rattle.rt_elf.specs.Parts.{Parts as Object}
 use Rattle.rt_proc.specs.declared.proc.Proc.{Proc}
-use Rattle.rt_components.specs.Groups.{IsAmongFirst, group_at}
+use Rattle.rt_components.specs.Groups.{group_at}
 use Rattle.rt_components.specs.Groups.Reaches.{there}
-use Rattle.rt_calls.specs.Calls.{AreGroupsOf}
+use Rattle.rt_calls.specs.Calls.{AreGroupsOf, Calls}
 use Rattle.rt_scheme.specs.declared.scheme.Scheme.{Scheme}
 use Rattle.rt_sigs.specs.Signatures.{Signature}
 use Rattle.rt_table.specs.Lists.{AreGiven, HasGlobalsOf, IsGiven}
 use Rattle.rt_settle.specs.Groups.{AreSchemesOf, joined}
-use Rattle.rt_solve.specs.Solved.{AddsSchemesOf, AreSolved, HasSchemeOf, IsGroupSolved, with_scheme}
+use Rattle.rt_solve.specs.Solved.{AddsSchemesOf, HasSchemeOf, IsGroupSolved, with_scheme}
 use Rattle.rt_solve.proofs.Gathering.{All-joined, globals-joined}
 use Rattle.rt_solve.proofs.Linking.{AgreeFor, lines_same}
 use Rattle.rt_solve.proofs.Setting.{elsewhere-with, given-with, length-with, there-with}
@@ -43,124 +43,96 @@ module _ (order : Below) (group : List ℕ) (lines : List Line) (found : List Sc
       let is = (are.each i d (omega (arith, are.one_each))).tells in
       record { constants = is.constants count constants; globals = λ number names. globals number (is.globals number names) }
 
--- the first k groups are solved
-pub record AreSolvedTo (object : Object) (roles : Roles) (order : Below) (procs : List Proc) (signatures : List Signature)
-    (groups : List (List ℕ)) (k : ℕ) (schemes : List (Option Scheme)) : Type 0 where
-  pub one_each : length schemes ≡ length procs
-  pub each : (j : ℕ) → j < k → IsGroupSolved object roles order procs signatures schemes (group_at groups j)
+module _ (object : Object) (roles : Roles) (order : Below) (procs : List Proc) (signatures : List Signature) (groups : List (List ℕ))
+    (are : AreGroupsOf procs groups) where
+  -- members are numbers of procedures
+  pub members_within : (k : ℕ) → k < length groups → All (λ number. number < length procs) (group_at groups k)
+  members_within k lt i d less = (are.nodes (get_or (group_at groups k) i d)).1 (k, lt, Contains-get_or (group_at groups k) i d less)
 
-module _ (object : Object) (roles : Roles) (order : Below) (procs : List Proc) (signatures : List Signature) (groups : List (List ℕ)) where
-  pub none_solved : (count : ℕ) → count ≡ length procs → AreSolvedTo object roles order procs signatures groups 0 (replicate count None)
-  none_solved count e = record {
-    one_each = length-replicate count None ∙ e;
-    each = λ j lt. absurd (omega arith);
-  }
+  -- nobody is a member of two groups
+  pub one_group : (i j q : ℕ) → Contains (group_at groups i) q → Contains (group_at groups j) q → i ≡ j
+  one_group i j q a b = (are.together i j q q a b).1 (there, there)
 
-  pub all_solved : (k : ℕ) (schemes : List (Option Scheme)) → length groups ≤ k
-      → AreSolvedTo object roles order procs signatures groups k schemes → AreSolved object roles order procs signatures groups schemes
-  all_solved k schemes le to = record {
-    one_each = to.one_each;
-    each = λ group (j, lt, e).
-        subst (IsGroupSolved object roles order procs signatures schemes) (get_or_default groups j [] group lt ∙ e)
-        (to.each j (omega arith));
-  }
+  -- the schemes of a group's members are added
+  module _ (k : ℕ) (lt : k < length groups) (old new : List (Option Scheme)) (one_each : length old ≡ length procs)
+      (adds : AddsSchemesOf object roles order procs signatures (group_at groups k) old new) where
+    -- all others are as they were
+    pub elsewhere : (q : ℕ) → (Contains (group_at groups k) q → ⊥) → get_or new q None ≡ get_or old q None
+    elsewhere q apart = ap (λ s. get_or s q None) adds.is ∙ elsewhere-with old adds.found q other
+      where
+        other : All (λ s. q ≢ s.base) adds.found
+        other i d less same =
+            let within : i < length (group_at groups k) = omega (arith, adds.are_schemes.one_each) in
+            apart (
+              i,
+              within,
+              get_or_default (group_at groups k) i q 0 within
+                  ∙ sym (base_at order (group_at groups k) (joined adds.bodies) adds.found adds.are_schemes i d less) ∙ sym same,
+            )
 
-  module _ (are : AreGroupsOf procs groups) where
-    -- members are numbers of procedures
-    pub members_within : (k : ℕ) → k < length groups → All (λ number. number < length procs) (group_at groups k)
-    members_within k lt i d less = (are.nodes (get_or (group_at groups k) i d)).1 (k, lt, Contains-get_or (group_at groups k) i d less)
+    pub long : length new ≡ length old
+    long = ap length adds.is ∙ length-with old adds.found
 
-    -- nobody is a member of two groups
-    one_group : (i j q : ℕ) → Contains (group_at groups i) q → Contains (group_at groups j) q → i ≡ j
-    one_group i j q a b = (are.together i j q q a b).1 (there, there)
+    -- nobody outside a group whom its members call is a member of the one that is added
+    abbrev CallsNone : ℕ → Type 0
+    CallsNone j =
+        (p q : ℕ) → Contains (group_at groups j) p → Calls procs p q → (Contains (group_at groups j) q → ⊥)
+        → Contains (group_at groups k) q → ⊥
 
-    module _ (k : ℕ) (lt : k < length groups) (old new : List (Option Scheme))
-        (to : AreSolvedTo object roles order procs signatures groups k old)
-        (adds : AddsSchemesOf object roles order procs signatures (group_at groups k) old new) where
-      elsewhere : (q : ℕ) → (Contains (group_at groups k) q → ⊥) → get_or new q None ≡ get_or old q None
-      elsewhere q apart = ap (λ s. get_or s q None) adds.is ∙ elsewhere-with old adds.found q other
-        where
-          other : All (λ s. q ≢ s.base) adds.found
-          other i d less same =
-              let within : i < length (group_at groups k) = omega (arith, adds.are_schemes.one_each) in
-              apart (
-                i,
-                within,
-                get_or_default (group_at groups k) i q 0 within
-                    ∙ sym (base_at order (group_at groups k) (joined adds.bodies) adds.found adds.are_schemes i d less) ∙ sym same,
-              )
+    agree_for : (j : ℕ) → CallsNone j → AgreeFor procs (group_at groups j) old new
+    agree_for j none = record {
+      called = λ p q member calls apart. sym (elsewhere q (none p q member calls apart));
+      past = λ q le.
+          get_or_past old q None (omega (arith, le, one_each)) ∙ sym (get_or_past new q None (omega (arith, le, one_each, long)));
+    }
 
-      long : length new ≡ length old
-      long = ap length adds.is ∙ length-with old adds.found
+    -- a group that was solved
+    pub solved_still : (j : ℕ) → (j ≡ k → ⊥) → CallsNone j → IsGroupSolved object roles order procs signatures old (group_at groups j)
+        → IsGroupSolved object roles order procs signatures new (group_at groups j)
+    solved_still j other none is = record {
+      bodies = is.bodies;
+      are_lines = lines_same object roles procs signatures (group_at groups j) old new is.bodies (agree_for j none) is.are_lines;
+      solved = λ i within. let has = is.solved i within in record {
+        scheme = has.scheme;
+        is_scheme = elsewhere (get_or (group_at groups j) i 0) (apart i within) ∙ has.is_scheme;
+        own = has.own;
+        alike = has.alike;
+        reduced = has.reduced;
+        chosen = has.chosen;
+      };
+    }
+      where
+        apart : (i : ℕ) → i < length (group_at groups j) → Contains (group_at groups k) (get_or (group_at groups j) i 0) → ⊥
+        apart i within h = other (one_group j k (get_or (group_at groups j) i 0) (Contains-get_or (group_at groups j) i 0 within) h)
 
-      agree_for : (j : ℕ) → j < k + 1 → AgreeFor procs (group_at groups j) old new
-      agree_for j less = record {
-        called = λ p q member calls apart. by q apart (are.may j (omega arith) p q member calls);
-        past = λ q le. get_or_past old q None (omega (arith, to.one_each)) ∙ sym (get_or_past new q None (omega (arith, to.one_each, long)));
-      }
-        where
-          by : (q : ℕ) → (Contains (group_at groups j) q → ⊥) → Contains (group_at groups j) q ⊎ IsAmongFirst groups j q → get_or old q None ≡ get_or new q None
-          by q apart (inl c) = absurd (apart c)
-          by q apart (inr (i, before, c)) = sym (elsewhere q (λ h. let e : i ≡ k = one_group i k q c h in omega arith))
-
-      -- a group before
-      solved_before : (j : ℕ) → j < k → IsGroupSolved object roles order procs signatures new (group_at groups j)
-      solved_before j less = record {
-        bodies = is.bodies;
-        are_lines = lines_same object roles procs signatures (group_at groups j) old new is.bodies (agree_for j (omega arith)) is.are_lines;
-        solved = λ i within. let has = is.solved i within in record {
-          scheme = has.scheme;
-          is_scheme = elsewhere (get_or (group_at groups j) i 0) (apart i within) ∙ has.is_scheme;
-          own = has.own;
-          alike = has.alike;
-          reduced = has.reduced;
-          chosen = has.chosen;
-        };
-      }
-        where
-          is : IsGroupSolved object roles order procs signatures old (group_at groups j)
-          is = to.each j less
-
-          apart : (i : ℕ) → i < length (group_at groups j) → Contains (group_at groups k) (get_or (group_at groups j) i 0) → ⊥
-          apart i within h = let e : j ≡ k = one_group j k (get_or (group_at groups j) i 0) (Contains-get_or (group_at groups j) i 0 within) h in omega arith
-
-      -- the group itself
-      solved_here : IsGroupSolved object roles order procs signatures new (group_at groups k)
-      solved_here = record {
-        bodies = adds.bodies;
-        are_lines = lines_same object roles procs signatures (group_at groups k) old new adds.bodies (agree_for k (omega arith)) adds.are_lines;
-        solved = λ i within. has i within (element adds.found i (omega (arith, adds.are_schemes.one_each)));
-      }
-        where
-          has : (i : ℕ) → i < length (group_at groups k) → Scheme
-              → HasSchemeOf order new (joined adds.bodies) (get_or (group_at groups k) i 0)
-          has i within d =
-              let is = adds.are_schemes.each i d within in
-              let less : i < length adds.found = omega (arith, adds.are_schemes.one_each) in
-              let within_old : All (λ s. s.base < length old) adds.found =
-              bases_within order (group_at groups k) (joined adds.bodies) adds.found adds.are_schemes (length old)
-              (subst (λ n. All (λ number. number < n) (group_at groups k)) (sym to.one_each) (members_within k lt)) in
-              let stands = there-with old adds.found within_old
-              (bases_apart order (group_at groups k) (joined adds.bodies) adds.found adds.are_schemes (are.ascending k lt)) i d less in
-              record {
-                scheme = get_or adds.found i d;
-                is_scheme = ap (λ s. get_or s (get_or (group_at groups k) i 0) None) adds.is
-                    ∙ sym (ap (λ n. get_or (fold with_scheme old adds.found) n None) is.base_is) ∙ stands;
-                own = is.base_is;
-                alike = is.tells.alike;
-                reduced = is.reduced;
-                chosen = is.chosen;
-              }
-
-      pub solved_more : AreSolvedTo object roles order procs signatures groups (k + 1) new
-      solved_more = record {
-        one_each = long ∙ to.one_each;
-        each = λ j less. by j less (cases_eq j k);
-      }
-        where
-          by : (j : ℕ) → j < k + 1 → (j ≡ k) ⊎ (j ≡ k → ⊥) → IsGroupSolved object roles order procs signatures new (group_at groups j)
-          by j less (inl e) = subst (λ n. IsGroupSolved object roles order procs signatures new (group_at groups n)) (sym e) solved_here
-          by j less (inr apart) = solved_before j (omega arith)
+    -- the group itself
+    pub solved_here : IsGroupSolved object roles order procs signatures new (group_at groups k)
+    solved_here = record {
+      bodies = adds.bodies;
+      are_lines = lines_same object roles procs signatures (group_at groups k) old new adds.bodies
+          (agree_for k (λ p q member calls apart. apart)) adds.are_lines;
+      solved = λ i within. has i within (element adds.found i (omega (arith, adds.are_schemes.one_each)));
+    }
+      where
+        has : (i : ℕ) → i < length (group_at groups k) → Scheme
+            → HasSchemeOf order new (joined adds.bodies) (get_or (group_at groups k) i 0)
+        has i within d =
+            let is = adds.are_schemes.each i d within in
+            let less : i < length adds.found = omega (arith, adds.are_schemes.one_each) in
+            let within_old : All (λ s. s.base < length old) adds.found =
+            bases_within order (group_at groups k) (joined adds.bodies) adds.found adds.are_schemes (length old)
+            (subst (λ n. All (λ number. number < n) (group_at groups k)) (sym one_each) (members_within k lt)) in
+            let stands = there-with old adds.found within_old
+            (bases_apart order (group_at groups k) (joined adds.bodies) adds.found adds.are_schemes (are.ascending k lt)) i d less in
+            record {
+              scheme = get_or adds.found i d;
+              is_scheme = ap (λ s. get_or s (get_or (group_at groups k) i 0) None) adds.is
+                  ∙ sym (ap (λ n. get_or (fold with_scheme old adds.found) n None) is.base_is) ∙ stands;
+              own = is.base_is;
+              alike = is.tells.alike;
+              reduced = is.reduced;
+              chosen = is.chosen;
+            }
 
 -- the schemes of a group's members are given
 pub given_more : (object : Object) (order : Below) (count : ℕ) (group : List ℕ) (bodies : List (List Line)) (old : List (Option Scheme))

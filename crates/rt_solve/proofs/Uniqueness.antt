@@ -1,7 +1,6 @@
 -- The schemes of an object's procedures are determined, group after group.
 use Rattle.std.proofs.Common.{◌≡◌, ℕ, zero, suc, ◌<◌, ◌≤◌, ◌⊎◌, inl, inr, Option, Some, None, List, [], Contains, flat_map, length, get_or}
 use Rattle.std.proofs.Common.{sym, ap, subst, ◌∙◌, arith, ext_get_or}
-use Rattle.std.specs.Coded.{Π_prop}
 use Rattle.std.proofs.lemmas.Bool.{cases_eq}
 use Rattle.std.proofs.lemmas.List.{get_or_default, get_or_past}
 use Rattle.std.proofs.lemmas.List.Elements.{Contains-get_or}
@@ -15,14 +14,13 @@ use Rattle.rt_components.specs.Groups.{IsAmongFirst, group_at}
 use Rattle.rt_components.proofs.Unique.{one_list as one_grouping}
 use Rattle.rt_calls.specs.Calls.{AreGroupsOf, Calls}
 use Rattle.rt_scheme.specs.declared.scheme.Scheme.{Scheme}
-use Rattle.rt_scheme.specs.Schemes.{AreSchemeLines, is_scheme_line}
+use Rattle.rt_scheme.specs.Schemes.{AreSchemeLines}
 use Rattle.rt_sigs.specs.Signatures.{Signature}
 use Rattle.rt_table.specs.Laws.{OneList}
 use Rattle.rt_settle.specs.Chosen.{IsChosen, OneChoice}
 use Rattle.rt_solve.specs.Laws.{OneSolution}
 use Rattle.rt_solve.specs.Solved.{AreSolved, HasSchemeOf, IsGroupSolved}
 use Rattle.rt_solve.proofs.Linking.{AgreeFor, lines_same}
-use mathlib.Core.HLevel.{is_prop→PathP}
 use Rattle.std.proofs.Props.{props}
 use Rattle.rt_sigs.proofs.OneFile.{one_scheme}
 
@@ -38,6 +36,24 @@ one_scheme_of one_choice order first second lines others number same a b =
     let chosen : IsChosen order number lines b.scheme.lines = subst (λ ls. IsChosen order number ls b.scheme.lines) (sym same) b.chosen in
     let as_lines : a.scheme.lines ≡ b.scheme.lines = one_choice order number lines a.scheme.lines b.scheme.lines a.chosen chosen in
     a.is_scheme ∙ ap Some (one_scheme a.scheme b.scheme (a.own ∙ sym b.own) as_lines) ∙ sym b.is_scheme
+
+-- members of a group have the same schemes where those whom they call and who are no members do
+module _ (object : Object) (roles : Roles) (order : Below) (procs : List Proc) (signatures : List Signature) (one_list : OneList)
+    (one_choice : OneChoice) (group : List ℕ) (first second : List (Option Scheme)) (agree : AgreeFor procs group first second)
+    (x : IsGroupSolved object roles order procs signatures first group)
+    (y : IsGroupSolved object roles order procs signatures second group) where
+  bodies_same : x.bodies ≡ y.bodies
+  bodies_same =
+      one_list object roles procs signatures second group x.bodies y.bodies
+      (lines_same object roles procs signatures group first second x.bodies agree x.are_lines) y.are_lines
+
+  pub member_same : (q : ℕ) → Contains group q → get_or first q None ≡ get_or second q None
+  member_same q (i, within, e) =
+      let is : get_or group i 0 ≡ q = get_or_default group i 0 q within ∙ e in
+      subst (λ n. get_or first n None ≡ get_or second n None) is
+      (one_scheme_of one_choice order first second (flat_map (λ (lines : List Line). lines) x.bodies)
+      (flat_map (λ (lines : List Line). lines) y.bodies) (get_or group i 0)
+      (ap (flat_map (λ (lines : List Line). lines)) bodies_same) (x.solved i within) (y.solved i within))
 
 module _ (object : Object) (roles : Roles) (order : Below) (procs : List Proc) (signatures : List Signature) (groups : List (List ℕ))
     (are : AreGroupsOf procs groups) (one_list : OneList) (one_choice : OneChoice) (first second : List (Option Scheme))
@@ -61,21 +77,10 @@ module _ (object : Object) (roles : Roles) (order : Below) (procs : List Proc) (
         → IsGroupSolved object roles order procs signatures schemes (group_at groups k)
     solved_by schemes solved = solved.each (group_at groups k) (Contains-get_or groups k [] less)
 
-    bodies_same : (x : IsGroupSolved object roles order procs signatures first (group_at groups k))
-        (y : IsGroupSolved object roles order procs signatures second (group_at groups k)) → x.bodies ≡ y.bodies
-    bodies_same x y =
-        one_list object roles procs signatures second (group_at groups k) x.bodies y.bodies
-        (lines_same object roles procs signatures (group_at groups k) first second x.bodies agree_for x.are_lines) y.are_lines
-
-    member_same : (q : ℕ) → Contains (group_at groups k) q → get_or first q None ≡ get_or second q None
-    member_same q (i, within, e) =
-        let x = solved_by first a in
-        let y = solved_by second b in
-        let is : get_or (group_at groups k) i 0 ≡ q = get_or_default (group_at groups k) i 0 q within ∙ e in
-        subst (λ n. get_or first n None ≡ get_or second n None) is
-        (one_scheme_of one_choice order first second (flat_map (λ (lines : List Line). lines) x.bodies)
-        (flat_map (λ (lines : List Line). lines) y.bodies) (get_or (group_at groups k) i 0)
-        (ap (flat_map (λ (lines : List Line). lines)) (bodies_same x y)) (x.solved i within) (y.solved i within))
+    members_agree : (q : ℕ) → Contains (group_at groups k) q → get_or first q None ≡ get_or second q None
+    members_agree q c =
+        member_same object roles order procs signatures one_list one_choice (group_at groups k) first second agree_for (solved_by first a)
+        (solved_by second b) q c
 
   abbrev Agrees : ℕ → Type 0
   Agrees k = (i q : ℕ) → i < k → Contains (group_at groups i) q → get_or first q None ≡ get_or second q None
@@ -85,7 +90,7 @@ module _ (object : Object) (roles : Roles) (order : Below) (procs : List Proc) (
   agree_more k within before i q less c = by (cases_eq i k)
     where
       by : (i ≡ k) ⊎ (i ≡ k → ⊥) → get_or first q None ≡ get_or second q None
-      by (inl e) = member_same k within before q (subst (λ n. Contains (group_at groups n) q) e c)
+      by (inl e) = members_agree k within before q (subst (λ n. Contains (group_at groups n) q) e c)
       by (inr apart) = before i q (omega (arith, less, apart)) c
 
   agree : (k : ℕ) → k ≤ length groups → (i q : ℕ) → i < k → Contains (group_at groups i) q → get_or first q None ≡ get_or second q None

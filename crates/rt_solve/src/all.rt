@@ -1,80 +1,64 @@
 // The schemes of all procedures of an object.
-ghost use Rattle.std.specs.Prelude.{◌≡◌, ◌<◌, ◌≤◌, All, IfOk, OnOk, fold, length};
+ghost use Rattle.std.specs.Prelude.{◌≡◌, ℕ, List, [], IfOk, OnErr, OnOk, length};
 ghost use Rattle.rt_lattice.specs.Lattices.{size_of};
 ghost use Rattle.rt_calls.specs.Calls.{AreGroupsOf};
+ghost use Rattle.rt_calls.specs.Callees.{AreCalleesOf};
+ghost use Rattle.rt_plan.specs.Driver.{Drives, IsFrontOf};
+ghost use Rattle.rt_plan.specs.Plans.{start};
 ghost use Rattle.rt_sigs.specs.Signatures.{AreSignatures};
 ghost use Rattle.rt_table.specs.Facts.{IsFactsOf};
 ghost use Rattle.rt_table.specs.Lists.{AreGiven};
-ghost use Rattle.rt_solve.specs.Solved.{AreSolved, AddsSchemesOf, with_scheme};
+ghost use Rattle.rt_solve.specs.Solved.{AreSolved};
+ghost use Rattle.rt_solve.specs.Steps.{RoseAtMost, RoseBy};
 
+use crate::driver::drive;
+use crate::run::Run;
+use crate::schedule::Schedule;
+use crate::steps::Steps;
+use crate::turn::WORKERS;
 use rt_base::Memory;
 use rt_calls::Groups;
 use rt_lattice::Lattice;
 use rt_scheme::Schemes;
-use rt_settle::{GroupSchemes, solve_group};
 use rt_sigs::Sigs;
-use rt_table::{Facts, lines_of};
+use rt_table::Facts;
 use std::alloc::Global;
 
-// Puts each scheme at its procedure's number.
-fn set_schemes(schemes: &mut Schemes, found: GroupSchemes)
-    requires { All (λ scheme. scheme.base < length schemes.old) found }
-    ensures { schemes.new ≡ fold with_scheme schemes.old found }
-{
-    for scheme in found.into_vec() {
-        schemes.set(scheme.base, scheme);
-    }
-}
-
-// Solves a group, where the groups before it are solved.
-fn solve_next(
-    alloc: Global,
-    facts: &Facts<'_>,
-    group: &[u32],
-    schemes: &mut Schemes,
-    sigs: &Sigs,
-    lattice: &Lattice,
-) -> Result<(), Memory>
-    requires facts { IsFactsOf facts.now.object.now facts.now.procs.now facts.now.sigs.now facts.now }
-    requires sigs { sigs.now ≡ facts.now.sigs.now }
-    requires signatures { AreSignatures (size_of lattice.now) sigs.now }
-    requires within { All (λ number. number < length facts.now.procs.now) group.now }
-    requires enough { length facts.now.procs.now ≤ length schemes.old }
-    requires given { AreGiven facts.now.object.now (size_of lattice.now) schemes.old }
-    ensures solved { OnOk result (AddsSchemesOf facts.now.object.now lattice.now.roles lattice.now.order facts.now.procs.now sigs.now
-        group.now schemes.old schemes.new) }
-    ensures given { OnOk result (AreGiven facts.now.object.now (size_of lattice.now) schemes.new) }
-{
-    let bodies = lines_of(alloc, facts, group, schemes, sigs, lattice)?;
-    let found = solve_group(alloc, group, &bodies, lattice.order())?;
-    set_schemes(schemes, found);
-    Ok(())
-}
-
-/// The schemes of all procedures, group after group: those of a group's members have nothing to spare, and say to whoever
-/// calls them, under the order of the lattice, the same as the lists of the members together, where callees outside the
-/// group have the schemes that were found before and functions outside their signatures. The error is out of memory.
+/// The schemes of all procedures, group after group as four workers get and publish them who are driven by the schedule's number: those of
+/// a group's members have nothing to spare, and say to whoever calls them, under the order of the lattice, the same as the lists of the
+/// members together, where callees outside the group have the schemes that are answered and functions outside their signatures. They are
+/// the same for each number. The schedule notes the claims that are done, and the counter rises by the number of groups.
+///
+/// The error is out of memory: the claims that are noted are then the first ones, and the counter rose by no more.
 ///
 /// Condition: the groups are those of the facts' procedures, callees first, the signatures are those that the facts were
-/// prepared with, and their constants are names of the lattice.
-pub fn solve_all(
+/// prepared with, their constants are names of the lattice, and the schedule has no claims.
+pub fn solve_all<L>(
     alloc: Global,
     facts: &Facts<'_>,
     groups: &Groups,
     sigs: &Sigs,
     lattice: &Lattice,
+    schedule: &mut Schedule,
+    steps: &mut Steps<L>,
 ) -> Result<Schemes, Memory>
     requires facts { IsFactsOf facts.now.object.now facts.now.procs.now facts.now.sigs.now facts.now }
     requires groups { AreGroupsOf facts.now.procs.now groups.now }
     requires sigs { sigs.now ≡ facts.now.sigs.now }
     requires signatures { AreSignatures (size_of lattice.now) sigs.now }
+    requires schedule { schedule.old.claims ≡ [] }
     ensures solved { IfOk result (AreSolved facts.now.object.now lattice.now.roles lattice.now.order facts.now.procs.now sigs.now
         groups.now) }
     ensures given { IfOk result (AreGiven facts.now.object.now (size_of lattice.now)) }
+    ensures number { schedule.new.number ≡ schedule.old.number }
+    ensures claims { OnOk result ((callees : List (List ℕ)) → AreCalleesOf facts.now.procs.now groups.now callees
+        → Drives schedule.old.number (start 4 callees) schedule.new.claims) }
+    ensures front { (callees : List (List ℕ)) → AreCalleesOf facts.now.procs.now groups.now callees
+        → IsFrontOf schedule.old.number (start 4 callees) schedule.new.claims }
+    ensures rose { OnOk result (RoseBy (length groups.now) steps.old steps.new) }
+    ensures rose_at_most { OnErr result (RoseAtMost (length groups.now) steps.old steps.new) }
 {
-    let mut schemes = Schemes::new(alloc, facts.procs().len() as u32)?;
-    for group in groups.items() {
-        solve_next(alloc, facts, group.items(), &mut schemes, sigs, lattice)?;
-    }
-    Ok(schemes)
+    let mut run = Run::new(alloc, facts, groups, sigs, lattice, WORKERS)?;
+    drive(&mut run, schedule, steps)?;
+    Ok(run.into_schemes())
 }

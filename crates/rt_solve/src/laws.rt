@@ -1,5 +1,6 @@
 //! Laws of schemes: functions that do nothing, each for the law that it ensures. Those of one group's schemes are shown again.
 ghost use Rattle.rt_solve.specs.Laws.{OneSolution};
+ghost use Rattle.rt_solve.specs.Runs.{AnyOrder};
 
 pub use rt_settle::laws::{alike, constants, one_choice, reduced, scheme};
 
@@ -10,5 +11,16 @@ pub fn one_solution()
 {
     rt_proc::laws::one_list();
     rt_table::laws::one_list();
+    one_choice();
+}
+
+/// Whatever the events of a run's workers, the schemes are exactly those of the members of the published groups, each of these groups is
+/// solved, a group is held or published only where each group that it calls is published, and the schemes are those of each family that
+/// is solved.
+pub fn any_order()
+    ensures { AnyOrder }
+{
+    rt_table::laws::one_list();
+    rt_calls::laws::callees_first();
     one_choice();
 }

@@ -1,4 +1,5 @@
 // What a shape says of the variables of some bases.
+ghost use Rattle.rt_lines.specs.Words.{IsLabel};
 
 use indexmap::IndexSet;
 use rt_base::Memory;
@@ -46,19 +47,47 @@ impl Description {
             return Ok(());
         };
         match *first {
-            Some(place) => {
-                if let Some(place) = self.places.get(place) {
-                    self.lines
-                        .push(Line::Same(variable, place.variable.copy()?))?;
-                }
-            }
+            Some(place) => self.say_shape(place, variable),
             None => {
                 *first = Some(self.places.len());
-                self.lines.push(Line::Var(variable.copy()?))?;
-                self.places.push(Place { node, variable })?;
+                self.say_first(node, variable)
+            }
+        }
+    }
+
+    // Says that a variable has the shape of that of a place.
+    fn say_shape(&mut self, place: usize, variable: Dtv) -> Result<(), Memory> {
+        if let Some(place) = self.places.get(place) {
+            self.lines
+                .push(Line::Same(variable, place.variable.copy()?))?;
+        }
+        Ok(())
+    }
+
+    // Says that a variable exists, which is the first of its node.
+    fn say_first(&mut self, node: u32, variable: Dtv) -> Result<(), Memory> {
+        self.lines.push(Line::Var(variable.copy()?))?;
+        self.places.push(Place { node, variable })?;
+        Ok(())
+    }
+
+    // Says which named bases there are.
+    fn say_bases(&mut self, alloc: Global, named: &Named, shape: &Shape) -> Result<(), Memory> {
+        for number in 0..named.len() {
+            if let Origin::Bare(base) = named.origin(number as u32) {
+                self.say_base(alloc, shape, base)?;
             }
         }
         Ok(())
+    }
+
+    // Says that there is a base, where it has a node.
+    fn say_base(&mut self, alloc: Global, shape: &Shape, base: Base) -> Result<(), Memory> {
+        let variable = bare(alloc, base);
+        match shape.node(&variable) {
+            Some(node) => self.say(node, variable),
+            None => Ok(()),
+        }
     }
 
     // Says which variables there are with a letter more than that of a place.
@@ -67,22 +96,29 @@ impl Description {
             return Ok(());
         };
         let node = from.node;
-        let variable = from.variable.copy()?;
         let Some(letters) = letters.get(node as usize) else {
             return Ok(());
         };
-        if variable.word.items().len() >= LONG {
+        if from.variable.word.items().len() >= LONG {
             return Ok(());
         }
+        let variable = from.variable.copy()?;
         for label in letters.items() {
             if let Some(next) = shape.step(node, label) {
-                let mut longer = variable.copy()?;
-                longer.word.push(*label)?;
-                self.say(next, longer)?;
+                self.say(next, with_letter(&variable, *label)?)?;
             }
         }
         Ok(())
     }
+}
+
+// A variable with a letter more.
+fn with_letter(variable: &Dtv, label: Label) -> Result<Dtv, Memory>
+    requires { IsLabel label }
+{
+    let mut longer = variable.copy()?;
+    longer.word.push(label)?;
+    Ok(longer)
 }
 
 // Lines that say which variables of the named bases exist, and which have one shape, by the shape of lines: each variable is such
@@ -96,14 +132,7 @@ pub(crate) fn described(
     let count = shape.node_count() as usize;
     let letters = letters(alloc, lines, shape, count)?;
     let mut description = Description::new(alloc, count)?;
-    for number in 0..named.len() {
-        if let Origin::Bare(base) = named.origin(number as u32) {
-            let variable = bare(alloc, base);
-            if let Some(node) = shape.node(&variable) {
-                description.say(node, variable)?;
-            }
-        }
-    }
+    description.say_bases(alloc, named, shape)?;
     for place in 0..count {
         description.follow(shape, &letters, place)?;
     }
@@ -125,15 +154,21 @@ fn letters(
     shape: &Shape,
     count: usize,
 ) -> Result<Vec<Word>, Memory> {
-    let mut letters = Vec::with_capacity(alloc, count)?;
-    for _ in 0..count {
-        letters.push(Word::empty(alloc))?;
-    }
+    let mut letters = no_letters(alloc, count)?;
     let mut seen = IndexSet::new(alloc);
     for line in lines {
         for side in line.sides() {
             enter(alloc, shape, side, &mut seen, &mut letters)?;
         }
+    }
+    Ok(letters)
+}
+
+// So many empty words.
+fn no_letters(alloc: Global, count: usize) -> Result<Vec<Word>, Memory> {
+    let mut letters = Vec::with_capacity(alloc, count)?;
+    for _ in 0..count {
+        letters.push(Word::empty(alloc))?;
     }
     Ok(letters)
 }

@@ -1,19 +1,18 @@
 // What becomes of lines.
-ghost use Rattle.std.specs.Prelude.{◌≡◌, ◌≤◌, ℕ, List, Some, ◌↔◌, true, IfOk, IfSome, OnOk};
-ghost use Rattle.std.specs.Prelude.{Contains, length, slice_get, slice_index_or};
+ghost use Rattle.std.specs.Prelude.{◌≡◌, ◌≤◌, ℕ, List, Some, ◌↔◌, true, length, IfOk, IfSome, OnOk};
 ghost use Rattle.rt_lines.specs.declared.line.Line.{Line as Given};
 ghost use Rattle.rt_lines.specs.Orders.{Below};
 ghost use Rattle.rt_rules.specs.Rules.{Derivable};
 ghost use Rattle.rt_sat.specs.declared.increments.Snapshot.{Snapshot as Earlier};
 ghost use Rattle.rt_sat.specs.Increments.{IsAdded, Tells, Told};
-ghost use Rattle.rt_sure.specs.Fates.{fate_at, flag_at, AreGoing, DoStay};
+ghost use Rattle.rt_sure.specs.Fates.{fate_at, AreGoing, AreSure, DoStay};
 ghost use Rattle.rt_sure.specs.Grounds.{HasShape};
 ghost use Rattle.rt_sure.specs.Inside.Grounds.{IsTold};
 ghost use Rattle.rt_sure.specs.Inside.Shapes.{AreJoined, IsSubtype};
 ghost use Rattle.rt_sure.specs.declared.fate.Fate.TheVariants.{Stays as Staying, Goes as Going};
 
-use crate::ground::Ground;
-use crate::shapes::{is_below, is_set, joined, shaped_among};
+use crate::ground::{Flagged, Ground, Snapshotted, copies};
+use crate::shapes::{is_below, is_set, joined, shaped_among, sure};
 use crate::tables::table_of;
 use rt_base::Memory;
 use rt_lines::{Dtv, Line};
@@ -59,8 +58,7 @@ pub fn fates(alloc: Global, lines: &[Line], stays: &[bool], among: &[bool]) -> R
             ground: None,
         });
     }
-    let fated = with_going(alloc, lines, stays, among)?;
-    Ok(fated)
+    with_going(alloc, lines, stays, among)
 }
 
 // Whether one of the first lines is a `<=` line that isn't flagged.
@@ -109,16 +107,49 @@ fn with_going(
     ensures going { IfOk result (λ fated. (order : Below) → AreGoing order lines.now fated.fates.items) }
     ensures ground { IfOk result (λ fated. IfSome fated.ground (λ g. (g.lines ≡ lines.now) × (g.stays ≡ stays.now))) }
 {
-    let joined = joined(alloc, lines, stays)?;
-    let mut growing = grown(alloc, lines, stays, among)?;
-    let base = growing.snapshot(alloc)?;
-    let fates = one_by_one(alloc, &mut growing, lines, stays, &joined)?;
-    let shape = staying_shape(alloc, lines, stays)?;
-    let ground = Ground::of(alloc, growing, base, lines, stays, joined, shape)?;
+    let known = lines_known(alloc, lines, stays)?;
+    let mut table = first_table(alloc, lines, stays, among)?;
+    let fates = fates_by(alloc, &mut table, lines, stays, &known)?;
     Ok(Fated {
         fates,
-        ground: Some(ground),
+        ground: Some(Ground::new(table, known)),
     })
+}
+
+// The lines, with which of them stay and which are joined, and the shape of those that stay.
+fn lines_known(alloc: Global, lines: &[Line], stays: &[bool]) -> Result<Flagged, Memory>
+    requires { length stays.now ≤ length lines.now }
+    ensures lines { IfOk result (λ known. known.lines.items ≡ lines.now) }
+    ensures stays { IfOk result (λ known. known.stays.items ≡ stays.now) }
+    ensures each { IfOk result (λ known. length known.joined.items ≡ length stays.now) }
+    ensures joined { IfOk result (λ known. AreJoined lines.now stays.now known.joined.items) }
+    ensures shape { IfOk result (λ known. HasShape lines.now stays.now known.shape) }
+{
+    let joined = joined(alloc, lines, stays)?;
+    let shape = staying_shape(alloc, lines, stays)?;
+    let (lines, stays) = copies(alloc, lines, stays)?;
+    Ok(Flagged {
+        lines,
+        stays,
+        joined,
+        shape,
+    })
+}
+
+// What lines that stay say, and the shapes of others, in a table that can grow, and what it says before it does.
+fn first_table(
+    alloc: Global,
+    lines: &[Line],
+    stays: &[bool],
+    among: &[bool],
+) -> Result<Snapshotted, Memory>
+    requires { length stays.now ≤ length lines.now }
+    ensures told { IfOk result (λ table. IsTold lines.now stays.now 0 table.growing) }
+    ensures base { IfOk result (λ table. (told : List Given) → Tells told table.growing → Told told table.base table.growing) }
+{
+    let growing = grown(alloc, lines, stays, among)?;
+    let base = growing.snapshot(alloc)?;
+    Ok(Snapshotted { growing, base })
 }
 
 // What lines that stay say, and the shapes of others, in a table to which those can be added that don't stay.
@@ -135,6 +166,28 @@ fn grown(
     let sides = open_sides(alloc, lines, stays)?;
     let growing = table_of(alloc, &shaped, &sides, Extent::Whole)?;
     Ok(growing)
+}
+
+// What becomes of the first lines by a table, to which those are added that don't stay.
+fn fates_by(
+    alloc: Global,
+    table: &mut Snapshotted,
+    lines: &[Line],
+    stays: &[bool],
+    known: &Flagged,
+) -> Result<Vec<Fate>, Memory>
+    requires within { length stays.now ≤ length lines.now }
+    requires long { length stays.now ≤ length known.now.joined.items }
+    requires joined { AreJoined lines.now stays.now known.now.joined.items }
+    requires told { IsTold lines.now stays.now 0 table.old.growing }
+    ensures each { IfOk result (λ fates. length fates.items ≡ length stays.now) }
+    ensures staying { IfOk result (λ fates. DoStay stays.now fates.items) }
+    ensures going { IfOk result (λ fates. (order : Below) → AreGoing order lines.now fates.items) }
+    ensures base { OnOk result (table.new.base ≡ table.old.base) }
+    ensures then { OnOk result ((told : List Given) (base : Earlier) →
+        Told told base table.old.growing → Told told base table.new.growing) }
+{
+    one_by_one(alloc, &mut table.growing, lines, stays, &known.joined)
 }
 
 // What becomes of the first lines, which are added to the table one by one if they don't stay.
@@ -168,14 +221,20 @@ fn open_sides(alloc: Global, lines: &[Line], stays: &[bool]) -> Result<Vec<Dtv>,
 {
     let mut sides = Vec::new(alloc);
     for i in 0..stays.len() {
-        if !stays[i]
-            && let Line::Sub(x, y) = &lines[i]
-        {
-            sides.push(x.copy()?)?;
-            sides.push(y.copy()?)?;
+        if !stays[i] {
+            add_sides(&mut sides, &lines[i])?;
         }
     }
     Ok(sides)
+}
+
+// Adds the sides of a line, if it is a `<=` line.
+fn add_sides(sides: &mut Vec<Dtv>, line: &Line) -> Result<(), Memory> {
+    if let Line::Sub(x, y) = line {
+        sides.push(x.copy()?)?;
+        sides.push(y.copy()?)?;
+    }
+    Ok(())
 }
 
 // What becomes of a line where it is known whether it stays, and whether its shape follows from those that stay and those before
@@ -213,28 +272,23 @@ fn going(
 
 // The shape of the lines that are flagged, if there is a bound that isn't; else that of no lines.
 fn staying_shape(alloc: Global, lines: &[Line], stays: &[bool]) -> Result<Shape, Memory>
+    requires { length stays.now ≤ length lines.now }
     ensures { IfOk result (HasShape lines.now stays.now) }
 {
-    let sure = staying_lines(alloc, lines, stays)?;
-    let shape = rt_shape::of(alloc, &sure)?;
+    let staying = staying_lines(alloc, lines, stays)?;
+    let shape = rt_shape::of(alloc, &staying)?;
     Ok(shape)
 }
 
 // The lines that are flagged, if there is a bound that isn't.
 fn staying_lines(alloc: Global, lines: &[Line], stays: &[bool]) -> Result<Vec<Line>, Memory>
-    ensures { IfOk result (λ sure. (l : Given) → Contains sure.items l →
-        (j : ℕ) × (slice_get lines.now j ≡ Some l) × (flag_at stays.now j ≡ true)) }
+    requires { length stays.now ≤ length lines.now }
+    ensures { IfOk result (λ staying. AreSure lines.now stays.now staying.items) }
 {
-    let mut sure = Vec::new(alloc);
     if !has_open_bound(lines, stays) {
-        return Ok(sure);
+        return Ok(Vec::new(alloc));
     }
-    for i in 0..lines.len() {
-        if is_set(stays, i) {
-            sure.push(lines[i].copy()?)?;
-        }
-    }
-    Ok(sure)
+    sure(alloc, lines, stays)
 }
 
 // Whether there is a bound among the lines that isn't flagged.

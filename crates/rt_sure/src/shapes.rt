@@ -116,7 +116,7 @@ pub(crate) fn is_below(line: &Line) -> bool
 }
 
 // The lines that are flagged.
-fn sure(alloc: Global, lines: &[Line], stays: &[bool]) -> Result<Vec<Line>, Memory>
+pub(crate) fn sure(alloc: Global, lines: &[Line], stays: &[bool]) -> Result<Vec<Line>, Memory>
     requires { length stays.now ≤ length lines.now }
     ensures { IfOk result (λ sure. AreSure lines.now stays.now sure.items) }
 {

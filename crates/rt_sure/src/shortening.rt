@@ -23,13 +23,50 @@ pub fn shortened(alloc: Global, lines: &[Line], more: &[Dtv]) -> Result<Vec<Line
     ensures unbounded { IfOk result (λ short. (count : ℕ) → All (HasConstantsBelow count) short.items) }
 {
     let mut short = flows(alloc, lines)?;
-    let named = Named::of(alloc, &short, more)?;
-    let shape = rt_shape::of(alloc, lines)?;
-    let described = described(alloc, &named, lines, &shape)?;
-    for line in &described {
-        add(&shape, line, &mut short)?;
-    }
+    add_shapes(alloc, lines, more, &mut short)?;
     Ok(short)
+}
+
+// Adds what lines say of the shape of the bases that the lines so far and some variables name.
+fn add_shapes(
+    alloc: Global,
+    lines: &[Line],
+    more: &[Dtv],
+    short: &mut Vec<Line>,
+) -> Result<(), Memory>
+    ensures derived { OnOk result ((order : Below) → DerivesAll order lines.now short.old.items →
+        DerivesAll order lines.now short.new.items) }
+    ensures unbounded { OnOk result ((count : ℕ) → All (HasConstantsBelow count) short.old.items →
+        All (HasConstantsBelow count) short.new.items) }
+{
+    let shape = rt_shape::of(alloc, lines)?;
+    let described = described_by(alloc, lines, &shape, short, more)?;
+    add_each(&shape, &described, short)
+}
+
+// What a shape says of the bases that lines and some variables name.
+fn described_by(
+    alloc: Global,
+    lines: &[Line],
+    shape: &Shape,
+    short: &[Line],
+    more: &[Dtv],
+) -> Result<Vec<Line>, Memory> {
+    let named = Named::of(alloc, short, more)?;
+    described(alloc, &named, lines, shape)
+}
+
+// Adds those of the lines of shape that the shape has.
+fn add_each(shape: &Shape, described: &[Line], short: &mut Vec<Line>) -> Result<(), Memory>
+    ensures derived { OnOk result ((order : Below) (lines : List Given) → IsShapeOf lines shape.now →
+        DerivesAll order lines short.old.items → DerivesAll order lines short.new.items) }
+    ensures unbounded { OnOk result ((count : ℕ) → All (HasConstantsBelow count) short.old.items →
+        All (HasConstantsBelow count) short.new.items) }
+{
+    for line in described {
+        add(shape, line, short)?;
+    }
+    Ok(())
 }
 
 // The `<=` lines.

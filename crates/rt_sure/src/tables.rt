@@ -1,6 +1,7 @@
 // What lines say of some variables, in tables of bytes.
 ghost use Rattle.std.specs.Prelude.{List, IfOk, OnOk};
 ghost use Rattle.rt_lines.specs.declared.line.Line.{Line as Given};
+ghost use Rattle.rt_sat.specs.Increments.{Tells};
 ghost use Rattle.rt_sat.specs.Tables.{AreThere};
 ghost use Rattle.rt_shape.specs.Shapes.{IsShapeOf};
 ghost use Rattle.rt_sure.specs.Grounds.{IsTableOf};
@@ -23,10 +24,21 @@ pub fn table_of(
     ensures { IfOk result (IsTableOf lines.now) }
 {
     let short = shortened(alloc, lines, sides)?;
-    let shape = rt_shape::of(alloc, &short)?;
+    grown(alloc, &short, sides, extent)
+}
+
+// What lines say, with a place for those of some variables that exist.
+fn grown(
+    alloc: Global,
+    lines: &[Line],
+    sides: &[Dtv],
+    extent: Extent,
+) -> Result<GrowingTable, Memory>
+    ensures { IfOk result (λ growing. Tells lines.now growing) }
+{
+    let shape = rt_shape::of(alloc, lines)?;
     let extra = existing(alloc, &shape, sides)?;
-    let growing = GrowingTable::of(alloc, &short, &shape, &extra, extent)?;
-    Ok(growing)
+    GrowingTable::of(alloc, lines, &shape, &extra, extent)
 }
 
 // Those of the variables that exist by the lines of a shape.

@@ -11,8 +11,8 @@ ghost use Rattle.rt_outline.specs.Lines.{AreNumbers, standing};
 ghost use Rattle.rt_outline.specs.Lines.{HasBelow as HasVariableBelow};
 ghost use Rattle.rt_sat.specs.declared.state.Edge.{Edge as Arrow};
 ghost use Rattle.rt_sat.specs.Numbered.{AreWithin};
-ghost use Rattle.rt_sat.specs.Tables.{AreThere, HasBelow};
-ghost use Rattle.rt_sure.specs.Arcs.{AreArcs};
+ghost use Rattle.rt_sat.specs.Tables.{AreThere, HasBelow, IsLayered};
+ghost use Rattle.rt_sure.specs.Arcs.{AreArcs, AreAround, AreInside};
 
 use rt_base::{Memory, Sequence};
 use rt_lines::{Dtv, Line};
@@ -49,10 +49,7 @@ impl Ways {
         requires { AreThere lines.items extra.now }
         ensures { IfOk result (λ ways. ways ≡ record { lines = lines.items; named = named_by lines.items extra.now }) }
     {
-        let shape = rt_shape::of(alloc, &lines)?;
-        let table = saturated(alloc, &lines, &shape, extra)?;
-        let arcs = arcs_of(alloc, &lines, &table)?;
-        let Table { named, .. } = table;
+        let (named, arcs) = named_arcs(alloc, &lines, extra)?;
         Ok(Ways { lines, named, arcs })
     }
 
@@ -119,6 +116,31 @@ impl Ways {
         let yes = may_lead(alloc, &self.arcs, stands, sources, targets)?;
         Ok(yes)
     }
+}
+
+// The variables that lines and others name, which exist, and the arcs between them.
+fn named_arcs(
+    alloc: Global,
+    lines: &[Line],
+    extra: &[Dtv],
+) -> Result<(Named, Vec<Sequence<Arc>>), Memory>
+    requires { AreThere lines.now extra.now }
+    ensures named { IfOk result (λ made. made.0 ≡ named_by lines.now extra.now) }
+    ensures around { IfOk result (λ made. AreAround lines.now made.0 made.1.items) }
+    ensures inside { IfOk result (λ made. AreInside lines.now made.0 made.1.items) }
+{
+    let table = table_of(alloc, lines, extra)?;
+    let arcs = arcs_of(alloc, lines, &table)?;
+    Ok((table.named, arcs))
+}
+
+// The table of the lines, with places for others that exist.
+fn table_of(alloc: Global, lines: &[Line], extra: &[Dtv]) -> Result<Table, Memory>
+    requires { AreThere lines.now extra.now }
+    ensures { IfOk result (λ table. IsLayered lines.now extra.now table.named table.edges.items table.lines) }
+{
+    let shape = rt_shape::of(alloc, lines)?;
+    saturated(alloc, lines, &shape, extra)
 }
 
 // The numbers of named variables.

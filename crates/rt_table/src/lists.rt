@@ -5,6 +5,7 @@ ghost use Rattle.rt_lattice.specs.Lattices.{size_of};
 ghost use Rattle.rt_rows.specs.Terms.{IsGroupRow};
 ghost use Rattle.rt_sigs.specs.Signatures.{AreSignatures};
 ghost use Rattle.rt_scheme.specs.Splitting.{AreInterfaceLines};
+ghost use Rattle.rt_table.specs.Bodies.{lists_in, numbers_in};
 ghost use Rattle.rt_table.specs.Facts.{IsFactsOf};
 ghost use Rattle.rt_body.specs.Registers.{HasRegisters};
 ghost use Rattle.rt_table.specs.Lists.{AreGiven, AreLinesOf, AreRowsOf, HasGlobalsOf, IsContext, is_member, linked_in};
@@ -25,8 +26,8 @@ use rt_scheme::Schemes;
 use rt_sigs::Sigs;
 use std::alloc::Global;
 
-/// The lists of lines of procedures.
-pub type Bodies = Sequence<Lines>;
+/// The lists of lines of procedures, each with the procedure's number.
+pub type Bodies = Sequence<(u32, Lines)>;
 
 // The members of a group.
 fn members_of(alloc: Global, group: &[u32]) -> Result<IndexSet<u32>, Memory>
@@ -110,17 +111,15 @@ fn rows_of(
     context.procedure_rows()
 }
 
-/// The lists of lines of the procedures of some numbers, in their order, where procedures outside the group have these schemes.
-/// Existentials are numbered from 0 in the order in which they first stand in all of the lists, and each list has each of
-/// its lines once. The error is out of memory.
-pub fn lines_of(
+// The lists of lines of the procedures of some numbers, in their order.
+fn lists_of(
     alloc: Global,
     facts: &Facts<'_>,
     group: &[u32],
     schemes: &Schemes,
     sigs: &Sigs,
     lattice: &Lattice,
-) -> Result<Bodies, Memory>
+) -> Result<Sequence<Lines>, Memory>
     requires facts { IsFactsOf facts.now.object.now facts.now.procs.now facts.now.sigs.now facts.now }
     requires sigs { sigs.now ≡ facts.now.sigs.now }
     requires signatures { AreSignatures (size_of lattice.now) sigs.now }
@@ -146,4 +145,46 @@ pub fn lines_of(
     }
     let bodies = group_lines(alloc, lists)?;
     Ok(Sequence::from_vec(bodies))
+}
+
+// The lists with the numbers of their procedures.
+fn numbered(alloc: Global, group: &[u32], lists: Sequence<Lines>) -> Result<Bodies, Memory>
+    requires { length lists ≡ length group.now }
+    ensures numbers { IfOk result (λ bodies. numbers_in bodies ≡ group.now) }
+    ensures lists { IfOk result (λ bodies. lists_in bodies ≡ lists) }
+{
+    let mut bodies = Vec::with_capacity(alloc, group.len())?;
+    for lines in lists.into_vec() {
+        bodies.push((group[bodies.len()], lines))?;
+    }
+    Ok(Sequence::from_vec(bodies))
+}
+
+/// The lists of lines of the procedures of some numbers, in their order, where procedures outside the group have these schemes.
+/// Existentials are numbered from 0 in the order in which they first stand in all of the lists, and each list has each of
+/// its lines once. The error is out of memory.
+pub fn lines_of(
+    alloc: Global,
+    facts: &Facts<'_>,
+    group: &[u32],
+    schemes: &Schemes,
+    sigs: &Sigs,
+    lattice: &Lattice,
+) -> Result<Bodies, Memory>
+    requires facts { IsFactsOf facts.now.object.now facts.now.procs.now facts.now.sigs.now facts.now }
+    requires sigs { sigs.now ≡ facts.now.sigs.now }
+    requires signatures { AreSignatures (size_of lattice.now) sigs.now }
+    requires within { All (λ number. number < length facts.now.procs.now) group.now }
+    requires enough { length facts.now.procs.now ≤ length schemes.now }
+    ensures found { IfOk result (λ bodies. AreLinesOf facts.now.object.now lattice.now.roles facts.now.procs.now sigs.now schemes.now
+        group.now (lists_in bodies)) }
+    ensures numbers { IfOk result (λ bodies. numbers_in bodies ≡ group.now) }
+    ensures constants { AreGiven facts.now.object.now (size_of lattice.now) schemes.now
+        → IfOk result (λ bodies. All (All (HasConstantsBelow (size_of lattice.now))) (lists_in bodies)) }
+    ensures globals { AreGiven facts.now.object.now (size_of lattice.now) schemes.now
+        → IfOk result (λ bodies. All (HasGlobalsOf facts.now.object.now) (lists_in bodies)) }
+    ensures interfaces { IfOk result (λ bodies. All AreInterfaceLines (lists_in bodies)) }
+{
+    let lists = lists_of(alloc, facts, group, schemes, sigs, lattice)?;
+    numbered(alloc, group, lists)
 }

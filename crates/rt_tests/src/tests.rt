@@ -4,6 +4,7 @@ mod bounds;
 mod counts;
 mod headers;
 mod memory;
+mod plans;
 mod trees;
 
 use rt_base::Bytes;

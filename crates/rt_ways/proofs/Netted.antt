@@ -6,7 +6,7 @@ use Rattle.rt_lines.specs.declared.line.Line.{Line}
 use Rattle.rt_loose.specs.Laws.{FlexibleLaw, TurnedLaw}
 use Rattle.rt_ways.specs.declared.frame.Frame.{Frame}
 use Rattle.rt_ways.specs.Arcs.{AreTurned, IsInRow}
-use Rattle.rt_ways.specs.Inside.Frames.{AreFirst, IsFrameOf}
+use Rattle.rt_ways.specs.Inside.Frames.{AreFirst, IsFrameOf, net_of}
 use Rattle.rt_ways.specs.Nets.{AreWaysOf, IsSized}
 use Rattle.rt_ways.specs.Pushes.{AreClosure}
 use Rattle.rt_ways.proofs.Meaning.{closure_right, flex, meaning}
@@ -27,14 +27,14 @@ module _ (lines : List Line) (frame : Frame) (arcs above : List (List ℕ)) (is 
   pub rows_within : (v w : ℕ) → IsInRow above v w → w < length above
   rows_within v w c = subst (λ n. w < n) (sym are.each) (right v w c)
 
-  pub sized_of : (back : List (List ℕ)) → IsSized (record { named = frame.named; steps = frame.steps.entries; classes = frame.classes.items; behind = frame.behind.entries; above = above; below = back })
+  pub sized_of : (back : List (List ℕ)) → IsSized (net_of frame above back)
   sized_of back = record {
     classes = is.classes.nodes.each;
     behind = λ c n l e. subst (λ k. n < k) (sym is.classes.nodes.each) (is.behind.found c n l e).1.within;
   }
 
-  pub net_of : (back : List (List ℕ)) → AreTurned above back → AreWaysOf lines (record { named = frame.named; steps = frame.steps.entries; classes = frame.classes.items; behind = frame.behind.entries; above = above; below = back })
-  net_of back turned = record {
+  pub ways_of : (back : List (List ℕ)) → AreTurned above back → AreWaysOf lines (net_of frame above back)
+  ways_of back turned = record {
     named = is.named;
     few = is.few;
     distinct = is.distinct;

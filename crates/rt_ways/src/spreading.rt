@@ -5,10 +5,7 @@ ghost use Rattle.rt_ways.specs.Arcs.{AreRows, IsInRow, IsReached, IsSpread};
 
 use rt_base::{Memory, Sequence};
 use rt_named::Numbers;
-use std::alloc::{AllocError, Global};
-
-// No fewer than there are numbers of variables.
-const NUMBERS: usize = 0x1_0000_0000;
+use std::alloc::Global;
 
 // For each number itself and all that arcs lead to from it, nearest first.
 pub(crate) fn rows_of(alloc: Global, arcs: &[Sequence<u32>]) -> Result<Vec<Numbers>, Memory>
@@ -36,13 +33,13 @@ fn reached(alloc: Global, arcs: &[Sequence<u32>], source: u32) -> Result<Numbers
 fn spread(arcs: &[Sequence<u32>], found: &mut Numbers) -> Result<(), Memory>
     ensures { OnOk result (IsSpread (IsInRow arcs.now) found.old found.new) }
 {
-    for i in 0..NUMBERS {
-        let Some(next) = found.get(i) else {
-            return Ok(());
-        };
+    let mut place: usize = 0;
+    while place < found.items().len() {
+        let next = found.items()[place];
         leave(arcs, found, next)?;
+        place += 1;
     }
-    Err(AllocError)
+    Ok(())
 }
 
 // Adds what arcs lead to from a number.

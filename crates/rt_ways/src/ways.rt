@@ -2,6 +2,7 @@
 ghost use Rattle.std.specs.Prelude.{◌≡◌, ◌<◌, [], IfOk, length, slice_index_or};
 ghost use Rattle.rt_ways.specs.Nets.{AreWaysOf, IsSized, class_at};
 ghost use Rattle.rt_ways.specs.Pushes.{step_of};
+ghost use Rattle.rt_ways.specs.Inside.Frames.{AreAbove, IsFrameOf, net_of};
 
 use crate::arcs::{arcs_of, entry};
 use crate::closing::{close, row as found_row, step};
@@ -52,23 +53,40 @@ impl Model for Ways {
     }) };
 }
 
+// For each number those above it, by the first arcs.
+fn above_of(alloc: Global, frame: &Frame, lines: &[Line]) -> Result<Vec<Numbers>, Memory>
+    requires { IsFrameOf lines.now frame.now }
+    ensures { IfOk result (λ above. AreAbove lines.now frame.now above.items) }
+{
+    let arcs = arcs_of(alloc, frame, lines)?;
+    let above = close(alloc, &frame.named, &frame.steps, arcs)?;
+    Ok(above)
+}
+
 impl Ways {
     /// The ways of lines. The error is out of memory.
     pub fn of(alloc: Global, lines: &[Line]) -> Result<Ways, Memory>
         ensures { IfOk result (AreWaysOf lines.now) }
     {
         let frame = Frame::of(alloc, lines)?;
-        let arcs = arcs_of(alloc, &frame, lines)?;
-        let above = close(alloc, &frame.named, &frame.steps, arcs)?;
+        let above = above_of(alloc, &frame, lines)?;
         let below = turned(alloc, &above)?;
-        Ok(Ways {
+        Ok(Ways::joined(frame, above, below))
+    }
+
+    // The ways of these parts.
+    fn joined(frame: Frame, above: Vec<Numbers>, below: Vec<Sequence<u32>>) -> Ways
+        requires { IsSized (net_of frame above.items below.items) }
+        ensures { result ≡ net_of frame above.items below.items }
+    {
+        Ways {
             named: frame.named,
             steps: frame.steps,
             classes: frame.classes,
             behind: frame.behind,
             above,
             below,
-        })
+        }
     }
 
     /// The variables. It takes no memory.

@@ -1,4 +1,4 @@
-use Rattle.std.proofs.Common.{rules, ◌≡◌, [], ◌++◌, sym, ap, subst, ◌∙◌}
+use Rattle.std.proofs.Common.{◌≡◌, [], ◌++◌, sym, subst, ◌∙◌}
 use Rattle.rt_lines.specs.Orders.{Below}
 use Rattle.rt_reduction.specs.Emits.{flow_lines, AreJoined}
 use Rattle.rt_emit.specs.Inside.Joins.{HasNoOuter}
@@ -11,20 +11,17 @@ none_below = record { count = 0; cells = [] }
 
 pub joined-requires : goal.joined-requires
 joined-requires c =
-    let flow : c.into_vec-all.result.items ≡ flow_lines c.args.lines.now = search rules in
-    let all : c.deref.result.now ≡ flow_lines c.args.lines.now ++ c.in_ok-shape.shape.items =
-    c.deref.ensures.value ∙ c.in_ok-append.ensures.items ∙ ap (λ ls. ls ++ c.in_ok-shape.shape.items) flow in
-    subst HasNoOuter (sym all) (no_outer none_below c.args.lines.now c.in_ok-shape.shape.items c.requires.scheme (c.in_ok-shape.ensures
-    none_below))
+    let is = c.in_ok-all.ensures in
+    let all : c.deref.result.now ≡ flow_lines c.args.lines.now ++ is.shape = c.deref.ensures.value ∙ is.is in
+    subst HasNoOuter (sym all) (no_outer none_below c.args.lines.now is.shape c.requires.scheme (is.are_shape none_below))
 
 pub returns : goal.returns
 returns c = λ order.
-    let flow : c.into_vec-all.result.items ≡ flow_lines c.args.lines.now = search rules in
-    let all : c.deref.result.now ≡ flow_lines c.args.lines.now ++ c.in_ok-shape.shape.items =
-    c.deref.ensures.value ∙ c.in_ok-append.ensures.items ∙ ap (λ ls. ls ++ c.in_ok-shape.shape.items) flow in
+    let is = c.in_ok-all.ensures in
+    let all : c.deref.result.now ≡ flow_lines c.args.lines.now ++ is.shape = c.deref.ensures.value ∙ is.is in
     record {
-      shape = c.in_ok-shape.shape.items;
-      are_shape = c.in_ok-shape.ensures order;
-      joined = subst (AreJoined (flow_lines c.args.lines.now ++ c.in_ok-shape.shape.items)) (sym c.from_vec.ensures)
+      shape = is.shape;
+      are_shape = is.are_shape order;
+      joined = subst (AreJoined (flow_lines c.args.lines.now ++ is.shape)) (sym c.from_vec.ensures)
           (subst (λ ls. AreJoined ls c.in_ok-joined.joined.items) all c.in_ok-joined.ensures);
     }

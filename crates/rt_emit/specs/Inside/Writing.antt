@@ -7,8 +7,10 @@ use Rattle.rt_lines.specs.declared.variable.Dtv.{Dtv}
 use Rattle.rt_lines.specs.declared.line.Line.{Line}
 use Rattle.rt_lines.specs.declared.line.Line.TheVariants.{Var, Same}
 use Rattle.rt_lines.specs.Equality.{variable_eq}
+use Rattle.rt_lines.specs.Orders.{Below}
 use Rattle.rt_rules.specs.Rules.{longer}
 use Rattle.rt_shape.specs.Graphs.{Graph, node_of}
+use Rattle.rt_reduction.specs.Emits.{flow_lines, AreShapeLines}
 use Rattle.rt_emit.specs.Inside.Letters.{letters_at}
 
 -- how many letters are given for all nodes
@@ -35,3 +37,9 @@ pub data IsTurn (graph : Graph) (x : Dtv) (letters letters' : BTreeMap ℕ (List
       ((y : Dtv) → Contains queue' y ↔ (Contains queue y ⊎ IsNext x (letters_at letters n) y)) →
       shape' ≡ shape ++ Var x ∷ [] →
       IsTurn graph x letters letters' words words' queue queue' shape shape'
+
+-- the `<=` lines and bounds, and then the lines of the shape
+pub record IsFlowAndShape (lines all : List Line) : Type 0 where
+  pub shape : List Line
+  pub is : all ≡ flow_lines lines ++ shape
+  pub are_shape : (order : Below) → AreShapeLines order lines shape

@@ -1,15 +1,17 @@
 -- The first of the equals of an existential.
-use Rattle.std.specs.Prelude.{◌≡◌, ◌≢◌, ℕ, ◌⊎◌, List, Contains, Option, Some, MatchOption, true, false}
+use Rattle.std.specs.Prelude.{◌≡◌, ◌≢◌, ℕ, ◌⊎◌, List, All, Contains, Option, Some, MatchOption, true, false}
 use Rattle.rt_lines.specs.declared.variable.Base.TheVariants.{Exist}
 use Rattle.rt_lines.specs.declared.variable.Dtv.{Dtv}
 use Rattle.rt_lines.specs.declared.line.Line.{Line}
 use Rattle.rt_lines.specs.declared.line.Line.TheVariants.{Sub}
+use Rattle.rt_lines.specs.Lines.{HasConstantsBelow}
 use Rattle.rt_lines.specs.Orders.{Below}
 use Rattle.rt_rules.specs.Rules.{HasSide, Derivable}
 use Rattle.rt_rules.specs.Laws.{NamesBase}
 use Rattle.rt_rules.specs.Put.{exist}
 use Rattle.rt_reduction.specs.Before.{comes_before}
-use Rattle.rt_reduction.specs.Merges.{IsEqualTo}
+use Rattle.rt_reduction.specs.Emits.{AreOfScheme}
+use Rattle.rt_reduction.specs.Merges.{IsEqualTo, Merges}
 
 -- the variable is a side of a line
 abbrev pub IsSide : List Line → Dtv → Type 0
@@ -46,3 +48,10 @@ IsEarlier known z earlier =
     MatchOption known
     (earlier ≡ Some z)
     (λ k. ((comes_before z k ≡ true) × (earlier ≡ Some z)) ⊎ ((comes_before z k ≡ false) × (earlier ≡ Some k)))
+
+-- what is left when existentials gave their places to the first of their equals
+pub record AreMerged (lines left : List Line) : Type 0 where
+  pub merges : (order : Below) → Merges order left lines
+  pub scheme : AreOfScheme lines → AreOfScheme left
+  pub constants : (count : ℕ) → All (HasConstantsBelow count) lines → All (HasConstantsBelow count) left
+  pub named : (n : ℕ) → NamesBase left (Exist n) → NamesBase lines (Exist n)

@@ -61,10 +61,3 @@ IsListed lists number = IsSome (slice_index_or lists number None)
 -- there are lines of each member of a group
 abbrev pub AreListed : List (Option (List Line)) → List ℕ → Type 0
 AreListed lists group = (i : ℕ) → i < length group → IsListed lists (get_or group i 0)
-
--- the lines are those of a group's member of this number, by the places of both
-pub record IsBodyOf (group : List ℕ) (bodies : List (List Line)) (number : ℕ) (lines : List Line) : Type 0 where
-  pub place : ℕ
-  pub within : place < length group
-  pub is_member : get_or group place 0 ≡ number
-  pub lines_are : lines ≡ get_or bodies place []

@@ -11,9 +11,13 @@ use Rattle.rt_loose.specs.Kinds.{IsPointer}
 use Rattle.rt_loose.specs.Laws.{flat_lines}
 use Rattle.rt_shape.specs.Graphs.{Graph, node_of, IsReadWrite}
 use Rattle.rt_shape.specs.Shapes.{IsShapeOf}
+use Rattle.rt_ways.specs.declared.frame.Naming.{Naming}
+use Rattle.rt_ways.specs.declared.frame.Shaping.{Shaping}
+use Rattle.rt_ways.specs.declared.frame.Classing.{Classing}
 use Rattle.rt_ways.specs.declared.frame.Frame.{Frame}
 use Rattle.rt_ways.specs.Arcs.{AreWithin, IsInRow}
-use Rattle.rt_ways.specs.Pushes.{AreDistinct, AreSteps, IsMade, step_of, variable_at}
+use Rattle.rt_ways.specs.Nets.{Net}
+use Rattle.rt_ways.specs.Pushes.{AreClosure, AreDistinct, AreSteps, IsMade, step_of, variable_at}
 
 -- a subtype line as it is; of any other line that its variables exist
 abbrev pub flattened_line : Line → List Line
@@ -54,6 +58,31 @@ pub record IsFrameOf (lines : List Line) (frame : Frame) : Type 0 where
   pub nodes : AreNodes frame.shape frame.named (length frame.named) frame.nodes.items
   pub classes : AreClasses lines frame.named frame.classes.items
   pub behind : AreBehind frame.named frame.classes.items (length frame.named) frame.behind.entries
+
+-- the parts of that
+pub record IsNaming (lines : List Line) (naming : Naming) : Type 0 where
+  pub named : naming.named ≡ all_named lines []
+  pub few : length naming.named < 4294967296
+  pub distinct : AreDistinct naming.named
+  pub steps : AreSteps naming.named naming.steps.entries
+
+pub record IsShaping (lines : List Line) (named : List Dtv) (shaping : Shaping) : Type 0 where
+  pub shape : IsShapeOf lines shaping.shape
+  pub nodes : AreNodes shaping.shape named (length named) shaping.nodes.items
+
+pub record IsClassing (lines : List Line) (named : List Dtv) (classing : Classing) : Type 0 where
+  pub classes : AreClasses lines named classing.classes.items
+  pub behind : AreBehind named classing.classes.items (length named) classing.behind.entries
+
+abbrev pub frame_of : Naming → Shaping → Classing → Frame
+frame_of naming shaping classing = record {
+  named = naming.named;
+  steps = naming.steps;
+  shape = shaping.shape;
+  nodes = shaping.nodes;
+  classes = classing.classes;
+  behind = classing.behind;
+}
 
 -- the number is behind a load or a store of one of the class that can be read and written through
 pub record IsPointee (frame : Frame) (class n : ℕ) : Type 0 where
@@ -115,3 +144,20 @@ pub record AreFirst (lines : List Line) (frame : Frame) (arcs : List (List ℕ))
   pub lines_in : (v w : ℕ) → IsOfLine frame.named lines v w → IsInRow arcs v w
   pub exchanged : (v w : ℕ) → AreExchanged frame v w → Reaches (IsInRow arcs) v w
   pub only : (v w : ℕ) → IsInRow arcs v w → IsOfLine frame.named lines v w ⊎ AreExchanged frame v w
+
+-- the rows of the closed arcs, by some first arcs
+pub record AreAbove (lines : List Line) (frame : Frame) (above : List (List ℕ)) : Type 0 where
+  pub arcs : List (List ℕ)
+  pub first : AreFirst lines frame arcs
+  pub closed : AreClosure frame.named (IsInRow arcs) above
+
+-- a frame with such rows
+abbrev pub net_of : Frame → List (List ℕ) → List (List ℕ) → Net
+net_of frame above below = record {
+  named = frame.named;
+  steps = frame.steps.entries;
+  classes = frame.classes.items;
+  behind = frame.behind.entries;
+  above = above;
+  below = below;
+}

@@ -1,28 +1,22 @@
-use Rattle.std.proofs.Common.{ℕ, ◌<◌, List, [], Contains, length, sym, subst}
+use Rattle.std.proofs.Common.{ℕ, List, [], subst}
+use Rattle.std.proofs.lemmas.Result.{IfOk-weaker}
+use Rattle.rt_lines.specs.declared.line.Line.{Line}
 use Rattle.rt_lines.specs.declared.variable.Dtv.{Dtv}
-use Rattle.rt_sat.specs.declared.state.Edge.{Edge}
+use Rattle.rt_named.specs.Naming.{named}
+use Rattle.rt_sat.specs.Tables.{IsTableOf}
 use Rattle.rt_sat.proofs.Below.{table_within}
-use Rattle.rt_outline.specs.Together.{AreTogetherBy, HasPair}
 use Rattle.rt_equals.specs.Comparing.{AreEquals}
-use Rattle.rt_equals.specs.Plain.{ArePlainPairs}
-use Rattle.rt_equals.proofs.Equal.{equals_whole}
 use Rattle.rt_equals.proofs.counted.counted.Goals as goal
 
-pub together-requires-clause-within : goal.together-requires-clause-within
-together-requires-clause-within c = λ v w m.
-    let p = c.in_ok-pairs.ensures.only v w (subst (λ (xs : List (ℕ × ℕ)). Contains xs (v, w)) c.deref-2.ensures.value m) in
-    let h = table_within c.args.lines.now [] c.in_ok-table.table.named c.in_ok-table.table.edges.items c.in_ok-table.ensures.table p.edge
-    (subst (λ (xs : List Edge). Contains xs p.edge) c.deref.ensures.value p.listed) in (
-      subst (λ n. v < n) (sym c.len.ensures.count) (subst (λ n. n < length c.in_ok-table.table.named) p.start h.0),
-      subst (λ n. w < n) (sym c.len.ensures.count) (subst (λ n. n < length c.in_ok-table.table.named) p.end h.1),
-    )
+pub numbers_of-requires : goal.numbers_of-requires
+numbers_of-requires c =
+    let t = c.in_ok-table.table in
+    table_within c.args.lines.now [] t.named t.edges.items c.in_ok-table.ensures.table
 
 pub returns : goal.returns
 returns c =
-    subst (λ (xs : List Dtv). AreEquals c.args.lines.now xs c.in_ok-classes.classes.numbers.items) c.in_ok-table.ensures.table.is_named
-    (equals_whole c.args.lines.now c.in_ok-table.table.named c.in_ok-table.table.edges.items c.in_ok-pairs.pairs.items c.len.result
-    c.in_ok-classes.classes.numbers.items c.in_ok-table.ensures.table
-    (subst (λ (xs : List Edge). ArePlainPairs xs c.in_ok-pairs.pairs.items) c.deref.ensures.value c.in_ok-pairs.ensures)
-    c.len.ensures.count
-    (subst (λ (xs : List (ℕ × ℕ)). AreTogetherBy (HasPair xs) c.len.result c.in_ok-classes.classes.numbers.items) c.deref-2.ensures.value
-    c.in_ok-classes.ensures.classes))
+    let t = c.in_ok-table.table in
+    let lines = c.args.lines.now in
+    IfOk-weaker c.numbers_of.result (λ numbers. (ls : List Line) → IsTableOf ls [] t.named t.edges.items → AreEquals ls t.named numbers.items) (λ numbers. AreEquals lines (named lines []) numbers.items)
+    (λ numbers are. subst (λ (xs : List Dtv). AreEquals lines xs numbers.items) c.in_ok-table.ensures.table.is_named (are lines c.in_ok-table.ensures.table))
+    c.numbers_of.ensures

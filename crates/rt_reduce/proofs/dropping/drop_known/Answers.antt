@@ -21,8 +21,8 @@ drop_flow-requires-clause-constants c =
 pub drop_flow-requires-clause-table : goal.drop_flow-requires-clause-table
 drop_flow-requires-clause-table c =
     let shaped : List Line = c.in_ok-shaped.shaped.items in
-    subst (λ (ls : List Line). IfSome c.args.table (IsTableAbout ls)) (sym c.deref-2.ensures.value)
-    (some_more c.args.table (IsTableAbout c.args.lines.now) (IsTableAbout shaped)
+    subst (λ (ls : List Line). IfSome c.args.table.now (IsTableAbout ls)) (sym c.deref-2.ensures.value)
+    (some_more c.args.table.now (IsTableAbout c.args.lines.now) (IsTableAbout shaped)
     (λ g is. about_left c.args.order.now c.args.lines.now shaped c.shape_place-first.result g c.in_ok-shaped.ensures.left
     c.in_ok-shaped.ensures.stood is) c.requires.table)
 

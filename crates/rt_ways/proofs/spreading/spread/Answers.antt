@@ -1,22 +1,22 @@
-use Rattle.std.proofs.Common.{◌∙◌, sym, subst}
-use Rattle.std.proofs.lemmas.Option.{get_or_from_slice_get, slice_get_within}
+use Rattle.std.proofs.Common.{◌<◌, ◌≤◌, ℕ, List, get_or, length, subst, arith}
 use Rattle.rt_named.specs.Numbers.{IsLeft}
 use Rattle.rt_ways.specs.Arcs.{IsInRow}
 use Rattle.rt_ways.proofs.Following.{spreading_first, spreading_next, spreading_whole}
 use Rattle.rt_ways.proofs.spreading.spread.Goals as goal
-use Rattle.rt_base.proofs.Lists.{past_end}
 
-pub loop-i-init : goal.loop-i-init
-loop-i-init c = spreading_first (IsInRow c.args.arcs.now) c.args.found.now
+pub loop-place-init : goal.loop-place-init
+loop-place-init c = spreading_first (IsInRow c.args.arcs.now) c.args.found.now
 
-pub returns-in_default : goal.returns-in_default
-returns-in_default c =
-    spreading_whole (IsInRow c.args.arcs.now) c.args.found.now c.loop-i.found c.loop-i.i (past_end c.loop-i.found c.loop-i.i (sym c.get.ensures ∙ c.in_default.is)) c.loop-i.invariant
+pub loop-place-preserved : goal.loop-place-preserved
+loop-place-preserved c =
+    let within : c.loop-place.place < length c.loop-place.found =
+    subst (λ (xs : List ℕ). c.loop-place.place < length xs) c.items.ensures (omega arith) in
+    spreading_next (IsInRow c.args.arcs.now) c.args.found.now c.loop-place.found c.leave.new.found c.loop-place.place within
+    (subst (λ (xs : List ℕ). IsLeft (IsInRow c.args.arcs.now (get_or xs c.loop-place.place 0)) c.loop-place.found c.leave.new.found)
+    c.items-in-loop-place.ensures c.in_ok-leave.ensures)
+    c.loop-place.invariant
 
-pub loop-i-preserved : goal.loop-i-preserved
-loop-i-preserved c =
-    spreading_next (IsInRow c.args.arcs.now) c.args.found.now c.loop-i.found c.leave.new.found c.loop-i.i
-    (slice_get_within c.loop-i.found c.loop-i.i c.in-Some.next (sym c.get.ensures ∙ c.in-Some.is))
-    (subst (λ n. IsLeft (IsInRow c.args.arcs.now n) c.loop-i.found c.leave.new.found)
-    (sym (get_or_from_slice_get c.loop-i.found c.loop-i.i c.in-Some.next 0 (sym c.get.ensures ∙ c.in-Some.is))) c.in_ok-leave.ensures)
-    c.loop-i.invariant
+pub returns : goal.returns
+returns c =
+    spreading_whole (IsInRow c.args.arcs.now) c.args.found.now c.loop-place.found c.loop-place.place
+    (subst (λ (xs : List ℕ). length xs ≤ c.loop-place.place) c.items.ensures (omega arith)) c.loop-place.invariant

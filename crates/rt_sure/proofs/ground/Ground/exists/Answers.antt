@@ -8,12 +8,12 @@ use Rattle.rt_sure.proofs.ground.Ground.exists.Goals as goal
 
 pub returns : goal.returns
 returns c = λ yes order left has.
-    let lines = c.self.inside.lines.items in
-    let stays = c.self.inside.stays.items in
-    let made : HasShape lines stays c.self.inside.shape = c.self.invariant.1 in
+    let lines = c.self.inside.known.lines.items in
+    let stays = c.self.inside.known.stays.items in
+    let made : HasShape lines stays c.self.inside.known.shape = c.self.invariant.1 in
     let flagged : HasFlagged lines stays left =
     subst (λ (v : Grounded). HasFlagged v.lines v.stays left) (sym c.self.view_is) has in
-    let some : IsSome (node_of c.self.inside.shape c.args.x.now) =
+    let some : IsSome (node_of c.self.inside.known.shape c.args.x.now) =
     ap is_some (sym c.node.ensures) ∙ sym c.is_some.ensures ∙ yes in
     derives_more order made.sure left (λ l d. (let s = made.flagged l d in given order left l (flagged s.0 l s.1 s.2)))
     ((made.shape.there order c.args.x.now).0 some)

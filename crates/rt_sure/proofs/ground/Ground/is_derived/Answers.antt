@@ -11,12 +11,12 @@ use Rattle.rt_sure.proofs.ground.Ground.is_derived.Goals as goal
 
 pub returns : goal.returns
 returns c = λ e order l at left has before stand all.
-    let lines : List Line = c.self.inside.lines.items in
-    let stays : List Bool = c.self.inside.stays.items in
-    let joined : List Bool = c.self.inside.joined.items in
+    let lines : List Line = c.self.inside.known.lines.items in
+    let stays : List Bool = c.self.inside.known.stays.items in
+    let joined : List Bool = c.self.inside.known.joined.items in
     let place = c.args.place in
     let view : record { lines = lines; stays = stays } ≡ c.args.self.now = c.self.view_is in
-    let is : IsGround lines stays joined c.self.inside.base c.self.inside.growing = c.self.invariant.0 in
+    let is : IsGround lines stays joined c.self.inside.table.base c.self.inside.table.growing = c.self.invariant.0 in
     let line : Line = c.in-Some-Sub.field-0.now in
     let more : List Line = c.in_ok-more.more.items in
     let small : place < length lines =
@@ -34,7 +34,7 @@ returns c = λ e order l at left has before stand all.
     c.in_ok-yes.ensures e order is.told is.tells in
     let sure : AreSure lines c.args.stands.now more =
     subst (λ (ls : List Line). AreSure ls c.args.stands.now more) c.deref-3.ensures.value c.in_ok-more.ensures in
-    ground_derives order lines stays joined c.args.stands.now c.self.inside.base c.self.inside.growing is more place l left sure
+    ground_derives order lines stays joined c.args.stands.now c.self.inside.table.base c.self.inside.table.growing is more place l left sure
     there (c.in-Some-Sub.x, c.in-Some-Sub.y, sym same ∙ shape) flag
     (subst (λ (ls : List Line). Derivable order (is.told ++ ls) l) c.deref-5.ensures.value
     (subst (Derivable order (is.told ++ c.deref-5.result.now)) (sym shape ∙ same) derived))

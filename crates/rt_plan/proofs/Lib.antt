@@ -1,0 +1,11 @@
+pub mod Trees
+pub mod Counts
+pub mod Keeping
+pub mod Ending
+pub mod Missing
+pub mod Calling
+pub mod Waiting
+pub mod Changing
+pub mod Events
+pub mod Driving
+pub mod Turning

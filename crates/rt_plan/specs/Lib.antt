@@ -1,0 +1,5 @@
+pub mod Plans
+pub mod Driver
+pub mod Laws
+pub mod Inside
+pub mod Turns
